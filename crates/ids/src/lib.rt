@@ -1,0 +1,10 @@
+// The three kinds of number of document 01, "three kinds and must not be mixable by accident".
+
+// A peer, 0 to 7 on a bus: the place of its rows in a peer's table.
+pub struct Peer(pub usize);
+
+// A user, 0 to 3: whom a charge is counted under.
+pub struct User(pub usize);
+
+// A handle's ID, as one peer knows a node.
+pub struct HandleId(pub u64);

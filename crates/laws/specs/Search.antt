@@ -1,0 +1,52 @@
+-- The first place that passes a test.
+-- Assumes nothing.
+use Prim.Native.Nat.{ℕ, zero, suc, _≤_, _<_}
+use mathlib.Core.Path.{_≡_, refl, sym, ap, _∙_}
+use mathlib.Core.Bool.{Bool, true, false}
+use native.Mathlib.Omega.{arith}
+use native.Mathlib.Nat.{not-suc-le-zero, le-of-suc-le-suc}
+use lib.Dec.{ltb}
+use borrow.Author.Tests.{ltb-true, ltb-false}
+use Rattle.laws.specs.Tests.{pick, Seen, Seen.is-true, Seen.is-false, look, clash}
+
+-- the first place below n that passes, or n where none does
+unfoldable pub first : (ℕ → Bool) → ℕ → ℕ
+first p zero = zero
+first p (suc n) = pick (p zero) zero (suc (first (λ j. p (suc j)) n))
+
+pub first-le : (p : ℕ → Bool) (n : ℕ) → first p n ≤ n
+unfolding first
+first-le p zero = omega arith
+first-le p (suc n) = go (look (p zero)) (first-le (λ j. p (suc j)) n)
+  where
+    go : Seen (p zero) → first (λ j. p (suc j)) n ≤ n → first p (suc n) ≤ suc n
+    go (is-true e) ih = rw e (omega arith)
+    go (is-false e) ih = rw e (omega arith)
+
+pub first-found : (p : ℕ → Bool) (n : ℕ) → first p n < n → p (first p n) ≡ true
+unfolding first
+first-found p zero = λ h. absurd (not-suc-le-zero h)
+first-found p (suc n) = go (look (p zero)) (first-found (λ j. p (suc j)) n)
+  where
+    go : Seen (p zero) → (first (λ j. p (suc j)) n < n → p (suc (first (λ j. p (suc j)) n)) ≡ true) → first p (suc n) < suc n → p (first p (suc n)) ≡ true
+    go (is-true e) ih h = rw (e, e)
+    go (is-false e) ih h = rw e (ih (le-of-suc-le-suc (rw e at h)))
+
+pub first-before : (p : ℕ → Bool) (n j : ℕ) → j < first p n → p j ≡ false
+unfolding first
+first-before p zero = λ j h. absurd (not-suc-le-zero h)
+first-before p (suc n) = go (look (p zero)) (first-before (λ j. p (suc j)) n)
+  where
+    go : Seen (p zero) → ((j : ℕ) → j < first (λ j. p (suc j)) n → p (suc j) ≡ false) → (j : ℕ) → j < first p (suc n) → p j ≡ false
+    go (is-true e) ih j h = absurd (not-suc-le-zero (rw e at h))
+    go (is-false e) ih zero h = e
+    go (is-false e) ih (suc j) h = ih j (le-of-suc-le-suc (rw e at h))
+
+-- a place is the first if nothing before it passes and it passes, or is n
+pub first-is : (p : ℕ → Bool) (n r : ℕ) → r ≤ n → ((j : ℕ) → j < r → p j ≡ false) → (r < n → p r ≡ true) → r ≡ first p n
+first-is p n r h before at = go (look (ltb r (first p n))) (look (ltb (first p n) r))
+  where
+    go : Seen (ltb r (first p n)) → Seen (ltb (first p n) r) → r ≡ first p n
+    go (is-true e) q = let l = ltb-true _ _ e in clash (sym (at (omega (arith, first-le p n))) ∙ first-before p n r l)
+    go (is-false e) (is-true f) = let l = ltb-true _ _ f in clash (sym (first-found p n (omega arith)) ∙ before (first p n) l)
+    go (is-false e) (is-false f) = omega (arith, ltb-false r (first p n) e, ltb-false (first p n) r f)

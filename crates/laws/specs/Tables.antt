@@ -1,0 +1,48 @@
+-- Tables as functions of a place, a change of one place, and stores in lists seen as such changes.
+-- Assumes nothing.
+use Prim.Native.Nat.{ℕ, _<_}
+use mathlib.Core.Path.{_≡_, refl, sym, fun-ext}
+use mathlib.Core.Bool.{true, false}
+use mathlib.Core.List.{List}
+use lib.ListN.{length, getD, set}
+use lib.Seq.{getD-set-same, getD-set-other}
+use lib.Dec.{eqb}
+use borrow.Author.Tests.{eqb-true, eq-eqb, ne-eqb}
+use Rattle.laws.specs.Tests.{pick, Seen, Seen.is-true, Seen.is-false, look, Same, Same.same, Same.other, same?}
+
+-- f with v at the place i
+unfoldable pub upd : {A : Type 0} → (ℕ → A) → ℕ → A → ℕ → A
+upd f i v j = pick (eqb i j) v (f j)
+
+pub upd-same : {A : Type 0} (f : ℕ → A) (i : ℕ) (v : A) → upd f i v i ≡ v
+unfolding upd
+upd-same f i v = rw (eq-eqb i i refl)
+
+pub upd-other : {A : Type 0} (f : ℕ → A) (i j : ℕ) (v : A) → (i ≡ j → ⊥) → upd f i v j ≡ f j
+unfolding upd
+upd-other f i j v h = rw (ne-eqb i j h)
+
+-- a relation of two tables, place by place, is kept by a change of both at one place
+pub upd-rel : {A B : Type 0} (R : ℕ → A → B → Type 0) (f : ℕ → A) (g : ℕ → B) (i : ℕ) (v : A) (w : B) → ((j : ℕ) → R j (f j) (g j)) → R i v w →
+    (j : ℕ) → R j (upd f i v j) (upd g i w j)
+unfolding upd
+upd-rel R f g i v w h r j = go (look (eqb i j))
+  where
+    go : Seen (eqb i j) → R j (upd f i v j) (upd g i w j)
+    go (is-true e) = rw (e, ← eqb-true i j e) r
+    go (is-false e) = rw e (h j)
+
+-- a fact of every place of one table, likewise
+pub upd-all : {A : Type 0} (P : ℕ → A → Type 0) (f : ℕ → A) (i : ℕ) (v : A) → ((j : ℕ) → P j (f j)) → P i v → (j : ℕ) → P j (upd f i v j)
+upd-all P f i v h r = upd-rel (λ j a b. P j a) f f i v v h r
+
+-- a list read as a table, and a store as a change of it
+abbrev pub tab : {A : Type 0} → A → List A → ℕ → A
+tab d l i = getD l i d
+
+pub tab-set : {A : Type 0} (d : A) (l : List A) (i : ℕ) (v : A) → i < length l → tab d (set l i v) ≡ upd (tab d l) i v
+tab-set d l i v h = fun-ext (λ j. go j (same? i j))
+  where
+    go : (j : ℕ) → Same i j → getD (set l i v) j d ≡ upd (tab d l) i v j
+    go j (same e) = rw (← e, upd-same, getD-set-same)
+    go j (other e) = rw (upd-other (tab d l) i j v e, getD-set-other l i j v d (λ f. e (sym f)))

@@ -1,0 +1,1 @@
+// General laws over lists, tables and numbers; the crate has no code.
