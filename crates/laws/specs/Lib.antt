@@ -5,3 +5,4 @@ pub mod Weights
 pub mod Build
 pub mod Search
 pub mod Bytes
+pub mod Stores
