@@ -161,7 +161,7 @@ fn put_received(out: &mut [u8], r: Received, ids: &[u64], payload: &[u8]) -> usi
 }
 
 fn put_balance(out: &mut [u8], b: Balance) -> usize
-    requires { ⌜ 13 ≤ length (now out) ⌝ }
+    requires { ⌜ 591 ≤ length (now out) ⌝ }
     ensures { λ r. ⌜ (r ≡ 13) × (now (out .exit) ≡ sets (now (out .entry)) 1 (balanceBytes b)) ⌝ }
 {
     let queued = b.queued;
@@ -171,7 +171,7 @@ fn put_balance(out: &mut [u8], b: Balance) -> usize
 }
 
 fn put_holders(out: &mut [u8], h: u8) -> usize
-    requires { ⌜ 3 ≤ length (now out) ⌝ }
+    requires { ⌜ 591 ≤ length (now out) ⌝ }
     ensures { λ r. ⌜ (r ≡ 3) × (now (out .exit) ≡ sets (now (out .entry)) 1 (holderBytes h)) ⌝ }
 {
     out[1] = h;

@@ -115,10 +115,7 @@ fn parse_sizes(n: usize, p: u8, nd: u8, nh: u8, nb: usize) -> Parsed
         return Parsed::Refused(EMSGSIZE);
     }
     if n == length {
-        return Parsed::Read(Command::Send(
-            Peer(p as usize),
-            Sizes { nd: d, nh: h, nb },
-        ));
+        return Parsed::Read(Command::Send(Peer(p as usize), Sizes { nd: d, nh: h, nb }));
     }
     Parsed::Refused(EINVAL)
 }

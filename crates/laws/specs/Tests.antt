@@ -52,3 +52,8 @@ pick-else true x y h e = absurd (h e)
 pub pick-all : {A : Type 0} (P : A → Type 0) (s : Bool) (x y : A) → P x → P y → P (pick s x y)
 pick-all P true x y h k = h
 pick-all P false x y h k = k
+
+-- the same, where each side may use what the test said
+pub pick-cases : {A : Type 0} (P : A → Type 0) (s : Bool) (x y : A) → (s ≡ true → P x) → (s ≡ false → P y) → P (pick s x y)
+pick-cases P true x y h k = h refl
+pick-cases P false x y h k = k refl

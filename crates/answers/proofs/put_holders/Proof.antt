@@ -1,5 +1,6 @@
 -- `answers::put_holders` meets its contract: two stores, and a byte has at most eight ones. Assumes nothing.
 use native.Mathlib.Omega.{arith}
+use lib.ListN.{length-set}
 use Prim.Native.Nat.{_≤_}
 use mathlib.Core.Path.{refl}
 use lib.Count.{ones, ones-le}
@@ -15,7 +16,7 @@ cast-out : tie.Need-cast-out
 cast-out c = record { fits = let h : ones (c .args .h) ≤ 8 = ones-le 8 (c .args .h) (omega arith) in omega arith }
 
 slice-write-out-2 : tie.Need-slice-write-out-2
-slice-write-out-2 c = search needs
+slice-write-out-2 c = simp length-set (omega arith)
 
 same-length : tie.Need-same-length
 same-length c = search needs
