@@ -53,6 +53,6 @@ module _ {A : Type 0} where
   build-part d l at n h =
       let e : length (take n (drop at l)) ≡ n = simp (length-take, length-drop) (omega arith) in
       build-ext (λ j. getD l (at + j) d) (λ j. getD (take n (drop at l)) j d) n
-          (λ j m. sym (getD-take n (drop at l) j d m ∙ getD-drop at l j d))
+      (λ j m. sym (getD-take n (drop at l) j d m ∙ getD-drop at l j d))
       ∙ ap (build (λ j. getD (take n (drop at l)) j d)) (sym e)
       ∙ build-list d (take n (drop at l))

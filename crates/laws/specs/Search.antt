@@ -57,8 +57,10 @@ first-from p n d h before = first-is p n (d + r) (omega (arith, first-le q (n - 
   where
     q : ℕ → Bool
     q j = p (d + j)
+
     r : ℕ
     r = first q (n - d)
+
     low : (j : ℕ) → j < d + r → p j ≡ false
     low j l = go (look (ltb j d))
       where
@@ -68,11 +70,6 @@ first-from p n d h before = first-is p n (d + r) (omega (arith, first-le q (n - 
             let m : d ≤ j = ltb-false j d e in
             let k : d + (j - d) ≡ j = omega arith in
             ap p (sym k) ∙ first-before q (n - d) (j - d) (omega arith)
+
     at : d + r < n → p (d + r) ≡ true
     at l = first-found q (n - d) (omega arith)
-
--- tests that agree up to n
-pub first-ext : (p q : ℕ → Bool) (n : ℕ) → ((j : ℕ) → j < n → p j ≡ q j) → first p n ≡ first q n
-unfolding first
-first-ext p q zero h = refl
-first-ext p q (suc n) h = rw (h zero (omega arith), first-ext (λ j. p (suc j)) (λ j. q (suc j)) n (λ j l. h (suc j) (omega arith)))

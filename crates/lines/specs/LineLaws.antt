@@ -1,23 +1,21 @@
 -- Laws of lines: what the code's loops add up to, and the first line of an input by its fault's place.
 -- Assumes nothing.
-use Prim.Native.Nat.{ℕ, zero, suc, _+_, _*_, _-_, _/_, _%_, _≤_, _<_, min}
-use mathlib.Core.Path.{_≡_, refl, sym, ap, ap₂, _∙_}
+use Prim.Native.Nat.{ℕ, _+_, _*_, _-_, _/_, _%_, _≤_, _<_, min}
+use mathlib.Core.Path.{_≡_, refl, sym, ap, _∙_}
 use mathlib.Core.Bool.{Bool, true, false, not}
-use mathlib.Core.List.{List, [], _∷_, _++_, append-assoc}
+use mathlib.Core.List.{List, [], _∷_, _++_}
 use native.Mathlib.Numerals.{add-one}
 use native.Mathlib.Omega.{arith}
-use lib.ListN.{length, getD, set, take, drop, length-append, length-take, length-drop, drop-of-length-le}
+use lib.ListN.{length, getD, set, take, drop, length-take, length-drop, drop-of-length-le}
 use lib.Seq.{sets, take-suc, take-length, getD-take, getD-drop, ext-getD}
 use lib.Dec.{eqb, ltb, leb}
-use borrow.Author.Tests.{ltb-true, ltb-false, eqb-true, eq-eqb, ne-eqb, lt-ltb, le-ltb, leb-true, leb-false, le-leb, lt-leb, not-false}
+use borrow.Author.Tests.{ltb-true, eqb-true, eq-eqb, ne-eqb, lt-ltb, le-ltb, leb-true, leb-false, le-leb, lt-leb, not-false}
 use Rattle.laws.specs.Tests.{pick, Seen, Seen.is-true, Seen.is-false, look, clash, pick-then}
 use Rattle.laws.specs.Search.{first, first-le, first-found, first-before, first-is, first-from}
 use Rattle.laws.specs.Build.{build, build-length, build-store, build-part}
 use Rattle.laws.specs.Stores.{sets-append, getD-past}
-use Rattle.lines.specs.Line.{lf, mostDigits, mostCarried, isDigit, faultPlace, lineLength, wellFormed, digitValue, pairAt, lineRead, readLine, afterRead, frameAfter, digitOf, digitsOf, answerLine, roomFor, lineWritten, linesAfter, carriedOf}
-use Rattle.lines.specs.declared.LineRead.{LineRead}
+use Rattle.lines.specs.Line.{lf, mostDigits, mostCarried, isDigit, faultPlace, lineLength, digitValue, pairAt, lineRead, readLine, frameAfter, digitOf, digitsOf, answerLine, roomFor, lineWritten, linesAfter, carriedOf}
 use Rattle.lines.specs.declared.LineRead.the-variants.{Frame, Bad, Piece}
-use Rattle.lines.specs.declared.Written.{Written}
 use Rattle.lines.specs.declared.Written.the-variants.{Next, Full}
 
 -- a character that is no digit
@@ -50,8 +48,8 @@ pub end-is : (s : List ℕ) (at i : ℕ) → at ≤ i → i ≤ length s → ((k
 end-is s at i h l before here =
     let e : at + (i - at) ≡ i = omega arith in
     let q : i - at ≡ first (λ j. lfAt s (at + j)) (length s - at) =
-        first-is (λ j. lfAt s (at + j)) (length s - at) (i - at) (omega arith) (λ j m. before (at + j) (omega arith) (omega arith))
-            (λ m. ap (lfAt s) e ∙ here (omega arith)) in
+    first-is (λ j. lfAt s (at + j)) (length s - at) (i - at) (omega arith) (λ j m. before (at + j) (omega arith) (omega arith))
+    (λ m. ap (lfAt s) e ∙ here (omega arith)) in
     sym e ∙ ap (_+_ at) q
 
 -- an LF is no digit
@@ -74,24 +72,27 @@ pub line-from : (s : List ℕ) → faultPlace s + first (λ j. lfAt s (faultPlac
 unfolding lineLength
 line-from s = first-from (lfAt s) (length s) (faultPlace s) (omega (arith, fault-le s)) (λ j h. digit-no-lf s j (fault-before s j h))
 
--- the fault's place is the line's own: what stands behind the line does not matter
-pub fault-line : (s : List ℕ) → faultPlace (take (lineLength s) s) ≡ faultPlace s
-fault-line s = sym (fault-is (take n s) (min mostDigits (length (take n s))) (faultPlace s) refl low same here)
+-- what stands behind the fault's place does not matter
+pub fault-cut : (s : List ℕ) (n : ℕ) → faultPlace s ≤ n → faultPlace (take n s) ≡ faultPlace s
+fault-cut s n le = sym (fault-is (take n s) (min mostDigits (length (take n s))) (faultPlace s) refl low same here)
   where
-    n : ℕ
-    n = lineLength s
-    le : faultPlace s ≤ lineLength s
-    le = omega (arith, line-from s)
     low : faultPlace s ≤ min mostDigits (length (take n s))
-    low = rw length-take (omega (arith, le, fault-le s))
+    low = rw length-take (omega (arith, fault-le s))
+
     char : (j : ℕ) → j < n → badAt (take n s) j ≡ badAt s j
     char j h = ap (λ (c : ℕ). not (isDigit c)) (getD-take n s j 0 h)
+
     same : (j : ℕ) → j < faultPlace s → badAt (take n s) j ≡ false
-    same j h = char j (omega (arith, le)) ∙ fault-before s j h
+    same j h = char j (omega arith) ∙ fault-before s j h
+
     here : faultPlace s < min mostDigits (length (take n s)) → badAt (take n s) (faultPlace s) ≡ true
     here h =
         let k : faultPlace s < min mostDigits (min n (length s)) = rw length-take at h in
         char (faultPlace s) (omega arith) ∙ fault-found s (omega arith)
+
+-- so it is the line's own
+pub fault-line : (s : List ℕ) → faultPlace (take (lineLength s) s) ≡ faultPlace s
+fault-line s = fault-cut s (lineLength s) (omega (arith, line-from s))
 
 -- the line that the code finds, by its fault's place and the search from there
 module _ (s : List ℕ) {d n : ℕ} (ed : d ≡ faultPlace s) (en : n ≡ d + first (λ j. lfAt s (d + j)) (length s - d)) where
@@ -175,7 +176,13 @@ pub decode-next : (s b l : List ℕ) (k v w : ℕ) → k < length b → l ≡ bu
     set l k (16 * v + w) ≡ build (pairAt s) (k + 1) ++ drop (k + 1) b
 decode-next s b l k v w h e ev ew = rw (e, ev, ew, add-one k) (build-store (pairAt s) k b h)
 
--- what the test for a digit says of a character, by the side of it that is tested
+-- the test for a digit, by the side of it that is tested, and what it says of a character
+pub test-low : (c : ℕ) → c < 58 → leb 48 c ≡ isDigit c
+test-low c h = rw (lt-ltb c 58 h)
+
+pub test-high : (c : ℕ) → 58 ≤ c → c < 103 → leb 97 c ≡ isDigit c
+test-high c h k = rw (le-ltb c 58 h, lt-ltb c 103 k)
+
 pub digit-low : (c : ℕ) → isDigit c ≡ true → c < 58 → 48 ≤ c
 digit-low c d h = leb-true 48 c (rw (lt-ltb c 58 h) at d)
 
@@ -229,11 +236,14 @@ carry-some b l at end {e} {n} q h m k = (sym size, rw (size, same) k)
   where
     size : length (take mostCarried (drop at (take end b))) ≡ n
     size = simp (length-take, length-drop) (omega arith)
+
     front : length (take n (drop at b)) ≡ n
     front = simp (length-take, length-drop) (omega arith)
+
     char : (i : ℕ) → i < n → getD (take mostCarried (drop at (take end b))) i 0 ≡ getD (take n (drop at b)) i 0
     char i j =
         getD-take mostCarried (drop at (take end b)) i 0 (omega arith) ∙ getD-drop at (take end b) i 0 ∙ getD-take end b (at + i) 0 (omega arith)
         ∙ sym (getD-take n (drop at b) i 0 j ∙ getD-drop at b i 0)
+
     same : take mostCarried (drop at (take end b)) ≡ take n (drop at b)
     same = ext-getD 0 (take mostCarried (drop at (take end b))) (take n (drop at b)) (size ∙ sym front) (λ i j. char i (rw size at j))

@@ -1,38 +1,19 @@
-use Prim.Native.Nat.{ℕ, _+_, _*_, _-_, _/_, _%_, _≤_, _<_}
-use mathlib.Core.Path.{_≡_, refl, sym, ap, _∙_}
-use mathlib.Core.Bool.{true, false, not}
-use mathlib.Core.List.{_++_}
-use native.Mathlib.Numerals.{add-one}
-use native.Mathlib.Nat.{add-zero}
-use borrow.Author.Count.{below-more}
-use borrow.Author.Tests.{ltb-true, ltb-false, eqb-true, eq-eqb, ne-eqb, lt-ltb, le-ltb, leb-true, leb-false, le-leb, lt-leb, not-true, not-false}
-use lib.ListN.{length, getD, set, take, drop, length-set}
-use lib.Seq.{sets, length-sets, take-length}
-use lib.Dec.{eqb}
-use Rattle.laws.specs.Tests.{pick, tests}
-use Rattle.laws.specs.Build.{build, build-length}
-use Rattle.lines.specs.Line.{lf, isDigit, digitValue, faultPlace, pairAt, digitOf, digitsOf, carriedOf}
-use Rattle.lines.specs.LineLaws as law
-use native.Mathlib.Omega.{arith}
+-- `lines::digit_of` meets its contract: each arm is the branch of `digitOf` that its test leads to.
+-- Assumes nothing.
+use Rattle.laws.specs.Tests.{tests}
 use borrow.Author.Needs.{needs}
 use Rattle.lines.proofs.digit_of.Statement.{statement}
 use Rattle.lines.proofs.digit_of.Tie as tie
-use Rattle.lines.proofs.digit_of.Reads as reads
-use Rattle.lines.proofs.digit_of.Lts as lts
 
--- src/lib.rt:56:17
 add-result : tie.Need-add-result
 add-result c = search needs
 
--- src/lib.rt:56:33
 add-result-2 : tie.Need-add-result-2
 add-result-2 c = search needs
 
--- src/lib.rt:52:1
 returns : tie.Need-returns
 returns c = search tests
 
--- src/lib.rt:52:1
 returns-2 : tie.Need-returns-2
 returns-2 c = search tests
 
