@@ -1,0 +1,13 @@
+pub mod Numbers
+pub mod Lists
+pub mod Resources
+pub mod State
+pub mod Requests
+pub mod Refusals
+pub mod Changes
+pub mod Effects
+pub mod Replies
+pub mod Step
+pub mod Book
+pub mod Claim
+pub mod Table
