@@ -32,19 +32,19 @@ sameNode n m = eqb (n .number) (m .number)
 
 -- "its handles (ID, node, count)": under an ID at a peer nothing, or a node and a count.
 pub data Noted : Type 0 where
-  none : Noted
-  some : Node → ℕ → Noted
+  blank : Noted
+  noted : Node → ℕ → Noted
 
 abbrev pub notedOf : Node → ℕ → Noted
-notedOf n zero = none
-notedOf n (suc c) = some n (suc c)
+notedOf n zero = blank
+notedOf n (suc c) = noted n (suc c)
 
 abbrev pub countOf : Noted → ℕ
-countOf none = 0
-countOf (some n c) = c
+countOf blank = 0
+countOf (noted n c) = c
 
 -- A message: "the sender's user, that node, nb, nh and the attached IDs' nodes".
-pub record Letter : Type 0 where
+pub record BookMessage : Type 0 where
   pub user : ℕ
   pub to : Node
   pub nb : ℕ
@@ -52,10 +52,10 @@ pub record Letter : Type 0 where
   pub carried : List Node
 
 -- "A message counts 1, nb and nh, under its sender's user."
-abbrev pub weight : Resource → Letter → ℕ
+abbrev pub weight : Resource → BookMessage → ℕ
 weight r m = weigh r (m .nb) (m .nh)
 
-abbrev pub by : ℕ → Letter → Bool
+abbrev pub by : ℕ → BookMessage → Bool
 by u m = eqb (m .user) u
 
 -- "For each peer it holds its user, its handles (ID, node, count) and its messages, oldest first; for each peer and user the sums sent, received and dropped,
@@ -63,7 +63,7 @@ by u m = eqb (m .user) u
 pub record Book : Type 0 where
   pub user : ℕ → ℕ
   pub handle : ℕ → ℕ → Noted
-  pub queue : ℕ → List Letter
+  pub queue : ℕ → List BookMessage
   pub sent : ℕ → ℕ → Resource → ℕ
   pub received : ℕ → ℕ → Resource → ℕ
   pub dropped : ℕ → ℕ → Resource → ℕ
@@ -74,7 +74,7 @@ unfoldable pub empty : Book
 empty =
     record {
       user = λ p. users;
-      handle = λ p i. none;
+      handle = λ p i. blank;
       queue = λ p. [];
       sent = λ p u r. 0;
       received = λ p u r. 0;
@@ -95,7 +95,7 @@ putHandle k p i x =
       handle = upd (k .handle) p (upd (k .handle p) i x);
     }
 
-unfoldable pub toReceived : Book → ℕ → List Letter → List Letter → Book
+unfoldable pub toReceived : Book → ℕ → List BookMessage → List BookMessage → Book
 toReceived k p out rest =
     record {
       user = k .user;
@@ -107,7 +107,7 @@ toReceived k p out rest =
       received = upd (k .received) p (λ u r. k .received p u r + load (by u) (weight r) out);
     }
 
-unfoldable pub toDropped : Book → ℕ → List Letter → List Letter → Book
+unfoldable pub toDropped : Book → ℕ → List BookMessage → List BookMessage → Book
 toDropped k p out rest =
     record {
       user = k .user;
@@ -151,13 +151,13 @@ raise k p i n = putHandle k p i (notedOf n (countOf (k .handle p i) + 1))
 
 -- "Transfer: the answered ID at the destination peer names the source ID's node; its count rises by 1."
 abbrev pub noteTransfer : Book → Noted → ℕ → ℕ → Book
-noteTransfer k none q j = k
-noteTransfer k (some n c) q j = raise k q j n
+noteTransfer k blank q j = k
+noteTransfer k (noted n c) q j = raise k q j n
 
 -- The nodes that a peer's IDs name; "an ID the sender does not hold adds nothing".
 abbrev pub nodeIn : Noted → List Node
-nodeIn none = []
-nodeIn (some n c) = n ∷ []
+nodeIn blank = []
+nodeIn (noted n c) = n ∷ []
 
 abbrev pub nodesOf : Book → ℕ → List ℕ → List Node
 nodesOf k p [] = []
@@ -167,13 +167,13 @@ nodesOf k p (i ∷ is) = nodeIn (k .handle p i) ++ nodesOf k p is
 abbrev pub ownedBy : ℕ → Node → Bool
 ownedBy q n = eqb (n .owner) q
 
-unfoldable pub incoming : ℕ → List Node → List Node → Sizes → ℕ → List Letter
+unfoldable pub incoming : ℕ → List Node → List Node → Sizes → ℕ → List BookMessage
 incoming u ds hs z q = map (λ n. record { user = u; to = n; nb = z .nb; nh = z .nh; carried = hs }) (keep (ownedBy q) ds)
 
 -- ".. and counts it as sent."
 unfoldable pub noteSend : Book → ℕ → List ℕ → List ℕ → Sizes → Book
 noteSend k p is hs z =
-    let new : ℕ → List Letter = incoming (k .user p) (nodesOf k p is) (nodesOf k p hs) z in
+    let new : ℕ → List BookMessage = incoming (k .user p) (nodesOf k p is) (nodesOf k p hs) z in
     record {
       user = k .user;
       handle = k .handle;
@@ -191,20 +191,20 @@ learn k p (i ∷ is) [] = k
 learn k p (i ∷ is) (n ∷ ns) = learn (pick (eqb i invalid) k (raise k p i n)) p is ns
 
 -- "Receive answered 01: the peer's first message goes to received."
-abbrev pub noteReceive : Book → ℕ → List ℕ → List Letter → Book
+abbrev pub noteReceive : Book → ℕ → List ℕ → List BookMessage → Book
 noteReceive k p is [] = k
 noteReceive k p is (m ∷ ms) = learn (toReceived k p (m ∷ []) ms) p is (m .carried)
 
 -- "Release: the count falls by 1. At 0 the handle goes; if the peer owns the node, its messages for that node go to dropped."
-abbrev pub drops : ℕ → Node → Letter → Bool
+abbrev pub drops : ℕ → Node → BookMessage → Bool
 drops p n m = both (ownedBy p n) (sameNode (m .to) n)
 
 unfoldable pub dropFor : Book → ℕ → Node → Book
 dropFor k p n = toDropped k p (keep (drops p n) (k .queue p)) (keep (λ m. not (drops p n m)) (k .queue p))
 
 abbrev pub noteRelease : Book → ℕ → ℕ → Noted → Book
-noteRelease k p i none = k
-noteRelease k p i (some n c) = let less = putHandle k p i (notedOf n (c - 1)) in pick (eqb c 1) (dropFor less p n) less
+noteRelease k p i blank = k
+noteRelease k p i (noted n c) = let less = putHandle k p i (notedOf n (c - 1)) in pick (eqb c 1) (dropFor less p n) less
 
 -- "Disconnect: all its messages go to dropped, all its handles go."
 unfoldable pub dropHandles : Book → ℕ → Book
@@ -216,7 +216,7 @@ dropHandles k p =
       received = k .received;
       dropped = k .dropped;
       entered = k .entered;
-      handle = upd (k .handle) p (λ i. none);
+      handle = upd (k .handle) p (λ i. blank);
     }
 
 abbrev pub noteDisconnect : Book → ℕ → Book

@@ -38,7 +38,7 @@ fed c r = record { frame = c .frame; number = r .outcome .number; answer = answe
 -- What it is fed of a run.
 unfoldable pub historyFrom : State → List Call → List Fed
 historyFrom b [] = []
-historyFrom b (c ∷ cs) = fed c (step b c) ∷ historyFrom (step b c .state) cs
+historyFrom b (c ∷ cs) = let r = step b c in fed c r ∷ historyFrom (r .state) cs
 
 abbrev pub bookAfter : List Call → Book
 bookAfter cs = feedAll empty (historyFrom start cs)

@@ -5,13 +5,15 @@ use mathlib.Core.Bool.{Bool, true, false}
 use mathlib.Core.List.{List, [], _∷_, map}
 use lib.Dec.{eqb}
 use Rattle.laws.specs.Tests.{pick}
+use Rattle.laws.specs.Tables.{upd}
 use Rattle.frames.specs.declared.Command.{Command}
 use Rattle.frames.specs.declared.Command.the-variants.{Open, Disconnect, Create, Destroy, Release, Transfer, Send, Receive, Quota, Holders}
 use Rattle.frames.specs.Frame.{payloadOf}
 use Rattle.model.specs.Numbers.{slots}
 use Rattle.model.specs.State.{Status, Status.opened, Status.disconnected, Life, Life.live, isLive, Handle, Handle.none, Handle.some, handleOf, Message, Entry, Entry.message, Entry.destroyed, Entry.released, messagesIn, State, slot, freePlace}
 use Rattle.model.specs.Requests.{destinations, attached}
-use Rattle.model.specs.Changes.{accept, withStatus, withUser, withHandles, withHandle, withLife, takeOut, give, giveAll, forget, notify, notifyAll, destroyAll, deliver}
+use Rattle.model.specs.Tables.{accept, withStatus, withUser, withHandles, withHandle, withLives}
+use Rattle.model.specs.Changes.{takeOut, give, giveAll, forget, notify, notifyAll, destroyAll, deliver}
 
 -- "A peer belongs to one user".
 unfoldable pub opens : State → ℕ → ℕ → State
@@ -19,7 +21,7 @@ opens b p u = withUser (withStatus b p opened) p u
 
 -- "Creation gives the owner count 1 (the pinned one)."
 unfoldable pub creates : State → ℕ → ℕ → State
-creates b p i = let s = p * slots + freePlace b p in withHandle (withLife b s live) p s (handleOf i 1)
+creates b p i = let s = p * slots + freePlace b p in withHandle (withLives b (upd (b .life) s live)) p s (handleOf i 1)
 
 -- Destroy: one slot dies.
 unfoldable pub destroys : State → ℕ → ℕ → State

@@ -4,6 +4,7 @@ pub mod Resources
 pub mod State
 pub mod Requests
 pub mod Refusals
+pub mod Tables
 pub mod Changes
 pub mod Effects
 pub mod Replies

@@ -16,7 +16,8 @@ use Rattle.answers.specs.Answer.{idBytes, messageBytes, receivedBytes, chargeBy
 use Rattle.model.specs.Lists.{least, rising}
 use Rattle.model.specs.State.{start, slotOf, total, heldByAny, named, counts, freePlace, byOwnerId}
 use Rattle.model.specs.Refusals.{placesAt, fits, refusesOpen, refusesDisconnect, refusesCreate, refusesDestroy, refusesRelease, refusesTransfer, refusesSend, refusesReceive, refusesQuota, refusesHolders, refusal}
-use Rattle.model.specs.Changes.{accept, withStatus, withUser, withGiven, withHandles, withLife, withQueue, withCharges, takeOut, withdraw, shown, give, forget, fell, notify, arriving, deliver}
+use Rattle.model.specs.Tables.{withStatus, withUser, withGiven, withHandles, withQueues, withCharges, withLives, accept}
+use Rattle.model.specs.Changes.{pushAll, takeOut, withdraw, shown, give, forget, fell, notify, arriving, deliver}
 use Rattle.model.specs.Effects.{opens, creates, releases, effect}
 use Rattle.model.specs.Replies.{showsMessage, reply}
 use Rattle.model.specs.Step.{Call, carryOut, finish, step, answersFrom}
@@ -142,5 +143,5 @@ abbrev pub table : List Row
 table = M1-M4 ∷ M5 ∷ M6 ∷ M7-30 ∷ M7-31 ∷ M8 ∷ M9 ∷ M10 ∷ S ∷ []
 
 pub marks : map computed table ≡ map expected table
-unfolding upd sumTo build first be numAt idAt shortAt parseSizes parseSend frameLength parseOpen parseCreate parseTransfer parseQuota parseRest parseOther parse sendId payloadOf othersAll allowsAll balanceOf idBytes messageBytes receivedBytes chargeBytes contentsOf answerBytes answerAfter outcomeOf least rising start slotOf total heldByAny named counts freePlace byOwnerId placesAt fits refusesOpen refusesDisconnect refusesCreate refusesDestroy refusesRelease refusesTransfer refusesSend refusesReceive refusesQuota refusesHolders refusal accept withStatus withUser withGiven withHandles withLife withQueue withCharges takeOut withdraw shown give forget fell notify arriving deliver opens creates releases effect showsMessage reply carryOut finish step answersFrom
+unfolding upd sumTo build first be numAt idAt shortAt parseSizes parseSend frameLength parseOpen parseCreate parseTransfer parseQuota parseRest parseOther parse sendId payloadOf othersAll allowsAll balanceOf idBytes messageBytes receivedBytes chargeBytes contentsOf answerBytes answerAfter outcomeOf least rising start slotOf total heldByAny named counts freePlace byOwnerId placesAt fits refusesOpen refusesDisconnect refusesCreate refusesDestroy refusesRelease refusesTransfer refusesSend refusesReceive refusesQuota refusesHolders refusal withStatus withUser withGiven withHandles withQueues withCharges withLives accept pushAll takeOut withdraw shown give forget fell notify arriving deliver opens creates releases effect showsMessage reply carryOut finish step answersFrom
 marks = refl
