@@ -11,4 +11,6 @@ pub mod Replies
 pub mod Step
 pub mod Book
 pub mod Claim
+pub mod Scripts
 pub mod Table
+pub mod Examples
