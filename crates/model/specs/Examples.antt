@@ -1,4 +1,4 @@
--- What the vectors of the table do not show and the book cannot see: notices, their order and their withdrawal, the flag, drops, the room of a node,
+-- What the table does not show and the book cannot see: notices, their order and their withdrawal, the flag, drops, the room of a node,
 -- the order of refusals, the answer buffer, and EOVERFLOW; as one computed table, and a few equations.
 -- Assumes nothing.
 use Prim.Native.Nat.{ℕ, _+_, _-_, _*_}

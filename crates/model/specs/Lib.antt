@@ -9,6 +9,7 @@ pub mod Changes
 pub mod Effects
 pub mod Replies
 pub mod Step
+pub mod StepLaws
 pub mod Book
 pub mod Claim
 pub mod Scripts
