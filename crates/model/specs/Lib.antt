@@ -1,0 +1,17 @@
+pub mod Numbers
+pub mod Lists
+pub mod Resources
+pub mod State
+pub mod Requests
+pub mod Refusals
+pub mod Tables
+pub mod Changes
+pub mod Effects
+pub mod Replies
+pub mod Step
+pub mod StepLaws
+pub mod Book
+pub mod Claim
+pub mod Scripts
+pub mod Table
+pub mod Examples

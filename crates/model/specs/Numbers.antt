@@ -1,0 +1,43 @@
+-- The numbers of document 01 that a change request may change. The users and the limits of the resources stand in crate quota, the longest answer in crate answers.
+-- Assumes nothing.
+use Prim.Native.Nat.{ℕ, suc, _+_, _*_, _/_}
+use mathlib.Core.Path.{_≡_, refl}
+use Rattle.frames.specs.Frame.{lastPeer, lastUser, invalidId}
+use Rattle.quota.specs.Charges.{users}
+
+-- "Peers 0 to 7."
+abbrev pub peers : ℕ
+peers = 8
+
+-- "A peer owns at most 16 nodes." A node is a slot of its owner: the slots of the peer p are p * 16 to p * 16 + 15.
+abbrev pub slots : ℕ
+slots = 16
+
+-- The slots of all peers; as a slot, no node.
+abbrev pub nodes : ℕ
+nodes = peers * slots
+
+abbrev pub owner : ℕ → ℕ
+owner s = s / slots
+
+-- EOVERFLOW: "2^40 - 1 commands accepted already".
+abbrev pub mostCommands : ℕ
+mostCommands = 1099511627775
+
+-- "The invalid ID is all ones."
+abbrev pub invalid : ℕ
+invalid = 18446744073709551615
+
+-- "IDs the bus gives are 4n + 3, n = 1, 2, 3 ..": the one that follows n of them.
+abbrev pub nextId : ℕ → ℕ
+nextId n = 4 * (n + 1) + 3
+
+-- The frame reader's numbers are these.
+pub same-peers : suc lastPeer ≡ peers
+same-peers = refl
+
+pub same-users : suc lastUser ≡ users
+same-users = refl
+
+pub same-invalid : invalidId .0 ≡ invalid
+same-invalid = refl

@@ -1,0 +1,167 @@
+-- Document 01, "When the bus says no": for each command the number of its refusal, 0 where there is none, from EOVERFLOW on, in the order of the paragraph "Order":
+-- "EOVERFLOW; acting peer; destination peer; then the table's order downwards, each for all IDs of the frame before the next".
+-- 22, 25 and 90 come from the frame alone (frames' parse).
+-- Assumes nothing.
+use Prim.Native.Nat.{ℕ, _+_, _*_}
+use mathlib.Core.Bool.{Bool}
+use mathlib.Core.List.{List, [], _∷_, _++_, map}
+use lib.ListN.{length}
+use lib.Dec.{eqb, ltb, leb}
+use Rattle.laws.specs.Tests.{pick}
+use Rattle.laws.specs.Weights.{keep}
+use Rattle.frames.specs.declared.Command.{Command}
+use Rattle.frames.specs.declared.Command.the-variants.{Open, Disconnect, Create, Destroy, Release, Transfer, Send, Receive, Quota, Holders}
+use Rattle.frames.specs.Frame.{payloadOf}
+use Rattle.quota.specs.declared.Charge.{Charge}
+use Rattle.quota.specs.Charges.{allowsAll}
+use Rattle.model.specs.Numbers.{slots, nodes, owner, mostCommands}
+use Rattle.model.specs.Lists.{both, every}
+use Rattle.model.specs.State.{Status, Status.unopened, Status.opened, Status.disconnected, isLive, count, Entry, Entry.message, Entry.destroyed, Entry.released, State, slot, freePlace}
+use Rattle.model.specs.Requests.{destinations, attached}
+
+abbrev pub EOVERFLOW : ℕ
+EOVERFLOW = 75
+
+abbrev pub EBADF : ℕ
+EBADF = 9
+
+abbrev pub ESHUTDOWN : ℕ
+ESHUTDOWN = 108
+
+abbrev pub EEXIST : ℕ
+EEXIST = 17
+
+abbrev pub ENXIO : ℕ
+ENXIO = 6
+
+abbrev pub EPERM : ℕ
+EPERM = 1
+
+abbrev pub EHOSTUNREACH : ℕ
+EHOSTUNREACH = 113
+
+abbrev pub ENOSPC : ℕ
+ENOSPC = 28
+
+abbrev pub EDQUOT : ℕ
+EDQUOT = 122
+
+abbrev pub EAGAIN : ℕ
+EAGAIN = 11
+
+abbrev pub ERANGE : ℕ
+ERANGE = 34
+
+-- Each row takes the rest of the cascade, r.
+
+-- "2^40 - 1 commands accepted already; not for questions".
+abbrev pub countable : State → ℕ → ℕ
+countable b r = pick (ltb (b .accepted) mostCommands) r EOVERFLOW
+
+-- "peer never opened (acting, save in open; or destination of a transfer)"; "that peer disconnected".
+abbrev pub present : Status → ℕ → ℕ
+present unopened r = EBADF
+present opened r = r
+present disconnected r = ESHUTDOWN
+
+-- Open: "that peer disconnected; also open of it"; "open of an open peer".
+abbrev pub openable : Status → ℕ
+openable unopened = 0
+openable opened = EEXIST
+openable disconnected = ESHUTDOWN
+
+-- "create with an ID the peer holds".
+abbrev pub unheld : State → ℕ → ℕ → ℕ → ℕ
+unheld b p i r = pick (ltb (slot b p i) nodes) EEXIST r
+
+-- "an ID the acting peer does not hold".
+abbrev pub holding : State → ℕ → List ℕ → ℕ → ℕ
+holding b p is r = pick (every (λ i. ltb (slot b p i) nodes) is) r ENXIO
+
+-- "destroy or holders question by a peer not the owner".
+abbrev pub owning : ℕ → ℕ → ℕ → ℕ
+owning p s r = pick (eqb (owner s) p) r EPERM
+
+-- "release of a live node's owner handle at count 1".
+abbrev pub pinned : State → ℕ → ℕ → Bool
+pinned b p s = both (isLive (b .life s)) (both (eqb (owner s) p) (eqb (count (b .handle p s)) 1))
+
+-- "destroy of, transfer of, or send to a node already destroyed".
+abbrev pub living : State → List ℕ → ℕ → ℕ
+living b ss r = pick (every (λ s. isLive (b .life s)) ss) r EHOSTUNREACH
+
+-- "create with 16 nodes counted".
+abbrev pub roomy : State → ℕ → ℕ → ℕ
+roomy b p r = pick (ltb (freePlace b p) slots) r ENOSPC
+
+-- How many of the destination slots the peer q owns; what a send adds there, of each resource: "Each destination entry makes its own message, also when two name one peer."
+unfoldable pub placesAt : ℕ → List ℕ → ℕ
+placesAt q ds = length (keep (λ d. eqb (owner d) q) ds)
+
+abbrev pub adds : ℕ → List ℕ → ℕ → ℕ → Charge
+adds q ds nb nh = record { messages = placesAt q ds; bytes = placesAt q ds * nb; handles = placesAt q ds * nh }
+
+-- "Quota, for each resource at each destination peer: what the sender's user has queued there plus all this send adds there must be at most half, rounded down,
+-- of the limit less what the other users have queued."
+unfoldable pub fits : State → ℕ → List ℕ → ℕ → ℕ → Bool
+fits b u ds nb nh = every (λ d. allowsAll (b .charges (owner d)) (record { 0 = u }) (adds (owner d) ds nb nh)) ds
+
+abbrev pub affordable : State → ℕ → List ℕ → ℕ → ℕ → ℕ → ℕ
+affordable b u ds nb nh r = pick (fits b u ds nb nh) r EDQUOT
+
+-- "receive, nothing queued"; "next is a message with nb + 8 x nh over the room".
+abbrev pub takeable : ℕ → List Entry → ℕ
+takeable room [] = EAGAIN
+takeable room (message n m ∷ q) = pick (leb (length (m .payload) + 8 * length (m .carried)) room) 0 ERANGE
+takeable room (destroyed n s ∷ q) = 0
+takeable room (released n s ∷ q) = 0
+
+-- The cascade of each command.
+unfoldable pub refusesOpen : State → ℕ → ℕ
+refusesOpen b p = countable b (openable (b .status p))
+
+unfoldable pub refusesDisconnect : State → ℕ → ℕ
+refusesDisconnect b p = countable b (present (b .status p) 0)
+
+unfoldable pub refusesCreate : State → ℕ → ℕ → ℕ
+refusesCreate b p i = countable b (present (b .status p) (unheld b p i (roomy b p 0)))
+
+unfoldable pub refusesDestroy : State → ℕ → ℕ → ℕ
+refusesDestroy b p i = countable b (present (b .status p) (holding b p (i ∷ []) (owning p (slot b p i) (living b (slot b p i ∷ []) 0))))
+
+unfoldable pub refusesRelease : State → ℕ → ℕ → ℕ
+refusesRelease b p i = countable b (present (b .status p) (holding b p (i ∷ []) (pick (pinned b p (slot b p i)) EPERM 0)))
+
+unfoldable pub refusesTransfer : State → ℕ → ℕ → ℕ → ℕ
+refusesTransfer b p i q = countable b (present (b .status p) (present (b .status q) (holding b p (i ∷ []) (living b (slot b p i ∷ []) 0))))
+
+-- Destination IDs is, attached IDs hs, nb payload bytes.
+unfoldable pub refusesSend : State → ℕ → List ℕ → List ℕ → ℕ → ℕ
+refusesSend b p is hs nb =
+    countable b
+    (present (b .status p)
+    (holding b p (is ++ hs)
+    (living b (map (slot b p) is)
+    (affordable b (b .user p) (map (slot b p) is) nb (length hs) 0))))
+
+unfoldable pub refusesReceive : State → ℕ → ℕ → ℕ
+refusesReceive b p room = countable b (present (b .status p) (takeable room (b .queue p)))
+
+unfoldable pub refusesQuota : State → ℕ → ℕ
+refusesQuota b p = present (b .status p) 0
+
+unfoldable pub refusesHolders : State → ℕ → ℕ → ℕ
+refusesHolders b p i = present (b .status p) (holding b p (i ∷ []) (owning p (slot b p i) 0))
+
+-- The refusal of a command that its frame f gave.
+unfoldable pub refusal : State → List ℕ → Command → ℕ
+refusal b f (Open p u) = refusesOpen b (p .0)
+refusal b f (Disconnect p) = refusesDisconnect b (p .0)
+refusal b f (Create p i) = refusesCreate b (p .0) (i .0)
+refusal b f (Destroy p i) = refusesDestroy b (p .0) (i .0)
+refusal b f (Release p i) = refusesRelease b (p .0) (i .0)
+refusal b f (Transfer p i q) = refusesTransfer b (p .0) (i .0) (q .0)
+refusal b f (Send p z) = refusesSend b (p .0) (destinations f z) (attached f z) (length (payloadOf f))
+refusal b f (Receive p room) = refusesReceive b (p .0) room
+refusal b f (Quota p u) = refusesQuota b (p .0)
+refusal b f (Holders p i) = refusesHolders b (p .0) (i .0)

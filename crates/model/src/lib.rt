@@ -1,0 +1,1 @@
+// The bus as definitions and theorems; the crate has no code.
