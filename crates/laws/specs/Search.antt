@@ -1,6 +1,6 @@
 -- The first place that passes a test.
 -- Assumes nothing.
-use Prim.Native.Nat.{ℕ, zero, suc, _≤_, _<_}
+use Prim.Native.Nat.{ℕ, zero, suc, _+_, _-_, _≤_, _<_}
 use mathlib.Core.Path.{_≡_, refl, sym, ap, _∙_}
 use mathlib.Core.Bool.{Bool, true, false}
 use native.Mathlib.Omega.{arith}
@@ -50,3 +50,26 @@ first-is p n r h before at = go (look (ltb r (first p n))) (look (ltb (first p n
     go (is-true e) q = let l = ltb-true _ _ e in clash (sym (at (omega (arith, first-le p n))) ∙ first-before p n r l)
     go (is-false e) (is-true f) = let l = ltb-true _ _ f in clash (sym (first-found p n (omega arith)) ∙ before (first p n) l)
     go (is-false e) (is-false f) = omega (arith, ltb-false r (first p n) e, ltb-false (first p n) r f)
+
+-- a place before which nothing passes, and the first from there on
+pub first-from : (p : ℕ → Bool) (n d : ℕ) → d ≤ n → ((j : ℕ) → j < d → p j ≡ false) → d + first (λ j. p (d + j)) (n - d) ≡ first p n
+first-from p n d h before = first-is p n (d + r) (omega (arith, first-le q (n - d))) low at
+  where
+    q : ℕ → Bool
+    q j = p (d + j)
+
+    r : ℕ
+    r = first q (n - d)
+
+    low : (j : ℕ) → j < d + r → p j ≡ false
+    low j l = go (look (ltb j d))
+      where
+        go : Seen (ltb j d) → p j ≡ false
+        go (is-true e) = before j (ltb-true j d e)
+        go (is-false e) =
+            let m : d ≤ j = ltb-false j d e in
+            let k : d + (j - d) ≡ j = omega arith in
+            ap p (sym k) ∙ first-before q (n - d) (j - d) (omega arith)
+
+    at : d + r < n → p (d + r) ≡ true
+    at l = first-found q (n - d) (omega arith)

@@ -1,6 +1,6 @@
 -- Sums over the places of a table and over a list.
 -- Assumes nothing.
-use Prim.Native.Nat.{ℕ, zero, suc, _+_, _≤_, _<_}
+use Prim.Native.Nat.{ℕ, zero, suc, _+_, _-_, _≤_, _<_}
 use mathlib.Core.Path.{_≡_, refl}
 use mathlib.Core.List.{List, [], _∷_}
 use native.Mathlib.Omega.{arith}
@@ -42,3 +42,14 @@ pub sum-set : (l : List ℕ) (i v : ℕ) → i < length l → sum (set l i v) + 
 sum-set [] i v h = absurd (not-suc-le-zero h)
 sum-set (x ∷ xs) zero v h = omega arith
 sum-set (x ∷ xs) (suc i) v h = omega (arith, sum-set xs i v (le-of-suc-le-suc h))
+
+pub at-most-sum : (l : List ℕ) (i : ℕ) → getD l i 0 ≤ sum l
+at-most-sum [] i = omega arith
+at-most-sum (x ∷ xs) zero = omega arith
+at-most-sum (x ∷ xs) (suc i) = omega (arith, at-most-sum xs i)
+
+-- the sum without one place, also where there is no such place
+pub sum-without : (l : List ℕ) (i : ℕ) → sum (set l i 0) ≡ sum l - getD l i 0
+sum-without [] i = omega arith
+sum-without (x ∷ xs) zero = omega arith
+sum-without (x ∷ xs) (suc i) = omega (arith, sum-without xs i, at-most-sum xs i)

@@ -1,10 +1,11 @@
 -- Tables as functions of a place, a change of one place, and stores in lists seen as such changes.
 -- Assumes nothing.
-use Prim.Native.Nat.{ℕ, _<_}
-use mathlib.Core.Path.{_≡_, refl, sym, fun-ext}
+use Prim.Native.Nat.{ℕ, zero, suc, _≤_, _<_}
+use mathlib.Core.Path.{_≡_, refl, sym, ap, _∙_, fun-ext}
 use mathlib.Core.Bool.{true, false}
-use mathlib.Core.List.{List}
-use lib.ListN.{length, getD, set}
+use mathlib.Core.List.{List, [], _∷_, map}
+use native.Mathlib.Omega.{arith}
+use lib.ListN.{length, getD, set, List·getD-map}
 use lib.Seq.{getD-set-same, getD-set-other}
 use lib.Dec.{eqb}
 use borrow.Author.Tests.{eqb-true, eq-eqb, ne-eqb}
@@ -46,3 +47,21 @@ tab-set d l i v h = fun-ext (λ j. go j (same? i j))
     go : (j : ℕ) → Same i j → getD (set l i v) j d ≡ upd (tab d l) i v j
     go j (same e) = rw (← e, upd-same, getD-set-same)
     go j (other e) = rw (upd-other (tab d l) i j v e, getD-set-other l i j v d (λ f. e (sym f)))
+
+-- a store under a function of the elements
+pub map-set : {A B : Type 0} (f : A → B) (l : List A) (i : ℕ) (v : A) → map f (set l i v) ≡ set (map f l) i (f v)
+map-set f [] i v = refl
+map-set f (x ∷ xs) zero v = refl
+map-set f (x ∷ xs) (suc i) v = ap (_∷_ (f x)) (map-set f xs i v)
+
+-- a read under a function of the elements, past the end too
+pub map-at : {A B : Type 0} (f : A → B) (d : A) {e : B} → f d ≡ e → (l : List A) (i : ℕ) → getD (map f l) i e ≡ f (getD l i d)
+map-at f d h l i = ap (getD (map f l) i) (sym h) ∙ List·getD-map f l i d
+
+-- a store of no more than was there leaves no place higher
+pub set-le : (l : List ℕ) (i v : ℕ) → v ≤ getD l i 0 → (j : ℕ) → getD (set l i v) j 0 ≤ getD l j 0
+set-le [] i v h j = omega arith
+set-le (x ∷ xs) zero v h zero = h
+set-le (x ∷ xs) zero v h (suc j) = omega arith
+set-le (x ∷ xs) (suc i) v h zero = omega arith
+set-le (x ∷ xs) (suc i) v h (suc j) = set-le xs i v h j

@@ -47,3 +47,13 @@ pick-then false x y h e = absurd (h e)
 pub pick-else : {A : Type 0} (s : Bool) {t : A} (x y : A) → (x ≡ y → ⊥) → pick s x t ≡ y → (s ≡ false) × (t ≡ y)
 pick-else false x y h e = (refl, e)
 pick-else true x y h e = absurd (h e)
+
+-- what both sides have, the choice has
+pub pick-all : {A : Type 0} (P : A → Type 0) (s : Bool) (x y : A) → P x → P y → P (pick s x y)
+pick-all P true x y h k = h
+pick-all P false x y h k = k
+
+-- the same, where each side may use what the test said
+pub pick-cases : {A : Type 0} (P : A → Type 0) (s : Bool) (x y : A) → (s ≡ true → P x) → (s ≡ false → P y) → P (pick s x y)
+pick-cases P true x y h k = h refl
+pick-cases P false x y h k = k refl

@@ -1,10 +1,12 @@
 -- Lists of records: what passes a test, the weight of it, and facts of every element.
 -- Assumes nothing.
-use Prim.Native.Nat.{ℕ, _+_}
+use Prim.Native.Nat.{ℕ, zero, suc, _+_, _≤_, _<_}
 use mathlib.Core.Path.{_≡_, refl, ap₂}
 use mathlib.Core.Bool.{Bool, true, false, not}
 use mathlib.Core.List.{List, [], _∷_, _++_, map}
 use native.Mathlib.Omega.{arith}
+use native.Mathlib.Nat.{not-suc-le-zero, le-of-suc-le-suc}
+use lib.ListN.{length, getD, take}
 use Rattle.laws.specs.Tests.{pick, Seen, Seen.is-true, Seen.is-false, look}
 
 module _ {A : Type 0} where
@@ -51,6 +53,22 @@ module _ {A : Type 0} where
   pub all-imp : (P Q : A → Type 0) → ((x : A) → P x → Q x) → (xs : List A) → All P xs → All Q xs
   all-imp P Q f [] h = tt
   all-imp P Q f (x ∷ xs) h = (f x (h .0), all-imp P Q f xs (h .1))
+
+  pub all-take : (P : A → Type 0) (n : ℕ) (xs : List A) → All P xs → All P (take n xs)
+  all-take P zero xs h = tt
+  all-take P (suc n) [] h = tt
+  all-take P (suc n) (x ∷ xs) h = (h .0, all-take P n xs (h .1))
+
+  -- a fact of every element is one of every place, and the other way round
+  pub all-at : (P : A → Type 0) (xs : List A) (j : ℕ) (d : A) → All P xs → j < length xs → P (getD xs j d)
+  all-at P [] j d h l = absurd (not-suc-le-zero l)
+  all-at P (x ∷ xs) zero d h l = h .0
+  all-at P (x ∷ xs) (suc j) d h l = all-at P xs j d (h .1) (le-of-suc-le-suc l)
+
+  pub all-of : (P : A → Type 0) (xs : List A) (n : ℕ) (d : A) → ((j : ℕ) → j < n → P (getD xs j d)) → All P (take n xs)
+  all-of P xs zero d h = tt
+  all-of P [] (suc n) d h = tt
+  all-of P (x ∷ xs) (suc n) d h = (h zero (omega arith), all-of P xs n d (λ j l. h (suc j) (omega arith)))
 
   pub all-keep : (P : A → Type 0) (p : A → Bool) (xs : List A) → All P xs → All P (keep p xs)
   all-keep P p [] h = tt

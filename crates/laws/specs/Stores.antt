@@ -1,0 +1,55 @@
+-- Runs of stores in a list, one after another, and the front of a list.
+-- Assumes nothing.
+use Prim.Native.Nat.{ℕ, zero, suc, _+_, _-_, _≤_, _<_, min}
+use mathlib.Core.Path.{_≡_, refl, sym, ap, _∙_}
+use mathlib.Core.List.{List, [], _∷_, _++_}
+use native.Mathlib.Omega.{arith}
+use native.Mathlib.Nat.{zero-add}
+use native.Mathlib.Numerals.{add-one}
+use lib.ListN.{length, getD, take, drop, set}
+use lib.Seq.{getD-append-add, getD-drop, sets, sets-eq, take-suc, take-all, take-length, length-take-le}
+use lib.Dec.{leb}
+use borrow.Author.Tests.{leb-true, leb-false}
+use Rattle.laws.specs.Tests.{Seen, Seen.is-true, Seen.is-false, look}
+
+module _ {A : Type 0} where
+  -- as many as there are, at most k
+  pub take-min : (k : ℕ) (l : List A) → take (min (length l) k) l ≡ take k l
+  take-min k l = go (look (leb (length l) k))
+    where
+      go : Seen (leb (length l) k) → take (min (length l) k) l ≡ take k l
+      go (is-true e) =
+          let h : length l ≤ k = leb-true (length l) k e in
+          let m : min (length l) k ≡ length l = omega arith in
+          ap (λ (n : ℕ). take n l) m ∙ take-length l ∙ sym (take-all k l h)
+      go (is-false e) =
+          let h : k < length l = leb-false (length l) k e in
+          let m : min (length l) k ≡ k = omega arith in
+          ap (λ (n : ℕ). take n l) m
+
+  -- two runs of stores, one behind the other
+  pub sets-append : (l : List A) (i : ℕ) (vs ws : List A) → sets l i (vs ++ ws) ≡ sets (sets l i vs) (i + length vs) ws
+  sets-append l i [] ws = let e : i + 0 ≡ i = omega arith in rw e
+  sets-append l i (v ∷ vs) ws = let e : i + suc (length vs) ≡ suc i + length vs = omega arith in rw e (sets-append (set l i v) (suc i) vs ws)
+
+  -- xs stored from i on, then ys behind them
+  pub sets-then : (l l₁ l₂ : List A) (i j : ℕ) (xs ys : List A) → l₁ ≡ sets l i xs → j ≡ i + length xs → l₂ ≡ sets l₁ j ys → l₂ ≡ sets l i (xs ++ ys)
+  sets-then l l₁ l₂ i j xs ys e f g = g ∙ rw (e, f) (sym (sets-append l i xs ys))
+
+  -- stores from the start of a list
+  pub over : (xs l : List A) → length xs ≤ length l → sets l 0 xs ≡ xs ++ drop (length xs) l
+  over xs l h = sets-eq xs l 0 (rw zero-add h) ∙ ap (λ (n : ℕ). xs ++ drop n l) (zero-add (length xs))
+
+  -- a loop that copies xs element by element: the next turn
+  pub sets-next : (l xs : List A) (i k : ℕ) (d : A) → k < length xs → set (sets l i (take k xs)) (i + k) (getD xs k d) ≡ sets l i (take (k + 1) xs)
+  sets-next l xs i k d h =
+      let n : length (take k xs) ≡ k = length-take-le k xs (omega arith) in
+      let e : take (k + 1) xs ≡ take k xs ++ (getD xs k d ∷ []) = rw add-one (take-suc xs k d h) in
+      sym (ap (sets l i) e ∙ (sets-append l i (take k xs) (getD xs k d ∷ [])) ∙ rw n)
+
+  -- behind a front that was written anew stands what stood there before
+  pub getD-past : (xs b : List A) (i j : ℕ) (d : A) → length xs ≡ i → i ≤ j → getD (xs ++ drop i b) j d ≡ getD b j d
+  getD-past xs b i j d e h =
+      let k : j ≡ length xs + (j - i) = omega arith in
+      let m : i + (j - i) ≡ j = omega arith in
+      ap (λ (n : ℕ). getD (xs ++ drop i b) n d) k ∙ getD-append-add xs (drop i b) (j - i) d ∙ getD-drop i b (j - i) d ∙ ap (λ (n : ℕ). getD b n d) m

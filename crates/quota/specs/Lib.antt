@@ -1,0 +1,6 @@
+pub mod Rule
+pub mod ShareProof
+pub mod Share
+pub mod Charges
+pub mod Step
+pub mod Examples
