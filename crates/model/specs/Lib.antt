@@ -12,3 +12,5 @@ pub mod Step
 pub mod Book
 pub mod Claim
 pub mod Table
+pub mod Tested
+pub mod Accepted
