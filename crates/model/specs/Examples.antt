@@ -13,7 +13,7 @@ use Rattle.laws.specs.Bytes.{be, numAt}
 use Rattle.frames.specs.Frame.{idAt, shortAt, parseSizes, parseSend, frameLength, parseOpen, parseCreate, parseTransfer, parseQuota, parseRest, parseOther, parse, sendId, payloadOf}
 use lib.Count.{ones, onesIn}
 use Rattle.quota.specs.Charges.{freshCharges, othersAll, allowsAll, balanceOf}
-use Rattle.answers.specs.Answer.{idBytes, messageBytes, receivedBytes, chargeBytes, contentsOf, answerBytes, answerAfter, outcomeOf}
+use Rattle.answers.specs.Answer.{idBytes, headerBytes, noticeBytes, balanceBytes, holderBytes, messageBytes, receivedBytes, chargeBytes, contentsOf, answerBytes, answerAfter, outcomeOf}
 use Rattle.model.specs.Lists.{least, rising}
 use Rattle.model.specs.Numbers.{invalid, mostCommands}
 use Rattle.model.specs.State.{State, Status.opened, Life.dead, Handle.none, start, slotOf, total, heldByAny, named, counts, freePlace, byOwnerId}
@@ -102,7 +102,7 @@ examples =
     ∷ ordered ∷ held-by-two ∷ room-again ∷ room-named ∷ cascade ∷ []
 
 pub shown-by-examples : map computed examples ≡ map expected examples
-unfolding upd sumTo build first be numAt idAt shortAt parseSizes parseSend frameLength parseOpen parseCreate parseTransfer parseQuota parseRest parseOther parse sendId payloadOf othersAll allowsAll balanceOf idBytes messageBytes receivedBytes chargeBytes contentsOf answerBytes answerAfter outcomeOf least rising start slotOf total heldByAny named counts freePlace byOwnerId placesAt fits refusesOpen refusesDisconnect refusesCreate refusesDestroy refusesRelease refusesTransfer refusesSend refusesReceive refusesQuota refusesHolders refusal withStatus withUser withGiven withHandles withQueues withCharges withLives accept pushAll takeOut withdraw shown give forget fell notify releaseNotices notifyAll destroyNotices destroyAll arriving deliver opens creates destroys releases disconnects effect showsMessage holdersOf reply carryOut finish step answersFrom ones onesIn
+unfolding upd sumTo build first be numAt idAt shortAt parseSizes parseSend frameLength parseOpen parseCreate parseTransfer parseQuota parseRest parseOther parse sendId payloadOf othersAll allowsAll balanceOf idBytes headerBytes messageBytes noticeBytes receivedBytes chargeBytes balanceBytes holderBytes contentsOf answerBytes answerAfter outcomeOf least rising start slotOf total heldByAny named counts freePlace byOwnerId placesAt fits refusesOpen refusesDisconnect refusesCreate refusesDestroy refusesRelease refusesTransfer refusesSend refusesReceive refusesQuota refusesHolders refusal withStatus withUser withGiven withHandles withQueues withCharges withLives accept pushAll takeOut withdraw shown give forget fell notify releaseNotices notifyAll destroyNotices destroyAll arriving deliver opens creates destroys releases disconnects effect showsMessage holdersOf reply carryOut finish step answersFrom ones onesIn
 shown-by-examples = refl
 
 -- A bus that has accepted n commands, peer 0 open.
@@ -132,5 +132,5 @@ pub record Shown : Type 0 where
   pub not-yet : map (numberFrom (used (mostCommands - 1))) (opening 0 0 ∷ disconnect 0 ∷ receive 0 0 ∷ []) ≡ 17 ∷ 0 ∷ 11 ∷ []
 
 pub equations : Shown
-unfolding upd sumTo build first be numAt idAt shortAt parseSizes parseSend frameLength parseOpen parseCreate parseTransfer parseQuota parseRest parseOther parse sendId payloadOf othersAll allowsAll balanceOf idBytes messageBytes receivedBytes chargeBytes contentsOf answerBytes answerAfter outcomeOf least rising start slotOf total heldByAny named counts freePlace byOwnerId placesAt fits refusesOpen refusesDisconnect refusesCreate refusesDestroy refusesRelease refusesTransfer refusesSend refusesReceive refusesQuota refusesHolders refusal withStatus withUser withGiven withHandles withQueues withCharges withLives accept pushAll takeOut withdraw shown give forget fell notify releaseNotices notifyAll destroyNotices destroyAll arriving deliver opens creates destroys releases disconnects effect showsMessage holdersOf reply carryOut finish step answersFrom ones onesIn
+unfolding upd sumTo build first be numAt idAt shortAt parseSizes parseSend frameLength parseOpen parseCreate parseTransfer parseQuota parseRest parseOther parse sendId payloadOf othersAll allowsAll balanceOf idBytes headerBytes messageBytes noticeBytes receivedBytes chargeBytes balanceBytes holderBytes contentsOf answerBytes answerAfter outcomeOf least rising start slotOf total heldByAny named counts freePlace byOwnerId placesAt fits refusesOpen refusesDisconnect refusesCreate refusesDestroy refusesRelease refusesTransfer refusesSend refusesReceive refusesQuota refusesHolders refusal withStatus withUser withGiven withHandles withQueues withCharges withLives accept pushAll takeOut withdraw shown give forget fell notify releaseNotices notifyAll destroyNotices destroyAll arriving deliver opens creates destroys releases disconnects effect showsMessage holdersOf reply carryOut finish step answersFrom ones onesIn
 equations = record { short-buffer = refl; past-the-end = refl; overflows = refl; not-yet = refl }

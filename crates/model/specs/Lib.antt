@@ -15,3 +15,5 @@ pub mod Claim
 pub mod Scripts
 pub mod Table
 pub mod Examples
+pub mod Tested
+pub mod Accepted

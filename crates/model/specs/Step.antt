@@ -68,6 +68,11 @@ runFrom b (c ∷ cs) = runFrom (step b c .state) cs
 abbrev pub run : List Call → State
 run cs = runFrom start cs
 
+-- The results of a run, in order.
+unfoldable pub resultsFrom : State → List Call → List Result
+resultsFrom b [] = []
+resultsFrom b (c ∷ cs) = let r = step b c in r ∷ resultsFrom (r .state) cs
+
 -- The answers of a run, in order.
 unfoldable pub answersFrom : State → List Call → List (List ℕ)
 answersFrom b [] = []
