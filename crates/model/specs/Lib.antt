@@ -17,3 +17,8 @@ pub mod Table
 pub mod Examples
 pub mod Tested
 pub mod Accepted
+pub mod Sim
+pub mod SimHandles
+pub mod SimQueues
+pub mod SimGive
+pub mod SimRelease
