@@ -17,8 +17,12 @@ pub mod Table
 pub mod Examples
 pub mod Tested
 pub mod Accepted
+pub mod Notices
 pub mod Sim
 pub mod SimHandles
 pub mod SimQueues
 pub mod SimGive
 pub mod SimRelease
+pub mod SimCreate
+pub mod SimSend
+pub mod SimStep
