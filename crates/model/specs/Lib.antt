@@ -17,3 +17,4 @@ pub mod Table
 pub mod Examples
 pub mod Tested
 pub mod Accepted
+pub mod Shown
