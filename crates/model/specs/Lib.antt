@@ -26,3 +26,4 @@ pub mod SimRelease
 pub mod SimCreate
 pub mod SimSend
 pub mod SimStep
+pub mod Shown
