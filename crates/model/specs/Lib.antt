@@ -27,3 +27,4 @@ pub mod SimCreate
 pub mod SimSend
 pub mod SimStep
 pub mod Shown
+pub mod SimIds
