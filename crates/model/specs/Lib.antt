@@ -12,3 +12,9 @@ pub mod Step
 pub mod Book
 pub mod Claim
 pub mod Table
+pub mod Notices
+pub mod Occurs
+pub mod Rising
+pub mod NoticesQueues
+pub mod NoticesTables
+pub mod NoticesEnds
