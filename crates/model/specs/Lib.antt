@@ -12,6 +12,8 @@ pub mod Step
 pub mod Book
 pub mod Claim
 pub mod Table
+pub mod Tested
+pub mod Accepted
 pub mod Notices
 pub mod Occurs
 pub mod Rising
