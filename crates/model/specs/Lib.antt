@@ -20,3 +20,7 @@ pub mod Rising
 pub mod NoticesQueues
 pub mod NoticesTables
 pub mod NoticesEnds
+pub mod NoticesFree
+pub mod NoticesProof
+pub mod Bounds
+pub mod BoundsProof

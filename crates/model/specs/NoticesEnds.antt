@@ -22,7 +22,7 @@ use Rattle.model.specs.Rising.{owner-pass, owner-once}
 use Rattle.model.specs.NoticesQueues.{noted-withdraw, Without, withdraw-without, noted-pushAll}
 use Rattle.model.specs.NoticesTables.{total-ext, total-two}
 
-unopened-opened : {A : Type 0} → _≡_ {A = Status} unopened opened → A
+pub unopened-opened : {A : Type 0} → _≡_ {A = Status} unopened opened → A
 unopened-opened e = let z : _≡_ {A = ℕ} 0 1 = cc in absurd (omega arith)
 
 unopened-disconnected : {A : Type 0} → _≡_ {A = Status} disconnected unopened → A

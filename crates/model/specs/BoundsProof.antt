@@ -1,0 +1,234 @@
+-- At most 188 entries in a queue, and bounds of the counts and of the given IDs, in every run.
+-- Assumes nothing.
+use Prim.Native.Nat.{ℕ, zero, suc, _+_, _-_, _*_, _≤_, _<_}
+use mathlib.Core.Path.{_≡_, refl, sym, ap, _∙_}
+use mathlib.Core.Bool.{Bool, true, false}
+use mathlib.Core.List.{List, [], _∷_, map}
+use native.Mathlib.Omega.{arith}
+use lib.ListN.{length}
+use lib.Dec.{eqb}
+use borrow.Author.Tests.{eq-eqb, ne-eqb, eqb-true, eqb-false}
+use Rattle.laws.specs.Tests.{pick, Seen, Seen.is-true, Seen.is-false, look, Same, Same.same, Same.other, same?, pick-all}
+use Rattle.laws.specs.Tables.{upd, upd-same, upd-other, upd-all}
+use Rattle.laws.specs.Sums.{sumTo, sum-ext, sum-at}
+use Rattle.laws.specs.Weights.{load, All, all-imp}
+use Rattle.frames.specs.declared.Command.{Command}
+use Rattle.frames.specs.declared.Command.the-variants.{Open, Disconnect, Create, Destroy, Release, Transfer, Send, Receive, Quota, Holders}
+use Rattle.frames.specs.Frame.{mostIds, payloadOf}
+use Rattle.frames.specs.Legal.{Legal}
+use Rattle.model.specs.Numbers.{peers, slots, nodes, mostCommands}
+use Rattle.model.specs.State.{Status.disconnected, isLive, Handle, Handle.none, Handle.some, handleOf, held, count, Message, Entry, Entry.message, Entry.destroyed, Entry.released, messagesIn, State, start, slot, total, freePlace}
+use Rattle.model.specs.Requests.{destinations, attached}
+use Rattle.model.specs.Refusals.{refusal}
+use Rattle.model.specs.Tables.{accept, withStatus, withUser, withHandles, withHandle, withGiven, withQueues, withCharges, withLives}
+use Rattle.model.specs.Changes.{push, pushAll, takeOut, withdraw, shown, givenAfter, give, giveAll, forget, fell, notify, notifyAll, destroyAll, deliver}
+use Rattle.model.specs.Effects.{opens, creates, destroys, releases, releasesHandle, disconnects, receives, effect}
+use Rattle.model.specs.Step.{Call, run}
+use Rattle.model.specs.Tested.{tested}
+use Rattle.model.specs.Accepted.{Kept, induction}
+use Rattle.model.specs.Notices.{noticeFor, noticesFor, Carried, Stands, Tidy, Noted}
+use Rattle.model.specs.Occurs.{load-none, sum-more}
+use Rattle.model.specs.NoticesTables.{put}
+use Rattle.model.specs.NoticesProof.{noted-start, noted-kept, noted}
+use Rattle.model.specs.Bounds.{isNotice, notices, mostMessages, mostEntries, Bounded}
+
+-- A queue is its messages and its notices.
+pub queue-split : (q : List Entry) → length q ≡ length (messagesIn q) + notices q
+queue-split [] = refl
+queue-split (message n m ∷ q) = omega (arith, queue-split q)
+queue-split (destroyed n s ∷ q) = omega (arith, queue-split q)
+queue-split (released n s ∷ q) = omega (arith, queue-split q)
+
+-- A notice is for one node below n.
+abbrev Within : ℕ → Entry → Type 0
+Within n (message k m) = Unit {0}
+Within n (destroyed k s) = s < n
+Within n (released k s) = s < n
+
+-- A table that is all 0, or at most 1 at each place.
+sum-zero : (n : ℕ) → sumTo (λ s. 0) n ≡ 0
+unfolding sumTo
+sum-zero zero = refl
+sum-zero (suc n) = omega (arith, sum-zero n)
+
+sum-ones : (f : ℕ → ℕ) → ((s : ℕ) → f s ≤ 1) → (n : ℕ) → sumTo f n ≤ n
+unfolding sumTo
+sum-ones f h zero = omega arith
+sum-ones f h (suc n) = omega (arith, h n, sum-ones f h n)
+
+-- One more notice for s.
+sum-next : (f : ℕ → ℕ) (s n : ℕ) → s < n → sumTo (λ t. pick (eqb s t) 1 0 + f t) n ≡ 1 + sumTo f n
+sum-next f s n l =
+    let e : _≡_ {A = ℕ} (pick (eqb s s) 1 0) 1 = rw (eq-eqb s s refl) in
+    omega (arith, sum-at (λ t. pick (eqb s t) 1 0 + f t) f s n l (λ t m d. rw (ne-eqb s t d) (omega arith)))
+
+-- The notices of a queue are those for each node.
+pub notices-sum : (n : ℕ) (q : List Entry) → All (Within n) q → notices q ≡ sumTo (λ s. noticesFor s q) n
+notices-sum n [] a = sym (sum-zero n)
+notices-sum n (message k m ∷ q) a = omega (arith, notices-sum n q (a .1), sum-ext (λ s. noticesFor s q) (λ s. noticesFor s (message k m ∷ q)) n (λ s l. omega arith))
+notices-sum n (destroyed k t ∷ q) a = omega (arith, notices-sum n q (a .1), sum-next (λ s. noticesFor s q) t n (a .0))
+notices-sum n (released k t ∷ q) a = omega (arith, notices-sum n q (a .1), sum-next (λ s. noticesFor s q) t n (a .0))
+
+-- At most one notice a node.
+pub notices-few : (b : State) (q : ℕ) → Noted b → notices (b .queue q) ≤ nodes
+notices-few b q n = omega (arith, notices-sum nodes (b .queue q) within, sum-ones (λ s. noticesFor s (b .queue q)) (n .once q) nodes)
+  where
+    one : (e : Entry) → Stands (b .handle) (b .life) q e → Within nodes e
+    one (message k m) a = tt
+    one (destroyed k s) a = n .holders q s (a .1) .1
+    one (released k s) a = n .holders q s (rw (a .1) at (n .owned s (a .0))) .1
+
+    within : All (Within nodes) (b .queue q)
+    within = all-imp (Stands (b .handle) (b .life) q) (Within nodes) one (b .queue q) (n .stands q)
+
+pub queue-few : (b : State) (q : ℕ) → Noted b → length (messagesIn (b .queue q)) ≤ mostMessages → length (b .queue q) ≤ mostEntries
+queue-few b q n l = omega (arith, queue-split (b .queue q), notices-few b q n)
+
+-- Every run.
+pub queue-bound : (cs : List Call) (q : ℕ) → length (messagesIn (run cs .queue q)) ≤ mostMessages → length (run cs .queue q) ≤ mostEntries
+queue-bound cs q l = queue-few (run cs) q (noted cs) l
+
+-- Numbers that a change raises by at most d.
+pub record Raised (b c : State) (d : ℕ) : Type 0 where
+  pub accepted : c .accepted ≡ b .accepted
+  pub sums : (s : ℕ) → total (c .handle) s ≤ total (b .handle) s + d
+  pub given : (p : ℕ) → c .given p ≤ b .given p + d
+
+raised-trans : (a b c : State) (d e : ℕ) → Raised a b d → Raised b c e → Raised a c (d + e)
+raised-trans a b c d e x y =
+    record { accepted = y .accepted ∙ x .accepted; sums = λ s. omega (arith, x .sums s, y .sums s); given = λ p. omega (arith, x .given p, y .given p) }
+
+raised-more : (b c : State) (d e : ℕ) → Raised b c d → d ≤ e → Raised b c e
+raised-more b c d e x l = record { accepted = x .accepted; sums = λ s. omega (arith, x .sums s); given = λ p. omega (arith, x .given p) }
+
+raised-none : (b c : State) → c .accepted ≡ b .accepted → c .handle ≡ b .handle → c .given ≡ b .given → Raised b c 0
+raised-none b c e h g = record { accepted = e; sums = λ s. rw h (omega arith); given = λ p. rw g (omega arith) }
+
+-- One handle changed.
+pub total-more : (h : ℕ → ℕ → Handle) (p s : ℕ) (x : Handle) (d : ℕ) → count x ≤ count (h p s) + d → (t : ℕ) → total (put h p s x) t ≤ total h t + d
+unfolding total
+total-more h p s x d l t = sum-more (λ q. count (put h p s x q t)) (λ q. count (h q t)) p d peers elsewhere here
+  where
+    elsewhere : (q : ℕ) → (p ≡ q → ⊥) → count (put h p s x q t) ≤ count (h q t)
+    elsewhere q z = rw (upd-other h p q (upd (h p) s x) z) (omega arith)
+
+    here : count (put h p s x p t) ≤ count (h p t) + d
+    here = rw upd-same (upd-all (λ t y. count y ≤ count (h p t) + d) (h p) s x (λ t. omega arith) l t)
+
+count-handle : (i c : ℕ) → count (handleOf i c) ≡ c
+count-handle i zero = refl
+count-handle i (suc c) = refl
+
+given-more : (x : Handle) (n : ℕ) → givenAfter x n ≤ n + 1
+given-more none n = omega arith
+given-more (some i c) n = omega arith
+
+raised-give : (b : State) (p s : ℕ) → Raised b (give b p s) 1
+unfolding give withdraw withQueues withHandles withGiven
+raised-give b p s = go (look (isLive (b .life s)))
+  where
+    go : Seen (isLive (b .life s)) → Raised b (give b p s) 1
+    go (is-false e) = rw e (record { accepted = refl; sums = λ s. omega arith; given = λ p. omega arith })
+    go (is-true e) =
+        rw e
+        (record {
+          accepted = refl;
+          sums = total-more (b .handle) p s (handleOf (shown b p s) (count (b .handle p s) + 1)) 1 (rw count-handle (omega arith));
+          given = upd-all (λ q n. n ≤ b .given q + 1) (b .given) p (givenAfter (b .handle p s) (b .given p)) (λ q. omega arith) (given-more (b .handle p s) (b .given p));
+        })
+
+raised-giveAll : (b : State) (p : ℕ) (ss : List ℕ) → Raised b (giveAll b p ss) (length ss)
+raised-giveAll b p [] = raised-none b b refl refl refl
+raised-giveAll b p (s ∷ ss) =
+    raised-more b (giveAll (give b p s) p ss) (1 + length ss) (suc (length ss)) (raised-trans b (give b p s) (giveAll (give b p s) p ss) 1 (length ss) (raised-give b p s) (raised-giveAll (give b p s) p ss)) (omega arith)
+
+raised-receive : (b : State) (p : ℕ) (q : List Entry) → Noted b → b .queue p ≡ q → Raised b (receives b p q) mostIds
+unfolding takeOut withCharges withQueues
+raised-receive b p [] n e = raised-more b b 0 mostIds (raised-none b b refl refl refl) (omega arith)
+raised-receive b p (destroyed k s ∷ q) n e = raised-more b (takeOut b p [] q) 0 mostIds (raised-none b (takeOut b p [] q) refl refl refl) (omega arith)
+raised-receive b p (released k s ∷ q) n e = raised-more b (takeOut b p [] q) 0 mostIds (raised-none b (takeOut b p [] q) refl refl refl) (omega arith)
+raised-receive b p (message k m ∷ q) n e =
+    let a : All (Stands (b .handle) (b .life) p) (message k m ∷ q) = rw e at (n .stands p) in
+    let c : State = takeOut b p (m ∷ []) q in
+    raised-more b (giveAll c p (m .carried)) (0 + length (m .carried)) mostIds
+    (raised-trans b c (giveAll c p (m .carried)) 0 (length (m .carried)) (raised-none b c refl refl refl) (raised-giveAll c p (m .carried))) (omega (arith, a .0 .2 .0))
+
+raised-create : (b : State) (p i : ℕ) → Raised b (creates b p i) 1
+unfolding creates withHandles withLives
+raised-create b p i =
+    record { accepted = refl; given = λ q. omega arith; sums = total-more (b .handle) p (p * slots + freePlace b p) (handleOf i 1) 1 (omega arith) }
+
+raised-notify : (a b : State) (s : ℕ) → Raised b (notify a b s) 0
+unfolding notify withQueues
+raised-notify a b s =
+    pick-all (λ c. Raised b c 0) (fell a b s) (push b _ _) b (record { accepted = refl; sums = λ s. omega arith; given = λ p. omega arith }) (raised-none b b refl refl refl)
+
+raised-release : (b : State) (p s i c : ℕ) → b .handle p s ≡ some i c → Raised b (releases b p s i c) 0
+unfolding releases forget takeOut withCharges withQueues withHandles
+raised-release b p s i c e = raised-trans b now (notify b now s) 0 0 less (raised-notify b now s)
+  where
+    down : State
+    down = withHandle b p s (handleOf i (c - 1))
+
+    now : State
+    now = pick (eqb c 1) (forget down p s) down
+
+    under : (t : ℕ) → total (put (b .handle) p s (handleOf i (c - 1))) t ≤ total (b .handle) t + 0
+    under = total-more (b .handle) p s (handleOf i (c - 1)) 0 (rw (count-handle, e) (omega arith))
+
+    less : Raised b now 0
+    less =
+        pick-all (λ x. Raised b x 0) (eqb c 1) (forget down p s) down (record { accepted = refl; sums = under; given = λ p. omega arith })
+        (record { accepted = refl; sums = under; given = λ p. omega arith })
+
+raised-releases : (b : State) (p s : ℕ) (x : Handle) → b .handle p s ≡ x → Raised b (releasesHandle b p s x) 0
+raised-releases b p s none e = raised-none b b refl refl refl
+raised-releases b p s (some i c) e = raised-release b p s i c e
+
+raised-disconnect : (b : State) (p : ℕ) → Raised b (disconnects b p) 0
+unfolding disconnects notifyAll pushAll withStatus withHandles takeOut withCharges withQueues destroyAll withLives withdraw
+raised-disconnect b p = record { accepted = refl; given = λ q. omega arith; sums = less }
+  where
+    less : (s : ℕ) → total (upd (b .handle) p (λ s. none)) s ≤ total (b .handle) s + 0
+    less s =
+        unfold total in
+        sum-more (λ q. count (upd (b .handle) p (λ s. none) q s)) (λ q. count (b .handle q s)) p 0 peers
+        (λ q z. rw (upd-other (b .handle) p q (λ s. none) z) (omega arith)) (rw upd-same (omega arith))
+
+-- One more command, that raises the numbers by at most 8.
+bounded-next : (b c : State) (d : ℕ) → Bounded b → b .accepted < mostCommands → Raised (accept b) c d → d ≤ mostIds → Bounded c
+unfolding accept
+bounded-next b c d n l r m =
+    let e : c .accepted ≡ b .accepted + 1 = r .accepted in
+    record { few = omega arith; sums = λ s. rw e (omega (arith, n .sums s, r .sums s)); given = λ p. rw e (omega (arith, n .given p, r .given p)) }
+
+bounded-start : Bounded start
+unfolding start total
+bounded-start = record { few = omega arith; given = λ p. omega arith; sums = λ s. omega (arith, sum-zero peers) }
+
+bounded-kept : Kept (λ b. Noted b × Bounded b)
+unfolding effect
+bounded-kept b f k x g e = (noted-kept b f k (x .0) g e, go k g e)
+  where
+    go : (k : Command) → Legal f k → refusal b f k ≡ 0 → Bounded (effect b f k)
+    go (Open p u) g e = bounded-next b (opens (accept b) (p .0) (u .0)) 0 (x .1) (tested b f (Open p u) e .room) (unfold opens withUser withStatus in raised-none (accept b) _ refl refl refl) (omega arith)
+    go (Disconnect p) g e = bounded-next b _ 0 (x .1) (tested b f (Disconnect p) e .room) (raised-disconnect (accept b) (p .0)) (omega arith)
+    go (Create p i) g e = bounded-next b _ 1 (x .1) (tested b f (Create p i) e .acting .room) (raised-create (accept b) (p .0) (i .0)) (omega arith)
+    go (Destroy p i) g e =
+        bounded-next b (destroys (accept b) (p .0) (slot b (p .0) (i .0))) 0 (x .1) (tested b f (Destroy p i) e .acting .room)
+        (unfold destroys destroyAll pushAll withQueues withLives withdraw in raised-none (accept b) _ refl refl refl) (omega arith)
+    go (Release p i) g e =
+        bounded-next b _ 0 (x .1) (tested b f (Release p i) e .acting .room)
+        (raised-releases (accept b) (p .0) (slot b (p .0) (i .0)) (b .handle (p .0) (slot b (p .0) (i .0))) (unfold accept in refl)) (omega arith)
+    go (Transfer p i q) g e = bounded-next b _ 1 (x .1) (tested b f (Transfer p i q) e .acting .room) (raised-give (accept b) (q .0) (slot b (p .0) (i .0))) (omega arith)
+    go (Send p z) g e =
+        bounded-next b (deliver (accept b) (b .user (p .0)) (map (slot b (p .0)) (destinations f z)) (map (slot b (p .0)) (attached f z)) (payloadOf f)) 0 (x .1)
+        (tested b f (Send p z) e .acting .room) (unfold deliver withCharges pushAll withQueues in raised-none (accept b) _ refl refl refl) (omega arith)
+    go (Receive p room) g e =
+        bounded-next b _ mostIds (x .1) (tested b f (Receive p room) e .acting .room)
+        (raised-receive (accept b) (p .0) (b .queue (p .0)) (unfold accept in x .0) (unfold accept in refl)) (omega arith)
+    go (Quota p u) g e = x .1
+    go (Holders p i) g e = x .1
+
+pub bounded : (cs : List Call) → Bounded (run cs)
+bounded cs = induction (λ b. Noted b × Bounded b) (noted-start, bounded-start) bounded-kept cs .1
