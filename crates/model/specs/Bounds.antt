@@ -2,7 +2,7 @@
 -- Assumes nothing.
 use Prim.Native.Nat.{ℕ, _+_, _*_, _≤_}
 use mathlib.Core.Bool.{Bool, true, false}
-use mathlib.Core.List.{List, [], _∷_}
+use mathlib.Core.List.{List}
 use Rattle.laws.specs.Weights.{load}
 use Rattle.frames.specs.Frame.{mostIds}
 use Rattle.model.specs.Numbers.{nodes, mostCommands}

@@ -1,23 +1,23 @@
 -- At most 188 entries in a queue, and bounds of the counts and of the given IDs, in every run.
 -- Assumes nothing.
 use Prim.Native.Nat.{ℕ, zero, suc, _+_, _-_, _*_, _≤_, _<_}
-use mathlib.Core.Path.{_≡_, refl, sym, ap, _∙_}
-use mathlib.Core.Bool.{Bool, true, false}
+use mathlib.Core.Path.{_≡_, refl, sym, _∙_}
+use mathlib.Core.Bool.{false}
 use mathlib.Core.List.{List, [], _∷_, map}
 use native.Mathlib.Omega.{arith}
 use lib.ListN.{length}
 use lib.Dec.{eqb}
-use borrow.Author.Tests.{eq-eqb, ne-eqb, eqb-true, eqb-false}
-use Rattle.laws.specs.Tests.{pick, Seen, Seen.is-true, Seen.is-false, look, Same, Same.same, Same.other, same?, pick-all}
+use borrow.Author.Tests.{eq-eqb, ne-eqb}
+use Rattle.laws.specs.Tests.{pick, Seen, Seen.is-true, Seen.is-false, look, clash, pick-all}
 use Rattle.laws.specs.Tables.{upd, upd-same, upd-other, upd-all}
 use Rattle.laws.specs.Sums.{sumTo, sum-ext, sum-at}
-use Rattle.laws.specs.Weights.{load, All, all-imp}
+use Rattle.laws.specs.Weights.{All, all-imp}
 use Rattle.frames.specs.declared.Command.{Command}
 use Rattle.frames.specs.declared.Command.the-variants.{Open, Disconnect, Create, Destroy, Release, Transfer, Send, Receive, Quota, Holders}
 use Rattle.frames.specs.Frame.{mostIds, payloadOf}
 use Rattle.frames.specs.Legal.{Legal}
-use Rattle.model.specs.Numbers.{peers, slots, nodes, mostCommands}
-use Rattle.model.specs.State.{Status.disconnected, isLive, Handle, Handle.none, Handle.some, handleOf, held, count, Message, Entry, Entry.message, Entry.destroyed, Entry.released, messagesIn, State, start, slot, total, freePlace}
+use Rattle.model.specs.Numbers.{peers, slots, nodes, mostCommands, invalid, nextId}
+use Rattle.model.specs.State.{isLive, Handle, Handle.none, Handle.some, handleOf, held, count, Entry, Entry.message, Entry.destroyed, Entry.released, messagesIn, State, start, slot, total, freePlace}
 use Rattle.model.specs.Requests.{destinations, attached}
 use Rattle.model.specs.Refusals.{refusal}
 use Rattle.model.specs.Tables.{accept, withStatus, withUser, withHandles, withHandle, withGiven, withQueues, withCharges, withLives}
@@ -26,11 +26,12 @@ use Rattle.model.specs.Effects.{opens, creates, destroys, releases, rele
 use Rattle.model.specs.Step.{Call, run}
 use Rattle.model.specs.Tested.{tested}
 use Rattle.model.specs.Accepted.{Kept, induction}
-use Rattle.model.specs.Notices.{noticeFor, noticesFor, Carried, Stands, Tidy, Noted}
-use Rattle.model.specs.Occurs.{load-none, sum-more}
+use Rattle.model.specs.Notices.{noticesFor, Stands, Noted}
+use Rattle.model.specs.Occurs.{sum-more}
 use Rattle.model.specs.NoticesTables.{put}
-use Rattle.model.specs.NoticesProof.{noted-start, noted-kept, noted}
-use Rattle.model.specs.Bounds.{isNotice, notices, mostMessages, mostEntries, Bounded}
+use Rattle.model.specs.NoticesFree.{holder-peer}
+use Rattle.model.specs.NoticesProof.{noted-start, noted-kept, noted, total-one}
+use Rattle.model.specs.Bounds.{notices, mostMessages, mostEntries, Bounded}
 
 -- A queue is its messages and its notices.
 pub queue-split : (q : List Entry) → length q ≡ length (messagesIn q) + notices q
@@ -232,3 +233,24 @@ bounded-kept b f k x g e = (noted-kept b f k (x .0) g e, go k g e)
 
 pub bounded : (cs : List Call) → Bounded (run cs)
 bounded cs = induction (λ b. Noted b × Bounded b) (noted-start, bounded-start) bounded-kept cs .1
+
+-- In plain numbers: 8 * (2^40 - 1) for a node's sum of counts and for a peer's given IDs, and so for one count; the next ID is below the invalid one.
+pub sum-bound : (cs : List Call) (s : ℕ) → total (run cs .handle) s ≤ 8796093022200
+sum-bound cs s = omega (arith, bounded cs .few, bounded cs .sums s)
+
+pub given-bound : (cs : List Call) (p : ℕ) → run cs .given p ≤ 8796093022200
+given-bound cs p = omega (arith, bounded cs .few, bounded cs .given p)
+
+pub next-bound : (cs : List Call) (p : ℕ) → nextId (run cs .given p) < invalid
+next-bound cs p = omega (arith, given-bound cs p)
+
+pub count-bound : (cs : List Call) (p s : ℕ) → count (run cs .handle p s) ≤ 8796093022200
+count-bound cs p s = go (look (held (run cs .handle p s)))
+  where
+    unheld : (x : Handle) → held x ≡ false → count x ≡ 0
+    unheld none e = refl
+    unheld (some i c) e = clash e
+
+    go : Seen (held (run cs .handle p s)) → count (run cs .handle p s) ≤ 8796093022200
+    go (is-false e) = omega (arith, unheld (run cs .handle p s) e)
+    go (is-true e) = omega (arith, total-one (run cs .handle) s p (holder-peer (run cs) p s (noted cs) e), sum-bound cs s)

@@ -22,5 +22,6 @@ pub mod NoticesTables
 pub mod NoticesEnds
 pub mod NoticesFree
 pub mod NoticesProof
+pub mod NoticesLife
 pub mod Bounds
 pub mod BoundsProof

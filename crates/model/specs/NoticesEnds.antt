@@ -1,22 +1,22 @@
 -- Notices kept where nodes are destroyed and where a peer opens or leaves.
 -- Assumes nothing.
-use Prim.Native.Nat.{ℕ, zero, suc, _+_, _*_, _≤_, _<_}
-use mathlib.Core.Path.{_≡_, refl, sym, ap, _∙_}
-use mathlib.Core.Bool.{Bool, true, false, not}
-use mathlib.Core.List.{List, [], _∷_, _++_, map}
+use Prim.Native.Nat.{ℕ, _<_}
+use mathlib.Core.Path.{_≡_, refl, sym, _∙_}
+use mathlib.Core.Bool.{Bool, true, false}
+use mathlib.Core.List.{[]}
 use native.Mathlib.Omega.{arith}
-use lib.Dec.{eqb, ltb}
-use borrow.Author.Tests.{eqb-true, eqb-false, eq-eqb, ne-eqb}
+use lib.Dec.{eqb}
+use borrow.Author.Tests.{eqb-true, eq-eqb}
 use Rattle.laws.specs.Tests.{pick, Seen, Seen.is-true, Seen.is-false, look, Same, Same.same, Same.other, same?, clash}
 use Rattle.laws.specs.Tables.{upd, upd-same, upd-other, upd-all, upd-rel}
-use Rattle.laws.specs.Weights.{load, keep, All, all-imp}
+use Rattle.laws.specs.Weights.{All, all-imp}
 use Rattle.quota.specs.Charges.{users}
 use Rattle.model.specs.Numbers.{peers, nodes, owner}
 use Rattle.model.specs.Lists.{both}
 use Rattle.model.specs.State.{Status, Status.unopened, Status.opened, Status.disconnected, Life, Life.dead, isLive, Handle, Handle.none, held, count, Entry, Entry.message, Entry.destroyed, Entry.released, State, noUser, total, byOwnerId}
 use Rattle.model.specs.Tables.{withStatus, withUser, withHandles, withQueues, withLives}
-use Rattle.model.specs.Changes.{withdraw, pushAll, atPeers, destroyNotices, destroyAll}
-use Rattle.model.specs.Notices.{times, noticeFor, noticesFor, Stands, Tidy, Noted}
+use Rattle.model.specs.Changes.{withdraw, destroyNotices, destroyAll}
+use Rattle.model.specs.Notices.{noticeFor, noticesFor, Stands, Noted}
 use Rattle.model.specs.Occurs.{no, both-true, all-both, load-none}
 use Rattle.model.specs.Rising.{owner-pass, owner-once}
 use Rattle.model.specs.NoticesQueues.{noted-withdraw, Without, withdraw-without, noted-pushAll}

@@ -1,19 +1,19 @@
 -- A peer that is not open has an empty queue; a slot that does not count is named by nothing, and a created node takes such a slot.
 -- Assumes nothing.
-use Prim.Native.Nat.{ℕ, zero, suc, _+_, _*_, _≤_, _<_}
-use mathlib.Core.Path.{_≡_, refl, sym, ap, _∙_}
-use mathlib.Core.Bool.{Bool, true, false, not}
+use Prim.Native.Nat.{ℕ, _+_, _*_, _≤_, _<_}
+use mathlib.Core.Path.{_≡_, refl, sym, _∙_}
+use mathlib.Core.Bool.{true, false, not}
 use mathlib.Core.List.{List, [], _∷_}
 use native.Mathlib.Omega.{arith}
 use lib.Dec.{eqb, ltb}
 use borrow.Author.Tests.{eqb-true, ltb-true, ltb-false, not-true}
-use Rattle.laws.specs.Tests.{pick, Seen, Seen.is-true, Seen.is-false, look, clash}
+use Rattle.laws.specs.Tests.{Seen, Seen.is-true, Seen.is-false, look}
 use Rattle.laws.specs.Search.{first, first-found}
-use Rattle.laws.specs.Weights.{All, all-imp}
-use Rattle.model.specs.Numbers.{peers, slots, nodes, owner}
+use Rattle.laws.specs.Weights.{All}
+use Rattle.model.specs.Numbers.{peers, slots}
 use Rattle.model.specs.Lists.{either, any}
-use Rattle.model.specs.State.{Status, Status.unopened, Status.opened, isLive, Handle, held, Message, Entry, Entry.message, Entry.destroyed, Entry.released, messagesIn, State, heldByAny, names, named, counts, freePlace}
-use Rattle.model.specs.Notices.{Stands, Tidy, Noted, mentions, Unnamed}
+use Rattle.model.specs.State.{Status, Status.unopened, Status.opened, isLive, held, Entry, Entry.message, Entry.destroyed, Entry.released, messagesIn, State, heldByAny, names, named, counts, freePlace}
+use Rattle.model.specs.Notices.{Stands, Noted, mentions, Unnamed}
 use Rattle.model.specs.Occurs.{no, either-false, any-below}
 use Rattle.model.specs.NoticesEnds.{unopened-opened}
 

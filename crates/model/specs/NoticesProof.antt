@@ -1,37 +1,36 @@
 -- Every accepted command keeps `Noted`; so every run leaves it.
 -- Assumes nothing.
-use Prim.Native.Nat.{ℕ, zero, suc, _+_, _-_, _*_, _/_, _≤_, _<_}
-use mathlib.Core.Path.{_≡_, refl, sym, ap, _∙_}
-use mathlib.Core.Bool.{Bool, true, false, not}
+use Prim.Native.Nat.{ℕ, suc, _+_, _-_, _*_, _≤_, _<_}
+use mathlib.Core.Path.{_≡_, refl, sym}
+use mathlib.Core.Bool.{true, false}
 use mathlib.Core.List.{List, [], _∷_, map}
 use native.Mathlib.Omega.{arith}
-use lib.ListN.{length, length-map}
-use lib.Dec.{eqb, ltb}
+use lib.ListN.{length-map}
+use lib.Dec.{eqb}
 use borrow.Author.Tests.{eqb-true, eqb-false, eq-eqb, ne-eqb}
 use Rattle.laws.specs.Tests.{pick, Seen, Seen.is-true, Seen.is-false, look, Same, Same.same, Same.other, same?, clash}
-use Rattle.laws.specs.Tables.{upd, upd-same}
+use Rattle.laws.specs.Tables.{upd-same}
 use Rattle.laws.specs.Build.{build-length}
 use Rattle.laws.specs.Weights.{All, all-imp}
-use Rattle.frames.specs.declared.Command.{Command}
 use Rattle.frames.specs.declared.Command.the-variants.{Open, Disconnect, Create, Destroy, Release, Transfer, Send, Receive, Quota, Holders}
 use Rattle.frames.specs.declared.Sizes.{Sizes}
 use Rattle.frames.specs.Frame.{payloadOf}
-use Rattle.frames.specs.Legal.{Legal, Sized}
+use Rattle.frames.specs.Legal.{Sized}
 use Rattle.model.specs.Numbers.{peers, slots, nodes, owner}
 use Rattle.model.specs.Lists.{both}
-use Rattle.model.specs.State.{Status, Status.opened, Status.disconnected, Life, Life.live, isLive, Handle, Handle.none, Handle.some, handleOf, held, count, Message, Entry, Entry.message, Entry.destroyed, Entry.released, messagesIn, State, start, slot, total, counts, heldByAny, named, freePlace}
+use Rattle.model.specs.State.{Status.opened, Status.disconnected, Life, isLive, Handle, Handle.none, Handle.some, handleOf, held, count, Entry, Entry.message, Entry.destroyed, Entry.released, messagesIn, State, start, slot, total, counts, freePlace}
 use Rattle.model.specs.Requests.{destinations, attached}
-use Rattle.model.specs.Refusals.{pinned, refusal}
-use Rattle.model.specs.Tables.{accept, withStatus, withUser, withHandles, withHandle, withGiven, withQueues, withCharges, withLives}
-use Rattle.model.specs.Changes.{takeOut, withdraw, give, giveAll, forget, notify, notifyAll, pushAll, destroyAll, deliver}
+use Rattle.model.specs.Refusals.{pinned}
+use Rattle.model.specs.Tables.{accept, withStatus, withHandles, withHandle, withGiven, withQueues, withCharges, withLives}
+use Rattle.model.specs.Changes.{takeOut, withdraw, give, giveAll, forget, notify, pushAll, destroyAll}
 use Rattle.model.specs.Effects.{opens, creates, destroys, releases, releasesHandle, disconnects, receives, effect}
 use Rattle.model.specs.Step.{Call, run}
-use Rattle.model.specs.Tested.{Acting, TestedRelease, TestedSend, tested}
+use Rattle.model.specs.Tested.{tested}
 use Rattle.model.specs.Accepted.{Kept, induction}
-use Rattle.model.specs.Notices.{noticeFor, noticesFor, Carried, Stands, Tidy, Noted, mentions, Unnamed}
-use Rattle.model.specs.Occurs.{no, both-true, all-map, sum-one}
+use Rattle.model.specs.Notices.{noticeFor, Carried, Stands, Noted, mentions, Unnamed}
+use Rattle.model.specs.Occurs.{no, all-map, sum-one}
 use Rattle.model.specs.NoticesQueues.{noted-accept, noted-out, noted-first, noted-forget, Lone, lone, noted-notify, noted-notifyAll, noted-deliver}
-use Rattle.model.specs.NoticesTables.{put, put-same, total-two, noted-put, Unreleased, unreleased, noted-give, forget-needless, noted-drop, noted-born}
+use Rattle.model.specs.NoticesTables.{put, total-two, noted-put, unreleased, noted-give, forget-needless, noted-drop, noted-born}
 use Rattle.model.specs.NoticesEnds.{lives-dead, noted-destroyAll, noted-leave, noted-open}
 use Rattle.model.specs.NoticesFree.{holder-peer, created-unnamed}
 

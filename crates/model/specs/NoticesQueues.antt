@@ -1,24 +1,24 @@
 -- Notices kept by every change of queues alone: entries taken out, withdrawn, queued.
 -- Assumes nothing.
-use Prim.Native.Nat.{ℕ, zero, suc, _+_, _*_, _≤_, _<_}
+use Prim.Native.Nat.{ℕ, _+_, _≤_, _<_}
 use mathlib.Core.Path.{_≡_, refl, sym, ap, _∙_}
-use mathlib.Core.Bool.{Bool, true, false, not}
+use mathlib.Core.Bool.{Bool, true, false}
 use mathlib.Core.Logic.{_⊎_}
 use mathlib.Core.Logic._⊎_.{inl, inr}
 use mathlib.Core.List.{List, [], _∷_, _++_, map}
 use native.Mathlib.Omega.{arith}
 use lib.Dec.{eqb, ltb}
-use borrow.Author.Tests.{eqb-true, eqb-false, eq-eqb, ne-eqb, ltb-true, not-true}
+use borrow.Author.Tests.{eqb-true, ltb-true, not-true}
 use Rattle.laws.specs.Tests.{pick, Seen, Seen.is-true, Seen.is-false, look, Same, Same.same, Same.other, same?, clash, pick-cases}
 use Rattle.laws.specs.Tables.{upd, upd-same, upd-other, upd-all}
-use Rattle.laws.specs.Weights.{load, keep, All, load-append, all-append, all-imp, all-keep}
-use Rattle.model.specs.Numbers.{peers, nodes, owner}
+use Rattle.laws.specs.Weights.{keep, All, load-append, all-append, all-imp, all-keep}
+use Rattle.model.specs.Numbers.{peers, owner}
 use Rattle.model.specs.Lists.{both}
-use Rattle.model.specs.State.{Life, isLive, Handle, held, count, Message, Entry, Entry.message, Entry.destroyed, Entry.released, messagesIn, State, total, byOwnerId}
-use Rattle.model.specs.Tables.{withGiven, withQueues, withQueue, withCharges, accept}
+use Rattle.model.specs.State.{isLive, Handle, held, Message, Entry, Entry.message, Entry.destroyed, Entry.released, messagesIn, State, total, byOwnerId}
+use Rattle.model.specs.Tables.{withQueues, withQueue, withCharges, accept}
 use Rattle.model.specs.Changes.{push, pushAll, atPeers, takeOut, notReleased, withdraw, dropped, remains, forget, fell, notify, releaseNotices, notifyAll, arriving, deliver}
-use Rattle.model.specs.Notices.{times, noticeFor, noticesFor, Carried, Stands, Tidy, Noted}
-use Rattle.model.specs.Occurs.{no, both-true, keep-imp, load-none, load-keep, load-map, all-map, times-all}
+use Rattle.model.specs.Notices.{times, noticeFor, noticesFor, Carried, Stands, Noted}
+use Rattle.model.specs.Occurs.{no, both-true, keep-imp, load-none, load-keep, all-map, times-all}
 use Rattle.model.specs.Rising.{owner-pass, owner-once}
 
 pub noted-accept : (b : State) → Noted b → Noted (accept b)

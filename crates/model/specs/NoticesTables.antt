@@ -1,27 +1,23 @@
 -- Notices kept by every change of handles, lives and statuses.
 -- Assumes nothing.
-use Prim.Native.Nat.{ℕ, zero, suc, _+_, _*_, _≤_, _<_}
+use Prim.Native.Nat.{ℕ, suc, _+_, _≤_, _<_}
 use mathlib.Core.Path.{_≡_, refl, sym, ap, _∙_}
-use mathlib.Core.Bool.{Bool, true, false, not}
-use mathlib.Core.List.{List, [], _∷_, _++_, map}
+use mathlib.Core.Bool.{true, false}
 use native.Mathlib.Omega.{arith}
 use native.Mathlib.Numerals.{add-one}
-use lib.Dec.{eqb, ltb}
-use borrow.Author.Tests.{eqb-true, eqb-false, eq-eqb, ne-eqb, not-true}
-use Rattle.laws.specs.Tests.{pick, Seen, Seen.is-true, Seen.is-false, look, Same, Same.same, Same.other, same?, clash, pick-cases}
+use lib.Dec.{eqb}
+use borrow.Author.Tests.{eqb-false, eq-eqb, not-true}
+use Rattle.laws.specs.Tests.{Seen, Seen.is-true, Seen.is-false, look, Same, Same.same, Same.other, same?, clash}
 use Rattle.laws.specs.Tables.{upd, upd-same, upd-other, upd-all}
-use Rattle.laws.specs.Sums.{sumTo, sum-ext}
-use Rattle.laws.specs.Weights.{load, keep, All, all-imp}
-use Rattle.quota.specs.Charges.{users}
-use Rattle.model.specs.Numbers.{peers, slots, nodes, owner}
-use Rattle.model.specs.Lists.{both}
-use Rattle.model.specs.State.{Status, Status.unopened, Status.opened, Status.disconnected, Life, Life.live, Life.dead, isLive, Handle, Handle.none, Handle.some, handleOf, held, count, Message, Entry, Entry.message, Entry.destroyed, Entry.released, messagesIn, State, noUser, total, byOwnerId}
-use Rattle.model.specs.Tables.{withStatus, withUser, withGiven, withHandles, withHandle, withQueues, withQueue, withCharges, withLives}
-use Rattle.model.specs.Changes.{takeOut, notReleased, withdraw, shown, givenAfter, give, giveAll, dropped, remains, forget, pushAll, atPeers, destroyNotices, destroyAll}
-use Rattle.model.specs.Notices.{times, noticeFor, noticesFor, Carried, Stands, Tidy, Noted}
-use Rattle.model.specs.Occurs.{no, both-true, keep-imp, all-both, load-none, sum-two}
-use Rattle.model.specs.Rising.{owner-pass, owner-once}
-use Rattle.model.specs.NoticesQueues.{noted-queues, noted-withdraw, Without, withdraw-without, noted-forget, noted-pushAll}
+use Rattle.laws.specs.Sums.{sum-ext}
+use Rattle.laws.specs.Weights.{All, all-imp}
+use Rattle.model.specs.Numbers.{peers, nodes, owner}
+use Rattle.model.specs.State.{Status.opened, Life.live, isLive, Handle, Handle.none, handleOf, held, count, Entry, Entry.message, Entry.destroyed, Entry.released, State, total}
+use Rattle.model.specs.Tables.{withGiven, withHandles, withHandle, withQueues, withCharges, withLives}
+use Rattle.model.specs.Changes.{takeOut, withdraw, shown, give, dropped, remains, forget}
+use Rattle.model.specs.Notices.{noticeFor, Stands, Noted}
+use Rattle.model.specs.Occurs.{no, keep-imp, all-both, sum-two}
+use Rattle.model.specs.NoticesQueues.{noted-withdraw, Without, withdraw-without}
 
 -- A sum of counts reads the counts of one slot.
 pub total-ext : (h g : ℕ → ℕ → Handle) (s : ℕ) → ((q : ℕ) → count (h q s) ≡ count (g q s)) → total h s ≡ total g s

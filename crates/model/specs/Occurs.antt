@@ -2,16 +2,16 @@
 -- Assumes nothing.
 use Prim.Native.Nat.{ℕ, zero, suc, _+_, _≤_, _<_}
 use mathlib.Core.Path.{_≡_, refl, sym, ap, _∙_}
-use mathlib.Core.Bool.{Bool, true, false, not}
+use mathlib.Core.Bool.{Bool, true, false}
 use mathlib.Core.Logic.{_⊎_}
 use mathlib.Core.Logic._⊎_.{inl, inr}
-use mathlib.Core.List.{List, [], _∷_, _++_, map}
+use mathlib.Core.List.{List, [], _∷_, map}
 use native.Mathlib.Omega.{arith}
-use lib.Dec.{eqb, ltb}
-use borrow.Author.Tests.{eqb-true, eqb-false, eq-eqb}
+use lib.Dec.{eqb}
+use borrow.Author.Tests.{eqb-true, eqb-false}
 use Rattle.laws.specs.Tests.{pick, Seen, Seen.is-true, Seen.is-false, look, clash}
-use Rattle.laws.specs.Tables.{upd, upd-same, upd-other}
-use Rattle.laws.specs.Sums.{sumTo, sum-ext, sum-upd}
+use Rattle.laws.specs.Tables.{upd, upd-other}
+use Rattle.laws.specs.Sums.{sumTo, sum-upd}
 use Rattle.laws.specs.Weights.{load, keep, All, load-split}
 use Rattle.model.specs.Lists.{both, either, anyBelow}
 use Rattle.model.specs.Notices.{times}

@@ -1,14 +1,14 @@
 -- The places by ascending key: each passes, no two have one key. The slots of an owner by ascending owner ID.
 -- Assumes nothing.
 use Prim.Native.Nat.{ℕ, zero, suc, _+_, _*_, _≤_, _<_}
-use mathlib.Core.Path.{_≡_, refl, sym, ap, _∙_}
+use mathlib.Core.Path.{_≡_, ap}
 use mathlib.Core.Bool.{Bool, true, false}
 use mathlib.Core.List.{List, [], _∷_, map}
 use native.Mathlib.Omega.{arith}
 use lib.Dec.{eqb, ltb}
 use borrow.Author.Tests.{ltb-true, eqb-true}
 use Rattle.laws.specs.Tests.{pick, Seen, Seen.is-true, Seen.is-false, look}
-use Rattle.laws.specs.Weights.{load, All, all-imp}
+use Rattle.laws.specs.Weights.{All, all-imp}
 use Rattle.model.specs.Numbers.{slots, owner}
 use Rattle.model.specs.Lists.{both, Found, Found.nowhere, Found.at, lower, least, follow, rising}
 use Rattle.model.specs.State.{Handle, ownerId, byOwnerId}
