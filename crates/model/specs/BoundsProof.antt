@@ -1,23 +1,21 @@
--- At most 188 entries in a queue, and bounds of the counts and of the given IDs, in every run.
+-- Bounds of the counts and of the given IDs in every run.
 -- Assumes nothing.
-use Prim.Native.Nat.{ℕ, zero, suc, _+_, _-_, _*_, _≤_, _<_}
-use mathlib.Core.Path.{_≡_, refl, sym, _∙_}
+use Prim.Native.Nat.{ℕ, suc, _+_, _-_, _*_, _≤_, _<_}
+use mathlib.Core.Path.{_≡_, refl, _∙_}
 use mathlib.Core.Bool.{false}
 use mathlib.Core.List.{List, [], _∷_, map}
 use native.Mathlib.Omega.{arith}
 use lib.ListN.{length}
 use lib.Dec.{eqb}
-use borrow.Author.Tests.{eq-eqb, ne-eqb}
 use Rattle.laws.specs.Tests.{pick, Seen, Seen.is-true, Seen.is-false, look, clash, pick-all}
 use Rattle.laws.specs.Tables.{upd, upd-same, upd-other, upd-all}
-use Rattle.laws.specs.Sums.{sumTo, sum-ext, sum-at}
-use Rattle.laws.specs.Weights.{All, all-imp}
+use Rattle.laws.specs.Weights.{All}
 use Rattle.frames.specs.declared.Command.{Command}
 use Rattle.frames.specs.declared.Command.the-variants.{Open, Disconnect, Create, Destroy, Release, Transfer, Send, Receive, Quota, Holders}
 use Rattle.frames.specs.Frame.{mostIds, payloadOf}
 use Rattle.frames.specs.Legal.{Legal}
-use Rattle.model.specs.Numbers.{peers, slots, nodes, mostCommands, invalid, nextId}
-use Rattle.model.specs.State.{isLive, Handle, Handle.none, Handle.some, handleOf, held, count, Entry, Entry.message, Entry.destroyed, Entry.released, messagesIn, State, start, slot, total, freePlace}
+use Rattle.model.specs.Numbers.{peers, slots, mostCommands, invalid, nextId}
+use Rattle.model.specs.State.{isLive, Handle, Handle.none, Handle.some, handleOf, held, count, Entry, Entry.message, Entry.destroyed, Entry.released, State, start, slot, total, freePlace}
 use Rattle.model.specs.Requests.{destinations, attached}
 use Rattle.model.specs.Refusals.{refusal}
 use Rattle.model.specs.Tables.{accept, withStatus, withUser, withHandles, withHandle, withGiven, withQueues, withCharges, withLives}
@@ -26,68 +24,12 @@ use Rattle.model.specs.Effects.{opens, creates, destroys, releases, rele
 use Rattle.model.specs.Step.{Call, run}
 use Rattle.model.specs.Tested.{tested}
 use Rattle.model.specs.Accepted.{Kept, induction}
-use Rattle.model.specs.Notices.{noticesFor, Stands, Noted}
-use Rattle.model.specs.Occurs.{sum-more}
-use Rattle.model.specs.NoticesTables.{put}
+use Rattle.model.specs.Notices.{Stands, Noted}
+use Rattle.model.specs.Occurs.{sum-zero, sum-more}
+use Rattle.model.specs.Counts.{put, total-one, total-more, count-handle}
 use Rattle.model.specs.NoticesFree.{holder-peer}
-use Rattle.model.specs.NoticesProof.{noted-start, noted-kept, noted, total-one}
-use Rattle.model.specs.Bounds.{notices, mostMessages, mostEntries, Bounded}
-
--- A queue is its messages and its notices.
-pub queue-split : (q : List Entry) → length q ≡ length (messagesIn q) + notices q
-queue-split [] = refl
-queue-split (message n m ∷ q) = omega (arith, queue-split q)
-queue-split (destroyed n s ∷ q) = omega (arith, queue-split q)
-queue-split (released n s ∷ q) = omega (arith, queue-split q)
-
--- A notice is for one node below n.
-abbrev Within : ℕ → Entry → Type 0
-Within n (message k m) = Unit {0}
-Within n (destroyed k s) = s < n
-Within n (released k s) = s < n
-
--- A table that is all 0, or at most 1 at each place.
-sum-zero : (n : ℕ) → sumTo (λ s. 0) n ≡ 0
-unfolding sumTo
-sum-zero zero = refl
-sum-zero (suc n) = omega (arith, sum-zero n)
-
-sum-ones : (f : ℕ → ℕ) → ((s : ℕ) → f s ≤ 1) → (n : ℕ) → sumTo f n ≤ n
-unfolding sumTo
-sum-ones f h zero = omega arith
-sum-ones f h (suc n) = omega (arith, h n, sum-ones f h n)
-
--- One more notice for s.
-sum-next : (f : ℕ → ℕ) (s n : ℕ) → s < n → sumTo (λ t. pick (eqb s t) 1 0 + f t) n ≡ 1 + sumTo f n
-sum-next f s n l =
-    let e : _≡_ {A = ℕ} (pick (eqb s s) 1 0) 1 = rw (eq-eqb s s refl) in
-    omega (arith, sum-at (λ t. pick (eqb s t) 1 0 + f t) f s n l (λ t m d. rw (ne-eqb s t d) (omega arith)))
-
--- The notices of a queue are those for each node.
-pub notices-sum : (n : ℕ) (q : List Entry) → All (Within n) q → notices q ≡ sumTo (λ s. noticesFor s q) n
-notices-sum n [] a = sym (sum-zero n)
-notices-sum n (message k m ∷ q) a = omega (arith, notices-sum n q (a .1), sum-ext (λ s. noticesFor s q) (λ s. noticesFor s (message k m ∷ q)) n (λ s l. omega arith))
-notices-sum n (destroyed k t ∷ q) a = omega (arith, notices-sum n q (a .1), sum-next (λ s. noticesFor s q) t n (a .0))
-notices-sum n (released k t ∷ q) a = omega (arith, notices-sum n q (a .1), sum-next (λ s. noticesFor s q) t n (a .0))
-
--- At most one notice a node.
-pub notices-few : (b : State) (q : ℕ) → Noted b → notices (b .queue q) ≤ nodes
-notices-few b q n = omega (arith, notices-sum nodes (b .queue q) within, sum-ones (λ s. noticesFor s (b .queue q)) (n .once q) nodes)
-  where
-    one : (e : Entry) → Stands (b .handle) (b .life) q e → Within nodes e
-    one (message k m) a = tt
-    one (destroyed k s) a = n .holders q s (a .1) .1
-    one (released k s) a = n .holders q s (rw (a .1) at (n .owned s (a .0))) .1
-
-    within : All (Within nodes) (b .queue q)
-    within = all-imp (Stands (b .handle) (b .life) q) (Within nodes) one (b .queue q) (n .stands q)
-
-pub queue-few : (b : State) (q : ℕ) → Noted b → length (messagesIn (b .queue q)) ≤ mostMessages → length (b .queue q) ≤ mostEntries
-queue-few b q n l = omega (arith, queue-split (b .queue q), notices-few b q n)
-
--- Every run.
-pub queue-bound : (cs : List Call) (q : ℕ) → length (messagesIn (run cs .queue q)) ≤ mostMessages → length (run cs .queue q) ≤ mostEntries
-queue-bound cs q l = queue-few (run cs) q (noted cs) l
+use Rattle.model.specs.NoticesProof.{noted-start, noted-kept, noted}
+use Rattle.model.specs.Bounds.{Bounded}
 
 -- Numbers that a change raises by at most d.
 pub record Raised (b c : State) (d : ℕ) : Type 0 where
@@ -105,21 +47,6 @@ raised-more b c d e x l = record { accepted = x .accepted; sums = λ s. omega (a
 raised-none : (b c : State) → c .accepted ≡ b .accepted → c .handle ≡ b .handle → c .given ≡ b .given → Raised b c 0
 raised-none b c e h g = record { accepted = e; sums = λ s. rw h (omega arith); given = λ p. rw g (omega arith) }
 
--- One handle changed.
-pub total-more : (h : ℕ → ℕ → Handle) (p s : ℕ) (x : Handle) (d : ℕ) → count x ≤ count (h p s) + d → (t : ℕ) → total (put h p s x) t ≤ total h t + d
-unfolding total
-total-more h p s x d l t = sum-more (λ q. count (put h p s x q t)) (λ q. count (h q t)) p d peers elsewhere here
-  where
-    elsewhere : (q : ℕ) → (p ≡ q → ⊥) → count (put h p s x q t) ≤ count (h q t)
-    elsewhere q z = rw (upd-other h p q (upd (h p) s x) z) (omega arith)
-
-    here : count (put h p s x p t) ≤ count (h p t) + d
-    here = rw upd-same (upd-all (λ t y. count y ≤ count (h p t) + d) (h p) s x (λ t. omega arith) l t)
-
-count-handle : (i c : ℕ) → count (handleOf i c) ≡ c
-count-handle i zero = refl
-count-handle i (suc c) = refl
-
 given-more : (x : Handle) (n : ℕ) → givenAfter x n ≤ n + 1
 given-more none n = omega arith
 given-more (some i c) n = omega arith
@@ -134,7 +61,7 @@ raised-give b p s = go (look (isLive (b .life s)))
         rw e
         (record {
           accepted = refl;
-          sums = total-more (b .handle) p s (handleOf (shown b p s) (count (b .handle p s) + 1)) 1 (rw count-handle (omega arith));
+          sums = total-more (b .handle) p s (handleOf (shown b p s) (suc (count (b .handle p s)))) 1 (omega arith);
           given = upd-all (λ q n. n ≤ b .given q + 1) (b .given) p (givenAfter (b .handle p s) (b .given p)) (λ q. omega arith) (given-more (b .handle p s) (b .given p));
         })
 
@@ -200,7 +127,7 @@ raised-disconnect b p = record { accepted = refl; given = λ q. omega arith; sum
 bounded-next : (b c : State) (d : ℕ) → Bounded b → b .accepted < mostCommands → Raised (accept b) c d → d ≤ mostIds → Bounded c
 unfolding accept
 bounded-next b c d n l r m =
-    let e : c .accepted ≡ b .accepted + 1 = r .accepted in
+    let e : c .accepted ≡ suc (b .accepted) = r .accepted in
     record { few = omega arith; sums = λ s. rw e (omega (arith, n .sums s, r .sums s)); given = λ p. rw e (omega (arith, n .given p, r .given p)) }
 
 bounded-start : Bounded start

@@ -19,6 +19,7 @@ pub mod Tested
 pub mod Accepted
 pub mod Notices
 pub mod Occurs
+pub mod Counts
 pub mod Rising
 pub mod NoticesQueues
 pub mod NoticesTables
@@ -26,5 +27,7 @@ pub mod NoticesEnds
 pub mod NoticesFree
 pub mod NoticesProof
 pub mod NoticesLife
+pub mod Rooms
+pub mod RoomsProof
 pub mod Bounds
 pub mod BoundsProof

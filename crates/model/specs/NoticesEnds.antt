@@ -20,7 +20,7 @@ use Rattle.model.specs.Notices.{noticeFor, noticesFor, Stands, Noted}
 use Rattle.model.specs.Occurs.{no, both-true, all-both, load-none}
 use Rattle.model.specs.Rising.{owner-pass, owner-once}
 use Rattle.model.specs.NoticesQueues.{noted-withdraw, Without, withdraw-without, noted-pushAll}
-use Rattle.model.specs.NoticesTables.{total-ext, total-two}
+use Rattle.model.specs.Counts.{total-ext, total-two}
 
 pub unopened-opened : {A : Type 0} → _≡_ {A = Status} unopened opened → A
 unopened-opened e = let z : _≡_ {A = ℕ} 0 1 = cc in absurd (omega arith)

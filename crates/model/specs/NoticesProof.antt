@@ -1,6 +1,6 @@
 -- Every accepted command keeps `Noted`; so every run leaves it.
 -- Assumes nothing.
-use Prim.Native.Nat.{ℕ, suc, _+_, _-_, _*_, _≤_, _<_}
+use Prim.Native.Nat.{ℕ, suc, _+_, _-_, _*_, _<_}
 use mathlib.Core.Path.{_≡_, refl, sym}
 use mathlib.Core.Bool.{true, false}
 use mathlib.Core.List.{List, [], _∷_, map}
@@ -28,9 +28,10 @@ use Rattle.model.specs.Step.{Call, run}
 use Rattle.model.specs.Tested.{tested}
 use Rattle.model.specs.Accepted.{Kept, induction}
 use Rattle.model.specs.Notices.{noticeFor, Carried, Stands, Noted, mentions, Unnamed}
-use Rattle.model.specs.Occurs.{no, all-map, sum-one}
+use Rattle.model.specs.Occurs.{no, all-map}
+use Rattle.model.specs.Counts.{put, total-one, total-two}
 use Rattle.model.specs.NoticesQueues.{noted-accept, noted-out, noted-first, noted-forget, Lone, lone, noted-notify, noted-notifyAll, noted-deliver}
-use Rattle.model.specs.NoticesTables.{put, total-two, noted-put, unreleased, noted-give, forget-needless, noted-drop, noted-born}
+use Rattle.model.specs.NoticesTables.{noted-put, unreleased, noted-give, forget-needless, noted-drop, noted-born}
 use Rattle.model.specs.NoticesEnds.{lives-dead, noted-destroyAll, noted-leave, noted-open}
 use Rattle.model.specs.NoticesFree.{holder-peer, created-unnamed}
 
@@ -76,10 +77,6 @@ noted-create b p i n op l f = noted-born (withHandle b p s (handleOf i 1)) s set
         one (released k t) z = ne-eqb t s (λ y. eqb-false s t z (sym y))
 
 -- Release.
-pub total-one : (h : ℕ → ℕ → Handle) (s p : ℕ) → p < peers → count (h p s) ≤ total h s
-unfolding total
-total-one h s p l = sum-one (λ q. count (h q s)) p peers l
-
 -- A node that its holder may release is not a live one whose sum is 1.
 pub unpinned-more : (b : State) (p s : ℕ) → Noted b → held (b .handle p s) ≡ true → pinned b p s ≡ false → isLive (b .life s) ≡ true → total (b .handle) s ≡ 1 → ⊥
 unpinned-more b p s n h f l e = go (same? (owner s) p)

@@ -1,53 +1,22 @@
 -- Notices kept by every change of handles, lives and statuses.
 -- Assumes nothing.
-use Prim.Native.Nat.{ℕ, suc, _+_, _≤_, _<_}
+use Prim.Native.Nat.{ℕ, suc, _<_}
 use mathlib.Core.Path.{_≡_, refl, sym, ap, _∙_}
 use mathlib.Core.Bool.{true, false}
 use native.Mathlib.Omega.{arith}
-use native.Mathlib.Numerals.{add-one}
 use lib.Dec.{eqb}
 use borrow.Author.Tests.{eqb-false, eq-eqb, not-true}
 use Rattle.laws.specs.Tests.{Seen, Seen.is-true, Seen.is-false, look, Same, Same.same, Same.other, same?, clash}
 use Rattle.laws.specs.Tables.{upd, upd-same, upd-other, upd-all}
-use Rattle.laws.specs.Sums.{sum-ext}
 use Rattle.laws.specs.Weights.{All, all-imp}
-use Rattle.model.specs.Numbers.{peers, nodes, owner}
+use Rattle.model.specs.Numbers.{nodes, owner}
 use Rattle.model.specs.State.{Status.opened, Life.live, isLive, Handle, Handle.none, handleOf, held, count, Entry, Entry.message, Entry.destroyed, Entry.released, State, total}
 use Rattle.model.specs.Tables.{withGiven, withHandles, withHandle, withQueues, withCharges, withLives}
 use Rattle.model.specs.Changes.{takeOut, withdraw, shown, give, dropped, remains, forget}
 use Rattle.model.specs.Notices.{noticeFor, Stands, Noted}
-use Rattle.model.specs.Occurs.{no, keep-imp, all-both, sum-two}
+use Rattle.model.specs.Occurs.{no, keep-imp, all-both}
+use Rattle.model.specs.Counts.{put, put-all, put-other, total-other}
 use Rattle.model.specs.NoticesQueues.{noted-withdraw, Without, withdraw-without}
-
--- A sum of counts reads the counts of one slot.
-pub total-ext : (h g : ℕ → ℕ → Handle) (s : ℕ) → ((q : ℕ) → count (h q s) ≡ count (g q s)) → total h s ≡ total g s
-unfolding total
-total-ext h g s e = sum-ext (λ q. count (h q s)) (λ q. count (g q s)) peers (λ q l. e q)
-
--- The handles with p's handle to s changed.
-abbrev pub put : (ℕ → ℕ → Handle) → ℕ → ℕ → Handle → ℕ → ℕ → Handle
-put h p s x = upd h p (upd (h p) s x)
-
-pub put-all : (P : ℕ → ℕ → Handle → Type 0) (h : ℕ → ℕ → Handle) (p s : ℕ) (x : Handle) → ((q t : ℕ) → P q t (h q t)) → P p s x → (q t : ℕ) → P q t (put h p s x q t)
-put-all P h p s x a e = upd-all (λ q g. (t : ℕ) → P q t (g t)) h p (upd (h p) s x) a (upd-all (P p) (h p) s x (a p) e)
-
-pub put-other : (h : ℕ → ℕ → Handle) (p s : ℕ) (x : Handle) (q t : ℕ) → (s ≡ t → ⊥) → put h p s x q t ≡ h q t
-put-other h p s x q t d = go (same? p q)
-  where
-    go : Same p q → put h p s x q t ≡ h q t
-    go (same e) = rw (← e, upd-same, upd-other (h p) s t x d)
-    go (other e) = rw (upd-other h p q (upd (h p) s x) e)
-
-pub put-same : (h : ℕ → ℕ → Handle) (p s : ℕ) (x : Handle) → put h p s x p s ≡ x
-put-same h p s x = rw (upd-same, upd-same)
-
-pub total-other : (h : ℕ → ℕ → Handle) (p s : ℕ) (x : Handle) (t : ℕ) → (s ≡ t → ⊥) → total (put h p s x) t ≡ total h t
-total-other h p s x t d = total-ext (put h p s x) h t (λ q. ap count (put-other h p s x q t d))
-
--- Two peers' counts are within the sum.
-pub total-two : (h : ℕ → ℕ → Handle) (s p q : ℕ) → p < peers → q < peers → (p ≡ q → ⊥) → count (h p s) + count (h q s) ≤ total h s
-unfolding total
-total-two h s p q l m d = sum-two (λ q. count (h q s)) p q peers l m d
 
 -- No release notice stands for the node s.
 abbrev pub Unreleased : ℕ → Entry → Type 0
@@ -105,7 +74,7 @@ noted-give b p s n op ls = go (look (isLive (b .life s)))
     go : Seen (isLive (b .life s)) → Noted (give b p s)
     go (is-false e) = rw e n
     go (is-true e) =
-        rw (e, add-one) (noted-put (withdraw b (owner s) (eqb s)) p s (shown b p s) (count (b .handle p s)) (noted-withdraw b (owner s) (eqb s) n) op ls (unreleased-withdraw b s n))
+        rw e (noted-put (withdraw b (owner s) (eqb s)) p s (shown b p s) (count (b .handle p s)) (noted-withdraw b (owner s) (eqb s) n) op ls (unreleased-withdraw b s n))
 
 -- No entry at the peer needs its handle to s.
 abbrev pub Needless : ℕ → Entry → Type 0

@@ -8,10 +8,10 @@ use mathlib.Core.Logic._⊎_.{inl, inr}
 use mathlib.Core.List.{List, [], _∷_, map}
 use native.Mathlib.Omega.{arith}
 use lib.Dec.{eqb}
-use borrow.Author.Tests.{eqb-true, eqb-false}
+use borrow.Author.Tests.{eqb-true, eqb-false, eq-eqb, ne-eqb}
 use Rattle.laws.specs.Tests.{pick, Seen, Seen.is-true, Seen.is-false, look, clash}
 use Rattle.laws.specs.Tables.{upd, upd-other}
-use Rattle.laws.specs.Sums.{sumTo, sum-upd}
+use Rattle.laws.specs.Sums.{sumTo, sum-at, sum-upd}
 use Rattle.laws.specs.Weights.{load, keep, All, load-split}
 use Rattle.model.specs.Lists.{both, either, anyBelow}
 use Rattle.model.specs.Notices.{times}
@@ -100,3 +100,20 @@ sum-more f g i d (suc k) h e = go (look (eqb i k)) (sum-more f g i d k h e)
     go : Seen (eqb i k) → sumTo f k ≤ sumTo g k + d → sumTo f (suc k) ≤ sumTo g (suc k) + d
     go (is-true z) ih = let q : i ≡ k = eqb-true i k z in let y : f k ≤ g k + d = rw (← q) e in omega (arith, le k (omega arith))
     go (is-false z) ih = omega (arith, h k (eqb-false i k z))
+
+-- A table that is all 0, or at most 1 at each place.
+pub sum-zero : (n : ℕ) → sumTo (λ s. 0) n ≡ 0
+unfolding sumTo
+sum-zero zero = refl
+sum-zero (suc n) = omega (arith, sum-zero n)
+
+pub sum-ones : (f : ℕ → ℕ) → ((s : ℕ) → f s ≤ 1) → (n : ℕ) → sumTo f n ≤ n
+unfolding sumTo
+sum-ones f h zero = omega arith
+sum-ones f h (suc n) = omega (arith, h n, sum-ones f h n)
+
+-- A table that is higher by 1 at the place s.
+pub sum-next : (f : ℕ → ℕ) (s n : ℕ) → s < n → sumTo (λ t. pick (eqb s t) 1 0 + f t) n ≡ 1 + sumTo f n
+sum-next f s n l =
+    let e : _≡_ {A = ℕ} (pick (eqb s s) 1 0) 1 = rw (eq-eqb s s refl) in
+    omega (arith, sum-at (λ t. pick (eqb s t) 1 0 + f t) f s n l (λ t m d. rw (ne-eqb s t d) (omega arith)))
