@@ -68,7 +68,8 @@ raised-give b p s = go (look (isLive (b .life s)))
 raised-giveAll : (b : State) (p : ℕ) (ss : List ℕ) → Raised b (giveAll b p ss) (length ss)
 raised-giveAll b p [] = raised-none b b refl refl refl
 raised-giveAll b p (s ∷ ss) =
-    raised-more b (giveAll (give b p s) p ss) (1 + length ss) (suc (length ss)) (raised-trans b (give b p s) (giveAll (give b p s) p ss) 1 (length ss) (raised-give b p s) (raised-giveAll (give b p s) p ss)) (omega arith)
+    raised-more b (giveAll (give b p s) p ss) (1 + length ss) (suc (length ss))
+    (raised-trans b (give b p s) (giveAll (give b p s) p ss) 1 (length ss) (raised-give b p s) (raised-giveAll (give b p s) p ss)) (omega arith)
 
 raised-receive : (b : State) (p : ℕ) (q : List Entry) → Noted b → b .queue p ≡ q → Raised b (receives b p q) mostIds
 unfolding takeOut withCharges withQueues
@@ -139,7 +140,9 @@ unfolding effect
 bounded-kept b f k x g e = (noted-kept b f k (x .0) g e, go k g e)
   where
     go : (k : Command) → Legal f k → refusal b f k ≡ 0 → Bounded (effect b f k)
-    go (Open p u) g e = bounded-next b (opens (accept b) (p .0) (u .0)) 0 (x .1) (tested b f (Open p u) e .room) (unfold opens withUser withStatus in raised-none (accept b) _ refl refl refl) (omega arith)
+    go (Open p u) g e =
+        bounded-next b (opens (accept b) (p .0) (u .0)) 0 (x .1) (tested b f (Open p u) e .room)
+        (unfold opens withUser withStatus in raised-none (accept b) _ refl refl refl) (omega arith)
     go (Disconnect p) g e = bounded-next b _ 0 (x .1) (tested b f (Disconnect p) e .room) (raised-disconnect (accept b) (p .0)) (omega arith)
     go (Create p i) g e = bounded-next b _ 1 (x .1) (tested b f (Create p i) e .acting .room) (raised-create (accept b) (p .0) (i .0)) (omega arith)
     go (Destroy p i) g e =

@@ -29,9 +29,6 @@ put-other h p s x q t d = go (same? p q)
     go (same e) = rw (← e, upd-same, upd-other (h p) s t x d)
     go (other e) = rw (upd-other h p q (upd (h p) s x) e)
 
-pub put-same : (h : ℕ → ℕ → Handle) (p s : ℕ) (x : Handle) → put h p s x p s ≡ x
-put-same h p s x = rw (upd-same, upd-same)
-
 pub total-other : (h : ℕ → ℕ → Handle) (p s : ℕ) (x : Handle) (t : ℕ) → (s ≡ t → ⊥) → total (put h p s x) t ≡ total h t
 total-other h p s x t d = total-ext (put h p s x) h t (λ q. ap count (put-other h p s x q t d))
 

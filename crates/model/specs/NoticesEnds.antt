@@ -77,7 +77,8 @@ module _ (b : State) (p : ℕ) (t : ℕ → Bool) (k : ℕ) where
       one q (released j s) z = (rw (lives-kept s (z .1)) (z .0 .0), z .0 .1, z .0 .2)
 
 -- No notice stands for a live node whose release notice was withdrawn.
-none-stands : (b : State) (p : ℕ) (t : ℕ → Bool) (q s : ℕ) → Noted b → All (Without p t) (b .queue q) → isLive (b .life s) ≡ true → owner s ≡ p → t s ≡ true → noticesFor s (b .queue q) ≡ 0
+none-stands : (b : State) (p : ℕ) (t : ℕ → Bool) (q s : ℕ) → Noted b → All (Without p t) (b .queue q) → isLive (b .life s) ≡ true → owner s ≡ p →
+    t s ≡ true → noticesFor s (b .queue q) ≡ 0
 none-stands b p t q s n a l o e =
     load-none (noticeFor s) (λ x. 1) (b .queue q)
     (all-imp (λ x. Stands (b .handle) (b .life) q x × Without p t x) (λ x. noticeFor s x ≡ false) (λ x z. one x z (look (noticeFor s x))) (b .queue q)
@@ -94,7 +95,8 @@ pub noted-destroyAll : (b : State) (p : ℕ) (t : ℕ → Bool) → Noted b → 
 unfolding destroyAll destroyNotices
 noted-destroyAll b p t n alive =
     noted-pushAll c (destroyed (b .accepted)) (λ q. byOwnerId (b .handle) p (λ s. both (t s) (held (b .handle q s)))) m (λ s u. refl)
-    (λ q. all-imp (λ s. (both (t s) (held (b .handle q s)) ≡ true) × (owner s ≡ p)) (λ s. Stands (c .handle) (c .life) q (destroyed (b .accepted) s) × (noticesFor s (c .queue q) ≡ 0))
+    (λ q. all-imp (λ s. (both (t s) (held (b .handle q s)) ≡ true) × (owner s ≡ p))
+    (λ s. Stands (c .handle) (c .life) q (destroyed (b .accepted) s) × (noticesFor s (c .queue q) ≡ 0))
     (λ s z. fresh q s (both-true (t s) (held (b .handle q s)) (z .0)) (z .1)) (byOwnerId (b .handle) p (λ s. both (t s) (held (b .handle q s))))
     (owner-pass (b .handle) p (λ s. both (t s) (held (b .handle q s)))))
     (λ q. owner-once (b .handle) p (λ s. both (t s) (held (b .handle q s))))
@@ -124,7 +126,8 @@ pub noted-leave : (b : State) (p : ℕ) → Noted b → b .status p ≡ opened �
 unfolding withStatus withHandles
 noted-leave b p n op empty d =
     record {
-      present = upd-all (λ q x. (x ≡ unopened → ⊥) → (q < peers) × (b .user q < users)) (b .status) p disconnected (n .present) (λ e. n .present p (λ z. unopened-opened (sym z ∙ op)));
+      present = upd-all (λ q x. (x ≡ unopened → ⊥) → (q < peers) × (b .user q < users)) (b .status) p disconnected (n .present)
+          (λ e. n .present p (λ z. unopened-opened (sym z ∙ op)));
       absent = upd-all (λ q x. x ≡ unopened → b .user q ≡ noUser) (b .status) p disconnected (n .absent) (λ e. unopened-disconnected e);
       holders = upd-rel (λ q x g. (s : ℕ) → held (g s) ≡ true → (x ≡ opened) × (s < nodes) × (0 < count (g s))) (b .status) (b .handle) p disconnected (λ s. none) (n .holders)
           (λ s e. clash (sym e));

@@ -113,7 +113,9 @@ noted-release b p s i c n e f = go (same? c 1)
     bare z l o = clash (rw (l, eq-eqb (owner s) p o, e, eq-eqb c 1 z) at f)
 
     gone : c ≡ 1 → Noted (forget (withHandle b p s none) p s)
-    gone z = unfold forget takeOut withCharges withQueues withHandles in noted-drop (forget b p s) p s fo (bare z) (forget-needless b p s n) (unreleased (forget b p s) s fo more)
+    gone z =
+        unfold forget takeOut withCharges withQueues withHandles in
+        noted-drop (forget b p s) p s fo (bare z) (forget-needless b p s n) (unreleased (forget b p s) s fo more)
 
     old : (q : ℕ) → All (Lone (b .handle)) (forget (withHandle b p s none) p s .queue q)
     old q = unfold forget takeOut withCharges withQueues withHandles in lone (forget b p s) fo q

@@ -26,7 +26,8 @@ unfolding accept
 noted-accept b n = n
 
 -- Other queues, of entries that stand rightly.
-pub noted-queues : (b : State) (qs : ℕ → List Entry) → Noted b → ((q : ℕ) → All (Stands (b .handle) (b .life) q) (qs q)) → ((q s : ℕ) → noticesFor s (qs q) ≤ 1) → Noted (withQueues b qs)
+pub noted-queues : (b : State) (qs : ℕ → List Entry) → Noted b → ((q : ℕ) → All (Stands (b .handle) (b .life) q) (qs q)) →
+    ((q s : ℕ) → noticesFor s (qs q) ≤ 1) → Noted (withQueues b qs)
 unfolding withQueues
 noted-queues b qs n a o = record { present = n .present; absent = n .absent; holders = n .holders; owned = n .owned; stands = a; once = o }
 
@@ -77,7 +78,8 @@ withdraw-without b p t n q = go (same? p q)
 
     go : Same p q → All (Without p t) (upd (b .queue) p (keep (notReleased t) (b .queue p)) q)
     go (same z) = rw (← z, upd-same) (keep-imp (Stands (b .handle) (b .life) p) (Without p t) (notReleased t) kept (b .queue p) (n .stands p))
-    go (other z) = rw (upd-other (b .queue) p q (keep (notReleased t) (b .queue p)) z) (all-imp (Stands (b .handle) (b .life) q) (Without p t) (elsewhere z) (b .queue q) (n .stands q))
+    go (other z) =
+        rw (upd-other (b .queue) p q (keep (notReleased t) (b .queue p)) z) (all-imp (Stands (b .handle) (b .life) q) (Without p t) (elsewhere z) (b .queue q) (n .stands q))
 
 -- What p's queue has that needs its handle to s goes.
 pub noted-forget : (b : State) (p s : ℕ) → Noted b → Noted (forget b p s)
@@ -88,8 +90,8 @@ noted-forget b p s n =
     (λ t. omega (arith, load-keep (noticeFor t) (λ e. 1) (remains p s) (b .queue p), n .once p t))
 
 -- One more notice for each slot of a list without repetition, for which no notice stands.
-pub once-append : (make : ℕ → Entry) → ((s t : ℕ) → noticeFor s (make t) ≡ eqb t s) → (q : List Entry) (new : List ℕ) → ((s : ℕ) → noticesFor s q ≤ 1) → ((s : ℕ) → times s new ≤ 1) →
-    All (λ s. noticesFor s q ≡ 0) new → (s : ℕ) → noticesFor s (q ++ map make new) ≤ 1
+pub once-append : (make : ℕ → Entry) → ((s t : ℕ) → noticeFor s (make t) ≡ eqb t s) → (q : List Entry) (new : List ℕ) → ((s : ℕ) → noticesFor s q ≤ 1) →
+    ((s : ℕ) → times s new ≤ 1) → All (λ s. noticesFor s q ≡ 0) new → (s : ℕ) → noticesFor s (q ++ map make new) ≤ 1
 once-append make same-slot q new o u a s = go (times-all (λ t. noticesFor t q ≡ 0) s new a)
   where
     made : (xs : List ℕ) → noticesFor s (map make xs) ≡ times s xs
@@ -146,7 +148,8 @@ noted-notify a b s n old =
     let f = fell-facts a b s e in
     noted-queue b (owner s) (b .queue (owner s) ++ (released (b .accepted) s ∷ [])) n
     (all-append (Stands (b .handle) (b .life) (owner s)) (b .queue (owner s)) (released (b .accepted) s ∷ []) (n .stands (owner s)) ((f .0, refl, f .2), tt))
-    (once-append (released (b .accepted)) (λ t u. refl) (b .queue (owner s)) (s ∷ []) (n .once (owner s)) (λ t. alone t (look (eqb s t))) (fell-none a b s (owner s) n (old (owner s)) e, tt)))
+    (once-append (released (b .accepted)) (λ t u. refl) (b .queue (owner s)) (s ∷ []) (n .once (owner s)) (λ t. alone t (look (eqb s t)))
+    (fell-none a b s (owner s) n (old (owner s)) e, tt)))
     (λ e. n)
   where
     alone : (t : ℕ) → Seen (eqb s t) → times t (s ∷ []) ≤ 1

@@ -25,7 +25,8 @@ Unreleased s (destroyed n t) = Unit {0}
 Unreleased s (released n t) = s ≡ t → ⊥
 
 -- A handle whose count is not 0.
-pub noted-put : (b : State) (p s i c : ℕ) → Noted b → b .status p ≡ opened → s < nodes → ((q : ℕ) → All (Unreleased s) (b .queue q)) → Noted (withHandle b p s (handleOf i (suc c)))
+pub noted-put : (b : State) (p s i c : ℕ) → Noted b → b .status p ≡ opened → s < nodes → ((q : ℕ) → All (Unreleased s) (b .queue q)) →
+    Noted (withHandle b p s (handleOf i (suc c)))
 unfolding withHandles
 noted-put b p s i c n op ls u =
     record {
@@ -132,7 +133,8 @@ noted-drop b p s n d a u =
         (all-both (Stands (b .handle) (b .life) q) (Unreleased s) (b .queue q) (n .stands q) (u q))
 
 -- A node is made.
-pub noted-born : (b : State) (s : ℕ) → Noted b → held (b .handle (owner s) s) ≡ true → ((q : ℕ) → All (λ e. noticeFor s e ≡ false) (b .queue q)) → Noted (withLives b (upd (b .life) s live))
+pub noted-born : (b : State) (s : ℕ) → Noted b → held (b .handle (owner s) s) ≡ true → ((q : ℕ) → All (λ e. noticeFor s e ≡ false) (b .queue q)) →
+    Noted (withLives b (upd (b .life) s live))
 unfolding withLives
 noted-born b s n h a =
     record {

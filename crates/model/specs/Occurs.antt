@@ -50,10 +50,6 @@ module _ {A : Type 0} where
   all-both P Q [] h k = tt
   all-both P Q (x ∷ xs) h k = ((h .0, k .0), all-both P Q xs (h .1) (k .1))
 
-  pub all-always : (P : A → Type 0) → ((x : A) → P x) → (xs : List A) → All P xs
-  all-always P f [] = tt
-  all-always P f (x ∷ xs) = (f x, all-always P f xs)
-
   -- what no element passes weighs nothing
   pub load-none : (t : A → Bool) (w : A → ℕ) (xs : List A) → All (λ x. t x ≡ false) xs → load t w xs ≡ 0
   load-none t w [] h = refl
@@ -61,10 +57,6 @@ module _ {A : Type 0} where
 
   pub load-keep : (t : A → Bool) (w : A → ℕ) (d : A → Bool) (xs : List A) → load t w (keep d xs) ≤ load t w xs
   load-keep t w d xs = omega (arith, load-split t w d xs)
-
-pub load-map : {A B : Type 0} (f : A → B) (t : B → Bool) (w : B → ℕ) (xs : List A) → load t w (map f xs) ≡ load (λ x. t (f x)) (λ x. w (f x)) xs
-load-map f t w [] = refl
-load-map f t w (x ∷ xs) = ap (λ (n : ℕ). pick (t (f x)) (w (f x)) 0 + n) (load-map f t w xs)
 
 pub all-map : {A B : Type 0} (P : B → Type 0) (f : A → B) (xs : List A) → All (λ x. P (f x)) xs → All P (map f xs)
 all-map P f [] a = tt
@@ -101,7 +93,7 @@ sum-more f g i d (suc k) h e = go (look (eqb i k)) (sum-more f g i d k h e)
     go (is-true z) ih = let q : i ≡ k = eqb-true i k z in let y : f k ≤ g k + d = rw (← q) e in omega (arith, le k (omega arith))
     go (is-false z) ih = omega (arith, h k (eqb-false i k z))
 
--- A table that is all 0, or at most 1 at each place.
+-- a table that is all 0, or at most 1 at each place
 pub sum-zero : (n : ℕ) → sumTo (λ s. 0) n ≡ 0
 unfolding sumTo
 sum-zero zero = refl
@@ -112,7 +104,7 @@ unfolding sumTo
 sum-ones f h zero = omega arith
 sum-ones f h (suc n) = omega (arith, h n, sum-ones f h n)
 
--- A table that is higher by 1 at the place s.
+-- a table that is higher by 1 at the place s
 pub sum-next : (f : ℕ → ℕ) (s n : ℕ) → s < n → sumTo (λ t. pick (eqb s t) 1 0 + f t) n ≡ 1 + sumTo f n
 sum-next f s n l =
     let e : _≡_ {A = ℕ} (pick (eqb s s) 1 0) 1 = rw (eq-eqb s s refl) in

@@ -61,8 +61,11 @@ rising-sorted t key n (suc f) = go (least t key n) (λ t′. rising-sorted t′ 
     go : (x : Found) → ((t′ : ℕ → Bool) → Sorted key (rising t′ key n f)) → Sorted key (follow x (λ i. rising (λ j. both (t j) (ltb (key i) (key j))) key n f))
     go nowhere ih = tt
     go (at i) ih =
-        let t′ : ℕ → Bool = λ j. both (t j) (ltb (key i) (key j)) in
-        (all-imp (λ j. (t′ j ≡ true) × (j < n)) (λ j. key i < key j) (λ j z. ltb-true (key i) (key j) (both-true (t j) (ltb (key i) (key j)) (z .0) .1)) (rising t′ key n f) (rising-pass t′ key n f), ih t′)
+        let t′ : ℕ → Bool = λ j. both (t j) (ltb (key i) (key j)) in (
+          all-imp (λ j. (t′ j ≡ true) × (j < n)) (λ j. key i < key j) (λ j z. ltb-true (key i) (key j) (both-true (t j) (ltb (key i) (key j)) (z .0) .1))
+              (rising t′ key n f) (rising-pass t′ key n f),
+          ih t′,
+        )
 
 sorted-map : (key : ℕ → ℕ) (f : ℕ → ℕ) (xs : List ℕ) → Sorted (λ k. key (f k)) xs → Sorted key (map f xs)
 sorted-map key f [] h = tt
