@@ -28,3 +28,16 @@ pub mod SimSend
 pub mod SimStep
 pub mod Shown
 pub mod SimIds
+pub mod Occurs
+pub mod Counts
+pub mod Rising
+pub mod NoticesQueues
+pub mod NoticesTables
+pub mod NoticesEnds
+pub mod NoticesFree
+pub mod NoticesProof
+pub mod NoticesLife
+pub mod Rooms
+pub mod RoomsProof
+pub mod Bounds
+pub mod BoundsProof
