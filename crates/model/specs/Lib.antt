@@ -41,3 +41,4 @@ pub mod Rooms
 pub mod RoomsProof
 pub mod Bounds
 pub mod BoundsProof
+pub mod SimRun
