@@ -17,3 +17,9 @@ pub mod Table
 pub mod Examples
 pub mod Tested
 pub mod Accepted
+pub mod Quiet
+pub mod Charged
+pub mod Charging
+pub mod Sending
+pub mod ChargedProof
+pub mod ChargedBounds
