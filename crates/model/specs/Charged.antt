@@ -30,9 +30,9 @@ queuedBy r u ms = load (fromUser u) (weightOf r) ms
 -- A queued message in its bounds.
 pub record Fine (m : Message) : Type 0 where
   pub from : m .user < users
-  pub toNode : m .to < nodes
+  pub to-node : m .to < nodes
   pub few : length (m .carried) ≤ mostIds
-  pub nodesOnly : All (λ s. s < nodes) (m .carried)
+  pub nodes-only : All (λ s. s < nodes) (m .carried)
   pub small : length (m .payload) ≤ mostBytes
 
 -- The messages queued at a peer and the users' charges there.

@@ -1,34 +1,34 @@
 -- The proof of Charged.antt: each small change of the state that is not quiet keeps the invariant, a command's effect is a composition of them, and so every run has it.
 -- Assumes nothing.
 use Prim.Native.Nat.{ℕ, _+_, _-_, _≤_, _<_}
-use mathlib.Core.Path.{_≡_, refl, sym, ap, _∙_}
+use mathlib.Core.Path.{_≡_, refl, _∙_}
 use mathlib.Core.Bool.{Bool, true, not}
 use mathlib.Core.List.{List, [], _∷_, _++_, map}
 use native.Mathlib.Omega.{arith}
 use lib.ListN.{length, length-map}
 use lib.Dec.{eqb}
 use Rattle.laws.specs.Tests.{pick, pick-all}
-use Rattle.laws.specs.Tables.{upd, upd-rel, upd-all}
-use Rattle.laws.specs.Weights.{load, keep, All, load-append, load-split, all-append, all-imp, all-keep}
-use Rattle.laws.specs.Build.{build, build-length}
-use Rattle.frames.specs.declared.Command.{Command}
+use Rattle.laws.specs.Tables.{upd-rel, upd-all}
+use Rattle.laws.specs.Weights.{load, keep, All, load-append, load-split, all-append, all-keep}
+use Rattle.laws.specs.Loads.{all-map}
+use Rattle.laws.specs.Build.{build-length}
 use Rattle.frames.specs.declared.Command.the-variants.{Open, Disconnect, Create, Destroy, Release, Transfer, Send, Receive, Quota, Holders}
 use Rattle.frames.specs.declared.Sizes.{Sizes}
 use Rattle.frames.specs.Frame.{mostIds, mostBytes, payloadOf}
-use Rattle.frames.specs.Legal.{Legal, Sized, payload-length}
+use Rattle.frames.specs.Legal.{Sized, payload-length}
 use Rattle.quota.specs.declared.Charge.{Charge}
 use Rattle.quota.specs.declared.Charges.{Charges}
-use Rattle.quota.specs.Charges.{users, own, freshCharges, charged}
-use Rattle.quota.specs.Step.{Reached, reached-fresh}
+use Rattle.quota.specs.Charges.{users, freshCharges, charged}
+use Rattle.quota.specs.Step.{reached-fresh}
 use Rattle.model.specs.Numbers.{nodes}
 use Rattle.model.specs.Resources.{Resource, amount}
-use Rattle.model.specs.State.{Status, Status.unopened, Status.opened, Status.disconnected, Handle, Handle.none, Handle.some, handleOf, isLive, Message, Entry, Entry.message, Entry.destroyed, Entry.released, messagesIn, State, start, slot}
+use Rattle.model.specs.State.{Status.opened, Status.disconnected, Handle, Handle.none, Handle.some, handleOf, isLive, Message, Entry, Entry.message, Entry.destroyed, Entry.released, messagesIn, State, start, slot}
 use Rattle.model.specs.Requests.{destinations, attached}
 use Rattle.model.specs.Tables.{accept, withStatus, withUser, withHandles, withHandle, withQueues, withCharges}
-use Rattle.model.specs.Refusals.{adds, fits, refusal}
-use Rattle.model.specs.Changes.{pushAll, chargeOf, dischargedAll, takeOut, dropped, remains, forget, destroyAll, arriving, deliver}
+use Rattle.model.specs.Refusals.{adds, fits}
+use Rattle.model.specs.Changes.{pushAll, dischargedAll, takeOut, dropped, remains, forget, destroyAll, arriving, deliver}
 use Rattle.model.specs.Effects.{opens, creates, destroys, releases, releasesHandle, disconnects, receives, effect}
-use Rattle.model.specs.Tested.{Acting, TestedSend, Holds, tested}
+use Rattle.model.specs.Tested.{Acting, TestedSend, tested}
 use Rattle.model.specs.Step.{Call, run}
 use Rattle.model.specs.Accepted.{Kept, induction}
 use Rattle.model.specs.Charged.{weightOf, fromUser, queuedBy, Fine, Sound, Known, Charged}
@@ -40,7 +40,7 @@ use Rattle.model.specs.Sending.{fits-room, arriving-load, arriving-fine}
 sound-fresh : Sound [] freshCharges
 sound-fresh = record { sums = fresh-at; reached = reached-fresh; fine = tt }
 
-charged-start : Charged start
+pub charged-start : Charged start
 unfolding start
 charged-start = record { at = λ q. sound-fresh; known = λ q. refl }
 
@@ -79,7 +79,7 @@ unfolding forget
 charged-forget b p s h =
     let ms = messagesIn (b .queue p) in
     let k : messagesIn (keep (remains p s) (b .queue p)) ≡ keep (λ m. not (dropped p s m)) ms =
-        messages-keep (remains p s) (λ m. not (dropped p s m)) (λ n m. refl) (b .queue p) in
+    messages-keep (remains p s) (λ m. not (dropped p s m)) (λ n m. refl) (b .queue p) in
     charged-takeOut b p (keep (dropped p s) ms) (keep (remains p s) (b .queue p)) h
     (λ t w. rw k (load-split t w (dropped p s) ms))
     (rw k (all-keep Fine (λ m. not (dropped p s m)) ms (h .at p .fine)))
@@ -116,7 +116,7 @@ charged-opens : (b : State) (p u : ℕ) → Charged b → u < users → Charged 
 unfolding opens withStatus withUser
 charged-opens b p u h l = record { at = h .at; known = upd-rel (λ q s u. Known s u) (b .status) (b .user) p opened u (h .known) l }
 
-known-open : (b : State) (p : ℕ) → Charged b → b .status p ≡ opened → b .user p < users
+pub known-open : (b : State) (p : ℕ) → Charged b → b .status p ≡ opened → b .user p < users
 known-open b p h e = rw e at (h .known p)
 
 charged-leaves : (b : State) (p : ℕ) → Charged b → b .user p < users → Charged (withStatus b p disconnected)
@@ -157,10 +157,6 @@ charged-receives b p (released n s ∷ q) e h =
     let f : All Fine (messagesIn q) = rw e at (h .at p .fine) in
     charged-takeOut b p [] q h (λ t w. rw e (omega arith)) f
 
-all-map : {A B : Type 0} (f : A → B) (P : B → Type 0) (xs : List A) → All (λ x. P (f x)) xs → All P (map f xs)
-all-map f P [] h = tt
-all-map f P (x ∷ xs) h = (h .0, all-map f P xs (h .1))
-
 charged-send : (b : State) (p : ℕ) (f : List ℕ) (z : Sizes) → Charged b → Sized f z → TestedSend b p (destinations f z) (attached f z) (length (payloadOf f)) →
     Charged (deliver (accept b) (b .user p) (map (slot b p) (destinations f z)) (map (slot b p) (attached f z)) (payloadOf f))
 unfolding fits accept
@@ -175,23 +171,23 @@ charged-send b p f z h s t =
     (rw length-map (t .fitting))
 
 -- Every accepted command.
-kept : Kept Charged
+pub kept-charged : Kept Charged
 unfolding effect creates destroys accept
-kept b f (Open p u) h l e = charged-opens (accept b) (p .0) (u .0) (charged-quiet (quiet-accept b) h) (omega (arith, l .1))
-kept b f (Disconnect p) h l e =
+kept-charged b f (Open p u) h l e = charged-opens (accept b) (p .0) (u .0) (charged-quiet (quiet-accept b) h) (omega (arith, l .1))
+kept-charged b f (Disconnect p) h l e =
     let t : Acting b (p .0) = tested b f (Disconnect p) e in
     charged-disconnects (accept b) (p .0) (charged-quiet (quiet-accept b) h) (known-open b (p .0) h (t .is-open))
-kept b f (Create p i) h l e = charged-quiet (quiet-then (quiet-then (quiet-accept b) (quiet-lives _ _)) (quiet-handles _ _ _)) h
-kept b f (Destroy p i) h l e = charged-quiet (quiet-then (quiet-accept b) (quiet-destroyAll (accept b) (p .0) _)) h
-kept b f (Release p i) h l e =
+kept-charged b f (Create p i) h l e = charged-quiet (quiet-then (quiet-then (quiet-accept b) (quiet-lives _ _)) (quiet-handles _ _ _)) h
+kept-charged b f (Destroy p i) h l e = charged-quiet (quiet-then (quiet-accept b) (quiet-destroyAll (accept b) (p .0) _)) h
+kept-charged b f (Release p i) h l e =
     let s = slot b (p .0) (i .0) in
     charged-releases-handle (accept b) (p .0) s (b .handle (p .0) s) (charged-quiet (quiet-accept b) h)
-kept b f (Transfer p i q) h l e = charged-quiet (quiet-then (quiet-accept b) (quiet-give (accept b) (q .0) _)) h
-kept b f (Send p z) h l e = charged-send b (p .0) f z h (l .1) (tested b f (Send p z) e)
-kept b f (Receive p room) h l e = charged-receives (accept b) (p .0) (b .queue (p .0)) refl (charged-quiet (quiet-accept b) h)
-kept b f (Quota p u) h l e = h
-kept b f (Holders p i) h l e = h
+kept-charged b f (Transfer p i q) h l e = charged-quiet (quiet-then (quiet-accept b) (quiet-give (accept b) (q .0) _)) h
+kept-charged b f (Send p z) h l e = charged-send b (p .0) f z h (l .1) (tested b f (Send p z) e)
+kept-charged b f (Receive p room) h l e = charged-receives (accept b) (p .0) (b .queue (p .0)) refl (charged-quiet (quiet-accept b) h)
+kept-charged b f (Quota p u) h l e = h
+kept-charged b f (Holders p i) h l e = h
 
 -- Every run.
 pub always-charged : (cs : List Call) → Charged (run cs)
-always-charged cs = induction Charged charged-start kept cs
+always-charged cs = induction Charged charged-start kept-charged cs

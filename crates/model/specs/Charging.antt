@@ -1,9 +1,9 @@
 -- The users' charges at one peer, over any resource: what a charge and discharges leave of a user's own number, and when a charge keeps them within the share theorem.
 -- Assumes nothing.
-use Prim.Native.Nat.{ℕ, zero, suc, _+_, _-_, _*_, _/_, _≤_, _<_, min}
+use Prim.Native.Nat.{ℕ, _+_, _-_, _≤_, _<_, min}
 use mathlib.Core.Path.{_≡_, refl, sym, ap, _∙_}
-use mathlib.Core.Bool.{Bool, true}
-use mathlib.Core.List.{List, [], _∷_, map}
+use mathlib.Core.Bool.{true}
+use mathlib.Core.List.{List, [], _∷_}
 use native.Mathlib.Omega.{arith}
 use lib.ListN.{length, getD, set, length-map, length-set, getD-replicate}
 use lib.Seq.{getD-set-same, getD-set-other, map-set-same}
@@ -104,7 +104,7 @@ room-allowed c u a h e =
       small =
           λ r.
           let t : amount r (own c u) + amount r a ≤ half (limit r) (othersOf (amount r) c u) =
-              leb-true _ _ (at-resource (λ L f. allows1 L f c u a ≡ true) (allows-every c u a e) r) in
+          leb-true _ _ (at-resource (λ L f. allows1 L f c u a ≡ true) (allows-every c u a e) r) in
           omega (arith, small-limit r);
     }
 

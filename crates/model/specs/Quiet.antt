@@ -2,12 +2,13 @@
 -- Assumes nothing.
 use Prim.Native.Nat.{ℕ}
 use mathlib.Core.Path.{_≡_, refl, ap, _∙_}
-use mathlib.Core.Bool.{Bool, true, false, not}
+use mathlib.Core.Bool.{Bool, true}
 use mathlib.Core.List.{List, [], _∷_, _++_, map, append-nil}
 use lib.Dec.{eqb, ltb}
-use Rattle.laws.specs.Tests.{pick, pick-all, Seen, Seen.is-true, Seen.is-false, look}
-use Rattle.laws.specs.Tables.{upd, upd-all}
+use Rattle.laws.specs.Tests.{pick-all, Seen, Seen.is-true, Seen.is-false, look}
+use Rattle.laws.specs.Tables.{upd-all}
 use Rattle.laws.specs.Weights.{keep}
+use Rattle.laws.specs.Loads.{keep-every}
 use Rattle.model.specs.Numbers.{peers, owner}
 use Rattle.model.specs.Lists.{both}
 use Rattle.model.specs.State.{Life, isLive, Handle, held, Message, Entry, Entry.message, Entry.destroyed, Entry.released, messagesIn, State, byOwnerId}
@@ -44,10 +45,6 @@ messages-keep t d h (message n m ∷ q) = go (look (d m)) (messages-keep t d h q
     go (is-false e) ih = rw (h n m, e) ih
 messages-keep t d h (destroyed n s ∷ q) = pick-all (λ x. messagesIn x ≡ keep d (messagesIn q)) (t (destroyed n s)) _ _ (messages-keep t d h q) (messages-keep t d h q)
 messages-keep t d h (released n s ∷ q) = pick-all (λ x. messagesIn x ≡ keep d (messagesIn q)) (t (released n s)) _ _ (messages-keep t d h q) (messages-keep t d h q)
-
-keep-every : {A : Type 0} (xs : List A) → keep (λ x. true) xs ≡ xs
-keep-every [] = refl
-keep-every (x ∷ xs) = ap (_∷_ x) (keep-every xs)
 
 destroyed-silent : (n : ℕ) (ss : List ℕ) → messagesIn (map (destroyed n) ss) ≡ []
 destroyed-silent n [] = refl

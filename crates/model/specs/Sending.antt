@@ -1,9 +1,9 @@
 -- A send at each peer: the test at each destination's peer says of every peer that the send does not go there or that the test passed there; what arrives there,
 -- and what it adds there of any resource.
 -- Assumes nothing.
-use Prim.Native.Nat.{ℕ, zero, suc, _+_, _*_, _/_, _^_, _≤_, _<_}
-use mathlib.Core.Path.{_≡_, refl, sym, ap, _∙_}
-use mathlib.Core.Bool.{Bool, true, false}
+use Prim.Native.Nat.{ℕ, _+_, _*_, _/_, _^_, _≤_, _<_}
+use mathlib.Core.Path.{_≡_, refl, _∙_}
+use mathlib.Core.Bool.{Bool, true}
 use mathlib.Core.Logic.{_⊎_}
 use mathlib.Core.Logic._⊎_.{inl, inr}
 use mathlib.Core.List.{List, [], _∷_, map}
@@ -19,7 +19,7 @@ use Rattle.quota.specs.Step.{Reached, reached-share}
 use Rattle.model.specs.Numbers.{nodes, owner}
 use Rattle.model.specs.Resources.{Resource, Resource.messages, Resource.bytes, Resource.handles, weigh, amount, share}
 use Rattle.model.specs.Lists.{every}
-use Rattle.model.specs.State.{Message, Entry, Entry.message, messagesIn, State}
+use Rattle.model.specs.State.{Message, Entry.message, messagesIn, State}
 use Rattle.model.specs.Refusals.{placesAt, adds, fits}
 use Rattle.model.specs.Changes.{arriving}
 use Rattle.model.specs.Tested.{every-all}
@@ -78,11 +78,11 @@ fits-room b u ds nb nh h e q = go (visited Allowed q ds (every-all _ ds e))
     go (inr a) = room-allowed (b .charges q) (record { 0 = u }) (adds q ds nb nh) (h q) a
 
 -- A send within the share at each peer that it goes to fits.
-pub share-fits : (b : State) (u : ℕ) (ds : List ℕ) (nb nh : ℕ) → ((q : ℕ) → Reached (b .charges q)) → u < users →
+pub reached-fits : (b : State) (u : ℕ) (ds : List ℕ) (nb nh : ℕ) → ((q : ℕ) → Reached (b .charges q)) → u < users →
     ((q : ℕ) (r : Resource) → 0 < placesAt q ds → amount r (own (b .charges q) (record { 0 = u })) + placesAt q ds * weigh r nb nh ≤ share r) →
     fits b u ds nb nh ≡ true
 unfolding fits
-share-fits b u ds nb nh h l s =
+reached-fits b u ds nb nh h l s =
     all-every _ ds
     (all-imp (λ d. 0 < placesAt (owner d) ds) (λ d. allowsAll (b .charges (owner d)) (record { 0 = u }) (adds (owner d) ds nb nh) ≡ true)
     (λ d g.
@@ -109,7 +109,7 @@ module _ (n u : ℕ) (hs payload : List ℕ) where
   sent-fine : u < users → All (λ s. s < nodes) hs → length hs ≤ mostIds → length payload ≤ mostBytes → (xs : List ℕ) → All (λ s. s < nodes) xs →
       All Fine (messagesIn (map (λ d. message n (sent d)) xs))
   sent-fine l a f s [] h = tt
-  sent-fine l a f s (x ∷ xs) h = (record { from = l; toNode = h .0; few = f; nodesOnly = a; small = s }, sent-fine l a f s xs (h .1))
+  sent-fine l a f s (x ∷ xs) h = (record { from = l; to-node = h .0; few = f; nodes-only = a; small = s }, sent-fine l a f s xs (h .1))
 
 pub arriving-load : (b : State) (u : ℕ) (ds hs payload : List ℕ) (q : ℕ) (r : Resource) (v : ℕ) →
     queuedBy r v (messagesIn (arriving b u ds hs payload q)) ≡ pick (eqb u v) (amount r (adds q ds (length payload) (length hs))) 0
