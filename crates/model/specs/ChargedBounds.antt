@@ -46,7 +46,7 @@ sound-within ms c r h = rw (sound-sum ms c r h) at (share-unused (reached-at c (
 
 -- Every run, at every peer q.
 module _ (cs : List Call) (q : ℕ) where
-  queued-within : (r : Resource) → queuedAll r (messagesIn (run cs .queue q)) + share r ≤ limit r
+  pub queued-within : (r : Resource) → queuedAll r (messagesIn (run cs .queue q)) + share r ≤ limit r
   queued-within r = sound-within _ (run cs .charges q) r (always-charged cs .at q)
 
   pub at-most-60-messages : length (messagesIn (run cs .queue q)) ≤ 60

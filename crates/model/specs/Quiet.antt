@@ -113,4 +113,5 @@ pub quiet-destroyAll : (b : State) (p : ℕ) (t : ℕ → Bool) → Quiet b (des
 unfolding destroyAll destroyNotices
 quiet-destroyAll b p t =
     quiet-then (quiet-then (quiet-withdraw b p t) (quiet-lives _ _))
-    (quiet-pushAll _ (atPeers (destroyNotices b p t)) (λ q. at-peers-silent (destroyNotices b p t) q (destroyed-silent (b .accepted) (byOwnerId (b .handle) p (λ s. both (t s) (held (b .handle q s)))))))
+    (quiet-pushAll _ (atPeers (destroyNotices b p t)) (λ q.
+    at-peers-silent (destroyNotices b p t) q (destroyed-silent (b .accepted) (byOwnerId (b .handle) p (λ s. both (t s) (held (b .handle q s)))))))
