@@ -42,3 +42,9 @@ pub mod RoomsProof
 pub mod Bounds
 pub mod BoundsProof
 pub mod SimRun
+pub mod Quiet
+pub mod Charged
+pub mod Charging
+pub mod Sending
+pub mod ChargedProof
+pub mod ChargedBounds
