@@ -48,3 +48,4 @@ pub mod Charging
 pub mod Sending
 pub mod ChargedProof
 pub mod ChargedBounds
+pub mod Demand
