@@ -77,13 +77,15 @@ fields-rest f z l s =
     pick-cases (InFrame f) (eqb op 5) _ _ (λ e. (acts f 5 e, refl)) (λ n5.
     pick-cases (InFrame f) (eqb op 6) _ _ (λ e. unless f (ltb lastPeer (getD f 10 0)) _ (acts f 6 e, refl)) (λ n6.
     pick-cases (InFrame f) (eqb op 8) _ _ (λ e. acts f 8 e) (λ n8.
-    pick-cases (InFrame f) (eqb op 9) _ _ (λ e. unless f (ltb lastUser (getD f 2 0)) _ (acts f 9 e, refl)) (λ n9.
-      (record {
+    pick-cases (InFrame f) (eqb op 9) _ _ (λ e. unless f (ltb lastUser (getD f 2 0)) _ (acts f 9 e, refl)) (λ n9. (
+      record {
         command =
             ten op z l s (eqb-false op 1 n1) (eqb-false op 2 n2) (eqb-false op 3 n3) (eqb-false op 4 n4) (eqb-false op 5 n5) (eqb-false op 6 n6) (eqb-false op 8 n8)
             (eqb-false op 9 n9);
         peer = refl;
-      }, refl)))))))))
+      },
+      refl,
+    )))))))))
   where
     ten : (n : ℕ) → (n ≡ 0 → ⊥) → n ≤ 10 → (n ≡ 7 → ⊥) → (n ≡ 1 → ⊥) → (n ≡ 2 → ⊥) → (n ≡ 3 → ⊥) → (n ≡ 4 → ⊥) → (n ≡ 5 → ⊥) → (n ≡ 6 → ⊥) → (n ≡ 8 → ⊥) → (n ≡ 9 → ⊥) → n ≡ 10
     ten n z l s a b c d e g h i = ends n l (above 9 n (above 8 n (above 7 n (above 6 n (above 5 n (above 4 n (above 3 n (above 2 n (above 1 n (above 0 n (zero-least n) z) a) b) c) d) e) g) s) h) i)
@@ -95,13 +97,13 @@ fields f =
     unless f (eqb (length f) 0) _
     (pick-cases (InFrame f) (known (opcode f)) _ (Refused ENOTTY)
     (λ k.
-      let x = pick-else (eqb (opcode f) 0) false true (λ z. clash (sym z)) k in
-      pick-cases (InFrame f) (eqb (opcode f) 7) (parseSend f) (parseOther f)
-      (λ e. fields-send f (eqb-true (opcode f) 7 e))
-      (λ e.
-        pick-all (InFrame f) (eqb (length f) (frameLength (opcode f))) _ (Refused EINVAL)
-        (unless f (ltb lastPeer (getD f 1 0)) _ (fields-rest f (eqb-false (opcode f) 0 (x .0)) (leb-true (opcode f) 10 (x .1)) (eqb-false (opcode f) 7 e)))
-        tt))
+    let x = pick-else (eqb (opcode f) 0) false true (λ z. clash (sym z)) k in
+    pick-cases (InFrame f) (eqb (opcode f) 7) (parseSend f) (parseOther f)
+    (λ e. fields-send f (eqb-true (opcode f) 7 e))
+    (λ e.
+    pick-all (InFrame f) (eqb (length f) (frameLength (opcode f))) _ (Refused EINVAL)
+    (unless f (ltb lastPeer (getD f 1 0)) _ (fields-rest f (eqb-false (opcode f) 0 (x .0)) (leb-true (opcode f) 10 (x .1)) (eqb-false (opcode f) 7 e)))
+    tt))
     (λ k. tt))
 
 -- A frame that was read.

@@ -123,13 +123,13 @@ assured name b k f s h x within =
     let n : nodesOf k p (destinations f z) ≡ map (called name) (map (slot b p) (destinations f z)) = nodes-of-slots name b k s p (destinations f z) (g .holds) in
     share-never-refused b h p (destinations f z) (attached f z) (length (payloadOf f))
     (λ q r places.
-      let w : 0 < length (keep (ownedBy q) (nodesOf k p (destinations f z))) →
-              pick (ltb (k .user p) users) (queued k q (k .user p) r) 0 + length (keep (ownedBy q) (nodesOf k p (destinations f z))) * weigh r (z .nb) (z .nh) ≤ share r
-            = rw (e, a) (within q r) in
-      let v = rw (n, places-is name q (map (slot b p) (destinations f z)), s .users p, lt-ltb (b .user p) users l) at w in
-      let nb : length (payloadOf f) ≡ z .nb = payload-length f z sized in
-      let nh : length (attached f z) ≡ z .nh = build-length (λ j. sendId f (z .nd + j) .0) (z .nh) in
-      rw (nb, nh) (omega (arith, v places, queued-is name b k s q (b .user p) r, h .at q .sums r (b .user p) l)))
+    let w : 0 < length (keep (ownedBy q) (nodesOf k p (destinations f z))) →
+    pick (ltb (k .user p) users) (queued k q (k .user p) r) 0 + length (keep (ownedBy q) (nodesOf k p (destinations f z))) * weigh r (z .nb) (z .nh) ≤ share r
+    = rw (e, a) (within q r) in
+    let v = rw (n, places-is name q (map (slot b p) (destinations f z)), s .users p, lt-ltb (b .user p) users l) at w in
+    let nb : length (payloadOf f) ≡ z .nb = payload-length f z sized in
+    let nh : length (attached f z) ≡ z .nh = build-length (λ j. sendId f (z .nd + j) .0) (z .nh) in
+    rw (nb, nh) (omega (arith, v places, queued-is name b k s q (b .user p) r, h .at q .sums r (b .user p) l)))
     (x .refused)
 
 -- The quota question reports the book's numbers.
@@ -162,7 +162,7 @@ third-demand cs c o w =
     let s = x .world .sim in
     let h = always-charged cs in
     let m : (q u : ℕ) (r : Resource) → u < users → queued (bookAfter cs) q u r ≤ most r
-          = λ q u r l. rw (queued-is name (run cs) (bookAfter cs) s q u r) (at-most-half-queued cs q r u l) in
+    = λ q u r l. rw (queued-is name (run cs) (bookAfter cs) s q u r) (at-most-half-queued cs q r u l) in
     record {
       bounded = m;
       assured = λ send within e. assured name (run cs) (bookAfter cs) (c .frame) s h (refused-send (run cs) c (eqb-true (opcode (c .frame)) 7 send) e) within;

@@ -100,7 +100,7 @@ module _ {N : ℕ} (name : ℕ → ℕ) (b : State) (k : Book) (p i : ℕ) (r : 
         queues = λ q.
             r .queues q
             ∙ map-all _ _ (messagesIn (b .queue q))
-              (all-imp _ _ (λ m a. told-other name s (k .entered) m a) (messagesIn (b .queue q)) (absent-messages s (b .queue q) (free .unqueued q)));
+            (all-imp _ _ (λ m a. told-other name s (k .entered) m a) (messagesIn (b .queue q)) (absent-messages s (b .queue q) (free .unqueued q)));
         handles = upd-rel (λ _ h g. Handles (upd name s (k .entered)) h g) (b .handle) (k .handle) p _ _ old new;
       }
     where

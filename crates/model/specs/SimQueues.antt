@@ -82,7 +82,7 @@ load-told name u r (m ∷ ms) = omega (arith, load-told name u r ms)
 -- Of the queue of p, out leaves and rest stays: what leaves and what stays weigh what stood there.
 module _ {N : ℕ} (name : ℕ → ℕ) (b : State) (k : Book) (p : ℕ) (out : List Message) (rest : List Entry) (s : Sim N name b k)
     (whole : (u : ℕ) (r : Resource) → load (by u) (weight r) (map (told name) out) + load (by u) (weight r) (map (told name) (messagesIn rest))
-        ≡ load (by u) (weight r) (k .queue p)) where
+    ≡ load (by u) (weight r) (k .queue p)) where
   queues-out : (q : ℕ) → upd (k .queue) p (map (told name) (messagesIn rest)) q ≡ map (told name) (messagesIn (upd (b .queue) p rest q))
   queues-out = upd-rel (λ _ x y. x ≡ map (told name) (messagesIn y)) (k .queue) (b .queue) p _ _ (s .queues) refl
 

@@ -94,12 +94,12 @@ pub sim-forget : {N : ℕ} (name : ℕ → ℕ) (b : State) (k : Book) (p s : �
 unfolding forget dropFor
 sim-forget name b k p s r =
     let stays : messagesIn (keep (remains p s) (b .queue p)) ≡ keep (λ m. not (dropped p s m)) (messagesIn (b .queue p))
-          = messages-keep (remains p s) (λ m. not (dropped p s m)) (λ n m. refl) (b .queue p) in
+    = messages-keep (remains p s) (λ m. not (dropped p s m)) (λ n m. refl) (b .queue p) in
     let out : keep (drops p (called name s)) (k .queue p) ≡ map (told name) (keep (dropped p s) (messagesIn (b .queue p)))
-          = rw (r .queues p) (keep-map (told name) (drops p (called name s)) (dropped p s) (messagesIn (b .queue p)) (drops-is name (r .apart) p s)) in
+    = rw (r .queues p) (keep-map (told name) (drops p (called name s)) (dropped p s) (messagesIn (b .queue p)) (drops-is name (r .apart) p s)) in
     let rest : keep (λ m. not (drops p (called name s) m)) (k .queue p) ≡ map (told name) (messagesIn (keep (remains p s) (b .queue p)))
-          = rw (r .queues p, stays)
-            (keep-map (told name) (λ m. not (drops p (called name s) m)) (λ m. not (dropped p s m)) (messagesIn (b .queue p)) (λ m. ap not (drops-is name (r .apart) p s m))) in
+    = rw (r .queues p, stays)
+    (keep-map (told name) (λ m. not (drops p (called name s) m)) (λ m. not (dropped p s m)) (messagesIn (b .queue p)) (λ m. ap not (drops-is name (r .apart) p s m))) in
     rw (out, rest)
     (sim-dropped name b k p (keep (dropped p s) (messagesIn (b .queue p))) (keep (remains p s) (b .queue p)) r
     (λ u w. rw (← out, ← rest) (load-split (by u) (weight w) (drops p (called name s)) (k .queue p))))
@@ -168,7 +168,7 @@ sim-disconnect {N} name b k p r =
     let d = sim-quiet b died r q in
     let emptied = takeOut died p (messagesIn (b .queue p)) [] in
     let e : Sim N name emptied (toDropped k p (k .queue p) [])
-          = rw (r .queues p) (sim-dropped name died k p (messagesIn (b .queue p)) [] d (λ u w. rw (← r .queues p) (omega arith))) in
+    = rw (r .queues p) (sim-dropped name died k p (messagesIn (b .queue p)) [] d (λ u w. rw (← r .queues p) (omega arith))) in
     let n = sim-no-handles name emptied (toDropped k p (k .queue p) []) p e in
     let c = withStatus (withHandles emptied p (λ s. none)) p disconnected in
     let t : Sim N name c (noteDisconnect k p) = sim-quiet _ c n (quiet-status (withHandles emptied p (λ s. none)) p) in

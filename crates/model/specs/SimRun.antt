@@ -59,9 +59,10 @@ shows-receive : (b : State) (c : Call) (p : Rattle.ids.specs.declared.Peer.Peer
 unfolding takeOut withCharges withQueues
 shows-receive b c p room a r [] e = absurd (omega (arith, rw e at (tested b (c .frame) (Receive p room) (a .unrefused) .next)))
 shows-receive b c p room a r (message n m ∷ q) e =
-    let k = rw e at (r .carried (p .0)) in
-    (receive-message b c p room a n m q e,
-    receive-shows b c p room a n m q e (k .0 .0) (shown-all-small (takeOut b (p .0) (m ∷ []) q) (p .0) (m .carried) (r .ids) (omega (arith, r .few (p .0), k .0 .0))))
+    let k = rw e at (r .carried (p .0)) in (
+      receive-message b c p room a n m q e,
+      receive-shows b c p room a n m q e (k .0 .0) (shown-all-small (takeOut b (p .0) (m ∷ []) q) (p .0) (m .carried) (r .ids) (omega (arith, r .few (p .0), k .0 .0))),
+    )
 shows-receive b c p room a r (destroyed n s ∷ q) e = receive-destroyed b c p room a n s q e
 shows-receive b c p room a r (released n s ∷ q) e = receive-released b c p room a n s q e
 
@@ -152,12 +153,13 @@ alike-step {N} cs c k o w more = go (came (run cs) c)
         let r = ready cs (w .ids) in
         let t = tested (run cs) (c .frame) d (a .unrefused) in
         let s = shows (run cs) c d a r in
-        rw (a .after, a .number, a .read)
-        (record {
-          world = sim-command (run cs) (c .frame) d k (answerOf (step (run cs) c)) (w .world) r (a .legal) t s more;
-          ids = ids-command (run cs) (c .frame) d r (a .legal) t (small c d o (fields-command (c .frame) d (a .read)));
-        },
-        note-entered k (c .frame) (answerOf (step (run cs) c)) d)
+        rw (a .after, a .number, a .read) (
+          record {
+            world = sim-command (run cs) (c .frame) d k (answerOf (step (run cs) c)) (w .world) r (a .legal) t s more;
+            ids = ids-command (run cs) (c .frame) d r (a .legal) t (small c d o (fields-command (c .frame) d (a .read)));
+          },
+          note-entered k (c .frame) (answerOf (step (run cs) c)) d,
+        )
 
 -- Any further calls.
 alike-run : {N : ℕ} (cs ds : List Call) (k : Book) → All OfBytes ds → Alike N (run cs) k → k .entered + length ds ≤ N →

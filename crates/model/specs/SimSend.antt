@@ -47,8 +47,14 @@ incoming-is : (name : ℕ → ℕ) (b : State) (u : ℕ) (ds hs payload : List �
     incoming u (map (called name) ds) (map (called name) hs) z q ≡ map (told name) (messagesIn (arriving b u ds hs payload q))
 unfolding incoming arriving
 incoming-is name b u ds hs payload z q e f =
-    rw (keep-map (called name) (ownedBy q) (λ d. eqb (owner d) q) ds (λ x. refl),
-    messages-map (b .accepted) (λ d. record { to = d; user = u; payload = payload; carried = hs }) (keep (λ d. eqb (owner d) q) ds), map-map, map-map, ← e, ← f)
+    rw (
+      keep-map (called name) (ownedBy q) (λ d. eqb (owner d) q) ds (λ x. refl),
+      messages-map (b .accepted) (λ d. record { to = d; user = u; payload = payload; carried = hs }) (keep (λ d. eqb (owner d) q) ds),
+      map-map,
+      map-map,
+      ← e,
+      ← f,
+    )
 
 -- How many destinations a peer owns.
 pub places-is : (name : ℕ → ℕ) (q : ℕ) (ds : List ℕ) → length (keep (ownedBy q) (map (called name) ds)) ≡ placesAt q ds
@@ -62,9 +68,9 @@ pub sim-send : {N : ℕ} (name : ℕ → ℕ) (b a : State) (k : Book) (p : ℕ)
 unfolding deliver noteSend withCharges withQueues pushAll
 sim-send name b a k p is hs payload z r s d h e f =
     let new : (q : ℕ) → incoming (k .user p) (nodesOf k p is) (nodesOf k p hs) z q
-              ≡ map (told name) (messagesIn (arriving a (b .user p) (map (slot b p) is) (map (slot b p) hs) payload q))
-          = λ q. rw (nodes-of-slots name b k r p is d, nodes-of-slots name b k r p hs h, r .users p)
-                 (incoming-is name a (b .user p) (map (slot b p) is) (map (slot b p) hs) payload z q e (length-map hs (slot b p) ∙ f)) in
+    ≡ map (told name) (messagesIn (arriving a (b .user p) (map (slot b p) is) (map (slot b p) hs) payload q))
+    = λ q. rw (nodes-of-slots name b k r p is d, nodes-of-slots name b k r p hs h, r .users p)
+    (incoming-is name a (b .user p) (map (slot b p) is) (map (slot b p) hs) payload z q e (length-map hs (slot b p) ∙ f)) in
     record {
       apart = s .apart;
       known = s .known;
