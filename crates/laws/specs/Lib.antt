@@ -5,5 +5,6 @@ pub mod Weights
 pub mod Loads
 pub mod Build
 pub mod Stores
+pub mod Rows
 pub mod Search
 pub mod Bytes

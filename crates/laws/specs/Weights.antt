@@ -1,6 +1,6 @@
 -- Lists of records: what passes a test, the weight of it, and facts of every element.
 -- Assumes nothing.
-use Prim.Native.Nat.{ℕ, zero, suc, _+_, _<_}
+use Prim.Native.Nat.{ℕ, zero, suc, _+_, _≤_, _<_}
 use mathlib.Core.Path.{_≡_, refl, ap₂}
 use mathlib.Core.Bool.{Bool, not}
 use mathlib.Core.List.{List, [], _∷_, _++_, map}
@@ -77,6 +77,14 @@ module _ {A : Type 0} where
       go : Seen (p x) → All P (keep p xs) → All P (keep p (x ∷ xs))
       go (is-true e) ih = rw e (h .0, ih)
       go (is-false e) ih = rw e ih
+
+pub keep-le : {A : Type 0} (p : A → Bool) (xs : List A) → length (keep p xs) ≤ length xs
+keep-le p [] = omega arith
+keep-le p (x ∷ xs) = go (look (p x)) (keep-le p xs)
+  where
+    go : Seen (p x) → length (keep p xs) ≤ length xs → length (keep p (x ∷ xs)) ≤ length (x ∷ xs)
+    go (is-true e) ih = rw e (omega arith)
+    go (is-false e) ih = rw e (omega arith)
 
 pub keep-map : {A B : Type 0} (f : A → B) (p : B → Bool) (q : A → Bool) (xs : List A) → ((x : A) → p (f x) ≡ q x) → keep p (map f xs) ≡ map f (keep q xs)
 keep-map f p q [] h = refl

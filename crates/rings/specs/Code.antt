@@ -1,0 +1,70 @@
+-- One law for each return of the code that a definition does not say at once, over plain variables: what the calls left makes what the definition says.
+-- Assumes nothing.
+use Prim.Native.Nat.{ℕ, _+_, _*_, _-_, _%_, _≤_, _<_}
+use mathlib.Core.Path.{_≡_, refl, sym, ap, _∙_}
+use mathlib.Core.Bool.{Bool, true, false}
+use mathlib.Core.List.{List, [], _∷_}
+use native.Mathlib.Omega.{arith}
+use lib.ListN.{getD, length, set}
+use lib.Seq.{sets}
+use borrow.Author.Tests.{lt-ltb, le-ltb, le-leb, lt-leb}
+use Rattle.laws.specs.Rows.{rowIn, row5, row8, stores5}
+use Rattle.rings.specs.Rings.{ringSize, Rows, rowsOf, ringsOf, fieldsOf, entryAt, putAt, rowOf, headOf, lengthOf, queueOf, pushed, popped, bitAt, kindBit, slotIn, matches, removed, Swept, swept, keptEntry, keptEntries}
+use Rattle.rings.specs.declared.Entry.{Entry}
+use Rattle.rings.specs.declared.Match.{Match}
+
+pub entry-read : (e c n : List ℕ) (r : ℕ) →
+    record {
+      kind = getD e (5 * r) 0;
+      slot = getD e (5 * r + 1) 0;
+      user = getD e (5 * r + 2) 0;
+      nb = getD e (5 * r + 3) 0;
+      nh = getD e (5 * r + 4) 0;
+      carried =
+          getD c (8 * r) 0 ∷ getD c (8 * r + 1) 0 ∷ getD c (8 * r + 2) 0 ∷ getD c (8 * r + 3) 0 ∷ getD c (8 * r + 4) 0 ∷ getD c (8 * r + 5) 0 ∷ getD c (8 * r + 6) 0
+          ∷ getD c (8 * r + 7) 0 ∷ [];
+      number = getD n r 0;
+    }
+    ≡ entryAt (rowsOf e c n) r
+unfolding entryAt
+entry-read e c n r = rw (row5, row8)
+
+pub fields-put : (b : List ℕ) (t : ℕ) (e : Entry) →
+    set (set (set (set (set b t (e .kind)) (t + 1) (e .slot)) (t + 2) (e .user)) (t + 3) (e .nb)) (t + 4) (e .nh) ≡ sets b t (fieldsOf e)
+unfolding fieldsOf
+fields-put b t e = stores5 b t _ _ _ _ _
+
+pub entry-put : (e c n : List ℕ) (r : ℕ) (x : Entry) {e′ c′ : List ℕ} → e′ ≡ sets e (5 * r) (fieldsOf x) → c′ ≡ sets c (8 * r) (rowIn 8 (x .carried) 0) →
+    rowsOf e′ c′ (set n r (x .number)) ≡ putAt (rowsOf e c n) r x
+unfolding putAt
+entry-put e c n r x p q = rw (p, q)
+
+pub push-made : (d e c n : List ℕ) (p : ℕ) (x : Entry) {h k r : ℕ} {e′ c′ n′ : List ℕ} → h ≡ headOf d p → k ≡ lengthOf d p → r ≡ rowOf p h k →
+    rowsOf e′ c′ n′ ≡ putAt (rowsOf e c n) r x → ringsOf (set d (p * 2 + 1) (k + 1)) e′ c′ n′ ≡ pushed (ringsOf d e c n) p x
+unfolding pushed
+push-made d e c n p x eh ek er t = rw (← eh, ← ek, ← er, ← t)
+
+pub pop-made : (d : List ℕ) (p : ℕ) {h k : ℕ} → h ≡ headOf d p → k ≡ lengthOf d p → set (set d (p * 2) ((h + 1) % ringSize)) (p * 2 + 1) (k - 1) ≡ popped d p
+unfolding popped
+pop-made d p eh ek = rw (← eh, ← ek)
+
+-- One entry of a sweep.
+module _ (t : Rows) (p h i w : ℕ) (m : Match) {from : ℕ} {e : Entry} {b : Bool} (ef : from ≡ rowOf p h i) (ee : e ≡ entryAt t from) (eb : b ≡ matches m e) where
+  tested : b ≡ matches m (entryAt t (rowOf p h i))
+  tested = rw (← ef, ← ee) eb
+
+  pub entry-gone : b ≡ true → swept w t ≡ keptEntry t p h i w m
+  unfolding keptEntry
+  entry-gone y = rw (← tested, y)
+
+  pub entry-kept : b ≡ false → {to : ℕ} {t′ : Rows} → to ≡ rowOf p h w → t′ ≡ putAt t to e → swept (w + 1) t′ ≡ keptEntry t p h i w m
+  unfolding keptEntry
+  entry-kept n et eq = rw (← tested, n, eq, et, ee, ef)
+
+pub remove-made : (d e c n : List ℕ) (p : ℕ) (m : Match) {h k w : ℕ} {e′ c′ n′ : List ℕ} → h ≡ headOf d p → k ≡ lengthOf d p →
+    swept w (rowsOf e′ c′ n′) ≡ keptEntries (rowsOf e c n) p h k m → ringsOf (set d (p * 2 + 1) w) e′ c′ n′ ≡ removed (ringsOf d e c n) p m
+unfolding removed queueOf keptEntries
+remove-made d e c n p m eh ek s =
+    let a = ap (λ (z : Swept). z .count) s in
+    let b = ap (λ (z : Swept). z .rows) s in
+    rw (← eh, ← ek, ← a, ← b)

@@ -1,0 +1,4 @@
+pub mod Rings
+pub mod Laws
+pub mod Sweep
+pub mod Code
