@@ -9,7 +9,7 @@ use lib.ListN.{getD, length, set}
 use lib.Seq.{sets}
 use borrow.Author.Tests.{lt-ltb, le-ltb, le-leb, lt-leb}
 use Rattle.laws.specs.Rows.{rowIn, row5, row8, stores5}
-use Rattle.rings.specs.Rings.{ringSize, Rows, rowsOf, ringsOf, fieldsOf, entryAt, putAt, rowOf, headOf, lengthOf, queueOf, pushed, popped, bitAt, kindBit, slotIn, matches, removed, Swept, swept, keptEntry, keptEntries}
+use Rattle.rings.specs.Rings.{ringSize, Rows, rowsOf, ringsOf, fieldsOf, entryAt, putAt, rowOf, headOf, lengthOf, queueOf, firstOf, pushed, popped, cleared, bitAt, kindBit, slotIn, matches, removed, Swept, swept, keptEntry, keptEntries}
 use Rattle.rings.specs.declared.Entry.{Entry}
 use Rattle.rings.specs.declared.Match.{Match}
 
@@ -47,6 +47,46 @@ push-made d e c n p x eh ek er t = rw (← eh, ← ek, ← er, ← t)
 pub pop-made : (d : List ℕ) (p : ℕ) {h k : ℕ} → h ≡ headOf d p → k ≡ lengthOf d p → set (set d (p * 2) ((h + 1) % ringSize)) (p * 2 + 1) (k - 1) ≡ popped d p
 unfolding popped
 pop-made d p eh ek = rw (← eh, ← ek)
+
+pub first-made : (d e c n : List ℕ) (p : ℕ) {h r : ℕ} {x : Entry} → h ≡ headOf d p → r ≡ rowOf p h 0 → x ≡ entryAt (rowsOf e c n) r → x ≡ firstOf (ringsOf d e c n) p
+unfolding firstOf
+first-made d e c n p eh er ex = rw (← eh, ← er) ex
+
+pub clear-made : (d : List ℕ) (p : ℕ) → set d (p * 2 + 1) 0 ≡ cleared d p
+unfolding cleared
+clear-made d p = refl
+
+-- The test of a removal, by its returns.
+pub kind-own : (k : ℕ) → k < 3 → (k ≡ kindBit k) × (k < 3)
+kind-own k h = (rw (lt-ltb k 3 h), h)
+
+pub kind-message : (k : ℕ) → 3 ≤ k → (0 ≡ kindBit k) × (0 < 3)
+kind-message k h = (rw (le-ltb k 3 h), omega arith)
+
+module _ (first mask s : ℕ) where
+  pub slot-before : s < first → false ≡ slotIn first mask s
+  unfolding slotIn
+  slot-before h = rw (lt-leb first s h)
+
+  pub slot-behind : first ≤ s → 16 ≤ s - first → false ≡ slotIn first mask s
+  unfolding slotIn
+  slot-behind h k = let j : first + 16 ≤ s = omega arith in rw (le-leb first s h, le-ltb s (first + 16) j)
+
+  pub slot-among : first ≤ s → s - first < 16 → {b : Bool} → b ≡ bitAt mask (s - first) → b ≡ slotIn first mask s
+  unfolding slotIn
+  slot-among h k e = let j : s < first + 16 = omega arith in rw (le-leb first s h, lt-ltb s (first + 16) j) e
+
+module _ (m : Match) (e : Entry) {k x : ℕ} {b : Bool} (ek : k ≡ kindBit (e .kind)) (ex : x ≡ m .kinds) (eb : b ≡ bitAt x k) where
+  kind-tested : b ≡ bitAt (m .kinds) (kindBit (e .kind))
+  kind-tested = rw (← ek, ← ex) eb
+
+  pub match-kind : b ≡ false → false ≡ matches m e
+  unfolding matches
+  match-kind n = rw (← kind-tested, n)
+
+  pub match-slot : b ≡ true → {y z : ℕ} {r : Bool} → y ≡ m .mask → z ≡ e .slot → r ≡ slotIn (m .first) y z → r ≡ matches m e
+  unfolding matches
+  match-slot n ey ez er = rw (← kind-tested, n, ← ey, ← ez) er
 
 -- One entry of a sweep.
 module _ (t : Rows) (p h i w : ℕ) (m : Match) {from : ℕ} {e : Entry} {b : Bool} (ef : from ≡ rowOf p h i) (ee : e ≡ entryAt t from) (eb : b ≡ matches m e) where

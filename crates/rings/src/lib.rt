@@ -6,7 +6,7 @@ ghost use Prim.Native.Nat.{_+_, _*_, _<_, _≤_};
 ghost use lib.ListN.{length};
 ghost use lib.Seq.{sets};
 ghost use Rattle.laws.specs.Rows.{rowIn};
-ghost use Rattle.rings.specs.Rings.{peers, ringSize, rowCount, endCount, rowsOf, ringsOf, Sized, fieldsOf, entryAt, putAt, rowOf, headOf, lengthOf};
+ghost use Rattle.rings.specs.Rings.{peers, ringSize, rowCount, endCount, rowsOf, ringsOf, Sized, fieldsOf, entryAt, putAt, rowOf, headOf, lengthOf, firstOf, pushed, popped, cleared, bitAt, kindBit, slotIn, matches, removed, swept, keptEntry, keptEntries};
 use ids::Peer;
 
 // The rows of one peer's ring.
@@ -123,4 +123,181 @@ pub fn put_entry(entries: &mut [u16], carried: &mut [u8], numbers: &mut [u64], r
     let v = e.carried;
     put_carried(carried, row, v);
     numbers[row] = e.number;
+}
+
+// The oldest entry of a queue, or what its place holds where the queue is empty.
+pub fn first_entry(ends: &[u16], entries: &[u16], carried: &[u8], numbers: &[u64], p: Peer) -> Entry
+    requires { ⌜ (length (now ends) ≡ endCount) × Sized (rowsOf (now entries) (now carried) (now numbers)) × (p .0 < peers) ⌝ }
+    ensures { λ e. ⌜ e ≡ firstOf (ringsOf (now (ends .entry)) (now (entries .entry)) (now (carried .entry)) (now (numbers .entry))) (p .0) ⌝ }
+{
+    let head = head_of(ends, p);
+    let row = row_of(p, head, 0);
+    get_entry(entries, carried, numbers, row)
+}
+
+// An entry appended to a queue that has room.
+pub fn push(
+    ends: &mut [u16],
+    entries: &mut [u16],
+    carried: &mut [u8],
+    numbers: &mut [u64],
+    p: Peer,
+    e: Entry,
+)
+    requires { ⌜ (length (now ends) ≡ endCount) × Sized (rowsOf (now entries) (now carried) (now numbers)) × (p .0 < peers) × (lengthOf (now ends) (p .0) < ringSize) ⌝ }
+    ensures { λ _. ⌜ ringsOf (now (ends .exit)) (now (entries .exit)) (now (carried .exit)) (now (numbers .exit)) ≡ pushed (ringsOf (now (ends .entry)) (now (entries .entry)) (now (carried .entry)) (now (numbers .entry))) (p .0) e ⌝ }
+{
+    let head = head_of(ends, p);
+    let len = len_of(ends, p);
+    let row = row_of(p, head, len);
+    put_entry(entries, carried, numbers, row, e);
+    let at = p.0 * 2 + 1;
+    ends[at] = (len + 1) as u16;
+}
+
+// The oldest entry dropped.
+pub fn pop(ends: &mut [u16], p: Peer)
+    requires { ⌜ (length (now ends) ≡ endCount) × (p .0 < peers) × (0 < lengthOf (now ends) (p .0)) ⌝ }
+    ensures { λ _. ⌜ now (ends .exit) ≡ popped (now (ends .entry)) (p .0) ⌝ }
+{
+    let head = head_of(ends, p);
+    let len = len_of(ends, p);
+    let at = p.0 * 2;
+    ends[at] = ((head + 1) % RING) as u16;
+    ends[at + 1] = (len - 1) as u16;
+}
+
+// All entries dropped.
+pub fn clear(ends: &mut [u16], p: Peer)
+    requires { ⌜ (length (now ends) ≡ endCount) × (p .0 < peers) ⌝ }
+    ensures { λ _. ⌜ now (ends .exit) ≡ cleared (now (ends .entry)) (p .0) ⌝ }
+{
+    let at = p.0 * 2 + 1;
+    ends[at] = 0;
+}
+
+// Is the k-th bit of x set?
+fn bit(x: usize, k: usize) -> bool
+    requires { ⌜ k < 64 ⌝ }
+    ensures { λ r. ⌜ r ≡ bitAt x k ⌝ }
+{
+    (x >> k) % 2 == 1
+}
+
+// The bit of an entry's kind among a removal's kinds.
+fn kind_bit(kind: u16) -> usize
+    ensures { λ r. ⌜ (r ≡ kindBit kind) × (r < 3) ⌝ }
+{
+    if kind < 3 { kind as usize } else { 0 }
+}
+
+fn has_slot(first: usize, mask: usize, slot: usize) -> bool
+    ensures { λ r. ⌜ r ≡ slotIn first mask slot ⌝ }
+{
+    if slot < first {
+        return false;
+    }
+    let k = slot - first;
+    if 16 <= k {
+        return false;
+    }
+    bit(mask, k)
+}
+
+fn byte_wide(x: u8) -> usize
+    ensures { λ r. ⌜ r ≡ x ⌝ }
+{
+    x as usize
+}
+
+// Does a removal take the entry out?
+pub fn is_match(m: Match, e: Entry) -> bool
+    ensures { λ r. ⌜ r ≡ matches m e ⌝ }
+{
+    let k = kind_bit(e.kind);
+    if !bit(byte_wide(m.kinds), k) {
+        return false;
+    }
+    has_slot(m.first, wide(m.mask), wide(e.slot))
+}
+
+// Where a sweep stands: the peer and its head, the entries read, the entries kept.
+pub struct At {
+    pub p: Peer,
+    pub head: usize,
+    pub read: usize,
+    pub kept: usize,
+}
+
+// The next entry moves behind those that were kept, unless it matches. How many are kept now.
+fn keep_entry(
+    entries: &mut [u16],
+    carried: &mut [u8],
+    numbers: &mut [u64],
+    at: At,
+    m: Match,
+) -> usize
+    requires { ⌜ Sized (rowsOf (now entries) (now carried) (now numbers)) × (at .p .0 < peers) × (at .head < 65536) × (at .read < ringSize) × (at .kept ≤ at .read) ⌝ }
+    ensures { λ r. ⌜ swept r (rowsOf (now (entries .exit)) (now (carried .exit)) (now (numbers .exit))) ≡ keptEntry (rowsOf (now (entries .entry)) (now (carried .entry)) (now (numbers .entry))) (at .p .0) (at .head) (at .read) (at .kept) m ⌝ }
+{
+    let from = row_of(at.p, at.head, at.read);
+    let e = get_entry(entries, carried, numbers, from);
+    if is_match(m, e) {
+        return at.kept;
+    }
+    let to = row_of(at.p, at.head, at.kept);
+    put_entry(entries, carried, numbers, to, e);
+    at.kept + 1
+}
+
+// Every entry of a queue that does not match moves up, in order. How many are kept.
+fn sweep(
+    entries: &mut [u16],
+    carried: &mut [u8],
+    numbers: &mut [u64],
+    p: Peer,
+    head: usize,
+    len: usize,
+    m: Match,
+) -> usize
+    requires { ⌜ Sized (rowsOf (now entries) (now carried) (now numbers)) × (p .0 < peers) × (head < 65536) × (len ≤ ringSize) ⌝ }
+    ensures { λ r. ⌜ (swept r (rowsOf (now (entries .exit)) (now (carried .exit)) (now (numbers .exit))) ≡ keptEntries (rowsOf (now (entries .entry)) (now (carried .entry)) (now (numbers .entry))) (p .0) head len m) × (r ≤ len) ⌝ }
+{
+    let mut kept = 0;
+    let mut read = 0;
+    while read < len {
+        kept = keep_entry(
+            entries,
+            carried,
+            numbers,
+            At {
+                p: p,
+                head: head,
+                read: read,
+                kept: kept,
+            },
+            m,
+        );
+        read += 1;
+    }
+    kept
+}
+
+// Every entry that matches taken out of a queue; the others keep their order.
+pub fn remove(
+    ends: &mut [u16],
+    entries: &mut [u16],
+    carried: &mut [u8],
+    numbers: &mut [u64],
+    p: Peer,
+    m: Match,
+)
+    requires { ⌜ (length (now ends) ≡ endCount) × Sized (rowsOf (now entries) (now carried) (now numbers)) × (p .0 < peers) × (lengthOf (now ends) (p .0) ≤ ringSize) ⌝ }
+    ensures { λ _. ⌜ ringsOf (now (ends .exit)) (now (entries .exit)) (now (carried .exit)) (now (numbers .exit)) ≡ removed (ringsOf (now (ends .entry)) (now (entries .entry)) (now (carried .entry)) (now (numbers .entry))) (p .0) m ⌝ }
+{
+    let head = head_of(ends, p);
+    let len = len_of(ends, p);
+    let kept = sweep(entries, carried, numbers, p, head, len, m);
+    let at = p.0 * 2 + 1;
+    ends[at] = kept as u16;
 }
