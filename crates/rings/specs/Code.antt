@@ -1,15 +1,16 @@
 -- One law for each return of the code that a definition does not say at once, over plain variables: what the calls left makes what the definition says.
 -- Assumes nothing.
-use Prim.Native.Nat.{ℕ, _+_, _*_, _-_, _%_, _≤_, _<_}
+use Prim.Native.Nat.{ℕ, _+_, _*_, _-_, _/_, _%_, _^_, _≤_, _<_}
 use mathlib.Core.Path.{_≡_, refl, sym, ap, _∙_}
 use mathlib.Core.Bool.{Bool, true, false}
 use mathlib.Core.List.{List, [], _∷_}
 use native.Mathlib.Omega.{arith}
 use lib.ListN.{getD, length, set}
 use lib.Seq.{sets}
+use lib.Pow.{pow-lt}
 use borrow.Author.Tests.{lt-ltb, le-ltb, le-leb, lt-leb}
 use Rattle.laws.specs.Rows.{rowIn, row5, row8, stores5}
-use Rattle.rings.specs.Rings.{ringSize, Rows, rowsOf, ringsOf, fieldsOf, entryAt, putAt, rowOf, headOf, lengthOf, queueOf, firstOf, pushed, popped, cleared, bitAt, kindBit, slotIn, matches, removed, Swept, swept, keptEntry, keptEntries}
+use Rattle.rings.specs.Rings.{ringSize, Rows, rowsOf, ringsOf, fieldsOf, entryAt, putAt, rowOf, headOf, lengthOf, queueOf, firstOf, pushed, popped, cleared, bitAt, kindBit, slotIn, matches, oneSlot, removed, Swept, swept, keptEntry, keptEntries}
 use Rattle.rings.specs.declared.Entry.{Entry}
 use Rattle.rings.specs.declared.Match.{Match}
 
@@ -87,6 +88,18 @@ module _ (m : Match) (e : Entry) {k x : ℕ} {b : Bool} (ek : k ≡ kindBit (e .
   pub match-slot : b ≡ true → {y z : ℕ} {r : Bool} → y ≡ m .mask → z ≡ e .slot → r ≡ slotIn (m .first) y z → r ≡ matches m e
   unfolding matches
   match-slot n ey ez er = rw (← kind-tested, n, ← ey, ← ez) er
+
+-- A shifted 1 is a power, and fits the mask.
+pub shift-small : (k : ℕ) → k < 16 → 1 * 2 ^ k % 18446744073709551616 < 65536
+shift-small k h = let b : 2 ^ k < 65536 = pow-lt h in omega arith
+
+pub one-made : (k s : ℕ) → record { kinds = k; first = s / 16 * 16; mask = 1 * 2 ^ (s % 16) % 18446744073709551616 } ≡ oneSlot k s
+unfolding oneSlot
+one-made k s =
+    let h : s % 16 < 16 = omega arith in
+    let b : 2 ^ (s % 16) < 65536 = pow-lt h in
+    let e : 1 * 2 ^ (s % 16) % 18446744073709551616 ≡ 2 ^ (s % 16) = omega arith in
+    rw e
 
 -- One entry of a sweep.
 module _ (t : Rows) (p h i w : ℕ) (m : Match) {from : ℕ} {e : Entry} {b : Bool} (ef : from ≡ rowOf p h i) (ee : e ≡ entryAt t from) (eb : b ≡ matches m e) where

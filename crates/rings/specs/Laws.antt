@@ -9,7 +9,7 @@ use native.Mathlib.Numerals.{add-one}
 use lib.ListN.{getD, length, set, length-set, length-append}
 use lib.Seq.{sets, length-sets, getD-set-same, getD-set-other}
 use Rattle.laws.specs.Weights.{All, all-keep, keep, keep-le}
-use Rattle.laws.specs.Build.{build, build-ext, build-snoc, build-length}
+use Rattle.laws.specs.Build.{build, build-ext, build-snoc, build-length, build-at}
 use Rattle.laws.specs.Rows.{rowIn, row-length, row-self, row-put, row-put-other, all-build}
 use Rattle.rings.specs.Rings.{peers, ringSize, rowCount, endCount, Rows, Rings, Sized, fieldsOf, entryOf, entryAt, putAt, rowOf, headOf, lengthOf, entriesFrom, queueOf, firstOf, pushed, popped, cleared, storedFrom, matches, others, removed}
 use Rattle.rings.specs.declared.Entry.{Entry}
@@ -96,10 +96,18 @@ entries-put t p h n e s hp room l =
     ∙ ap₂ (λ (x : List Entry) (y : Entry). x ++ (y ∷ [])) (put-above t p h n n e (omega arith) room)
     (get-put-same t (rowOf p h n) e s (row-bound p h n hp) l)
 
--- Every queued entry carries eight slots, and a queue is as long as its peer's length says.
+-- A queue is as long as its peer's length says, its i-th entry stands in the i-th place of the ring, and every entry carries eight slots.
 pub queue-length : (q : Rings) (p : ℕ) → length (queueOf q p) ≡ lengthOf (q .ends) p
 unfolding queueOf
 queue-length q p = entries-length (q .rows) p (headOf (q .ends) p) (lengthOf (q .ends) p)
+
+pub queue-empty : (q : Rings) (p : ℕ) → lengthOf (q .ends) p ≡ 0 → queueOf q p ≡ []
+unfolding queueOf entriesFrom build
+queue-empty q p e = rw e
+
+pub queue-at : (q : Rings) (p i : ℕ) (d : Entry) → i < lengthOf (q .ends) p → getD (queueOf q p) i d ≡ entryAt (q .rows) (rowOf p (headOf (q .ends) p) i)
+unfolding queueOf entriesFrom
+queue-at q p i d h = build-at (λ j. entryAt (q .rows) (rowOf p (headOf (q .ends) p) j)) (lengthOf (q .ends) p) i d h
 
 entries-eight : (t : Rows) (p h n : ℕ) → All (λ e. length (e .carried) ≡ 8) (entriesFrom t p h n)
 unfolding entriesFrom entryAt
@@ -124,7 +132,7 @@ module _ (d : List ℕ) (p n : ℕ) where
 module _ (q : Rings) (p : ℕ) (e : Entry) where
   pub push-sized : Sized (q .rows) → Sized (pushed q p e .rows)
   unfolding pushed
-  push-sized s = put-sized (q .rows) (rowOf p (headOf (q .ends) p) (lengthOf (q .ends) p)) e s
+  push-sized s = put-sized (q .rows) _ e s
 
   pub push-ends : length (pushed q p e .ends) ≡ length (q .ends)
   unfolding pushed
@@ -134,12 +142,20 @@ module _ (q : Rings) (p : ℕ) (e : Entry) where
   unfolding pushed
   push-heads o = head-kept (q .ends) p (lengthOf (q .ends) p + 1) o
 
+  pub push-length : length (q .ends) ≡ endCount → p < peers → lengthOf (pushed q p e .ends) p ≡ lengthOf (q .ends) p + 1
+  unfolding pushed
+  push-length hs hp = length-new (q .ends) p (lengthOf (q .ends) p + 1) hs hp
+
+  pub push-lengths : (o : ℕ) → (p ≡ o → ⊥) → lengthOf (pushed q p e .ends) o ≡ lengthOf (q .ends) o
+  unfolding pushed
+  push-lengths o ne = length-kept (q .ends) p (lengthOf (q .ends) p + 1) o ne
+
   pub push-other : (o : ℕ) → (p ≡ o → ⊥) → queueOf (pushed q p e) o ≡ queueOf q o
   unfolding queueOf pushed
   push-other o ne =
       let n = lengthOf (q .ends) p + 1 in
       rw (head-kept (q .ends) p n o, length-kept (q .ends) p n o ne)
-      (put-other (q .rows) p o (headOf (q .ends) p) (headOf (q .ends) o) (lengthOf (q .ends) p) (lengthOf (q .ends) o) e ne)
+      (put-other (q .rows) p o (headOf (q .ends) p) (headOf (q .ends) o) _ (lengthOf (q .ends) o) e ne)
 
   pub push-own : Sized (q .rows) → length (q .ends) ≡ endCount → p < peers → lengthOf (q .ends) p < ringSize → length (e .carried) ≡ 8 →
       queueOf (pushed q p e) p ≡ queueOf q p ++ (e ∷ [])
@@ -159,26 +175,41 @@ module _ (q : Rings) (p : ℕ) where
   unfolding popped
   pop-ends = simp length-set
 
-  pub pop-other : (o : ℕ) → (p ≡ o → ⊥) → queueOf afterPop o ≡ queueOf q o
-  unfolding queueOf popped
-  pop-other o ne =
+  pub pop-heads : (o : ℕ) → (p ≡ o → ⊥) → headOf (popped (q .ends) p) o ≡ headOf (q .ends) o
+  unfolding popped
+  pop-heads o ne =
       let h = (headOf (q .ends) p + 1) % ringSize in
-      let n = lengthOf (q .ends) p - 1 in
-      let d = set (q .ends) (p * 2) h in
-      let a : headOf d o ≡ headOf (q .ends) o = getD-set-other (q .ends) (p * 2) (o * 2) h 0 (λ x. ne (omega arith)) in
-      let b : lengthOf d o ≡ lengthOf (q .ends) o = getD-set-other (q .ends) (p * 2) (o * 2 + 1) h 0 (λ x. absurd (omega arith)) in
-      rw (head-kept d p n o, length-kept d p n o ne, a, b)
+      head-kept (set (q .ends) (p * 2) h) p (lengthOf (q .ends) p - 1) o ∙ getD-set-other (q .ends) (p * 2) (o * 2) h 0 (λ x. ne (omega arith))
+
+  pub pop-lengths : (o : ℕ) → (p ≡ o → ⊥) → lengthOf (popped (q .ends) p) o ≡ lengthOf (q .ends) o
+  unfolding popped
+  pop-lengths o ne =
+      let h = (headOf (q .ends) p + 1) % ringSize in
+      length-kept (set (q .ends) (p * 2) h) p (lengthOf (q .ends) p - 1) o ne ∙ getD-set-other (q .ends) (p * 2) (o * 2 + 1) h 0 (λ x. absurd (omega arith))
+
+  pub pop-head : length (q .ends) ≡ endCount → p < peers → headOf (popped (q .ends) p) p ≡ (headOf (q .ends) p + 1) % ringSize
+  unfolding popped
+  pop-head hs hp =
+      let h = (headOf (q .ends) p + 1) % ringSize in
+      head-kept (set (q .ends) (p * 2) h) p (lengthOf (q .ends) p - 1) p ∙ getD-set-same (q .ends) (p * 2) h 0 (omega arith)
+
+  pub pop-length : length (q .ends) ≡ endCount → p < peers → lengthOf (popped (q .ends) p) p ≡ lengthOf (q .ends) p - 1
+  unfolding popped
+  pop-length hs hp =
+      let h = (headOf (q .ends) p + 1) % ringSize in
+      length-new (set (q .ends) (p * 2) h) p (lengthOf (q .ends) p - 1) (length-set (q .ends) (p * 2) h ∙ hs) hp
+
+  pub pop-other : (o : ℕ) → (p ≡ o → ⊥) → queueOf afterPop o ≡ queueOf q o
+  unfolding queueOf
+  pop-other o ne = rw (pop-heads o ne, pop-lengths o ne)
 
   pub pop-own : length (q .ends) ≡ endCount → p < peers → 0 < lengthOf (q .ends) p → queueOf q p ≡ firstOf q p ∷ queueOf afterPop p
-  unfolding queueOf firstOf popped
+  unfolding queueOf firstOf
   pop-own hs hp some =
       let h = headOf (q .ends) p in
       let n = lengthOf (q .ends) p in
-      let d = set (q .ends) (p * 2) ((h + 1) % ringSize) in
-      let hd : length d ≡ endCount = length-set (q .ends) (p * 2) ((h + 1) % ringSize) ∙ hs in
-      let a : headOf d p ≡ (h + 1) % ringSize = getD-set-same (q .ends) (p * 2) ((h + 1) % ringSize) 0 (omega arith) in
       let e : n ≡ suc (n - 1) = omega arith in
-      rw (head-kept d p (n - 1) p, length-new d p (n - 1) hd hp, a) (ap (entriesFrom (q .rows) p h) e ∙ entries-cons (q .rows) p h (n - 1))
+      rw (pop-head hs hp, pop-length hs hp) (ap (entriesFrom (q .rows) p h) e ∙ entries-cons (q .rows) p h (n - 1))
 
 -- All entries dropped.
 module _ (q : Rings) (p : ℕ) where
@@ -193,13 +224,20 @@ module _ (q : Rings) (p : ℕ) where
   unfolding cleared
   clear-heads o = head-kept (q .ends) p 0 o
 
+  pub clear-length : length (q .ends) ≡ endCount → p < peers → lengthOf (cleared (q .ends) p) p ≡ 0
+  unfolding cleared
+  clear-length hs hp = length-new (q .ends) p 0 hs hp
+
+  pub clear-lengths : (o : ℕ) → (p ≡ o → ⊥) → lengthOf (cleared (q .ends) p) o ≡ lengthOf (q .ends) o
+  unfolding cleared
+  clear-lengths o ne = length-kept (q .ends) p 0 o ne
+
   pub clear-other : (o : ℕ) → (p ≡ o → ⊥) → queueOf afterClear o ≡ queueOf q o
-  unfolding queueOf cleared
-  clear-other o ne = rw (head-kept (q .ends) p 0 o, length-kept (q .ends) p 0 o ne)
+  unfolding queueOf
+  clear-other o ne = rw (clear-heads o, clear-lengths o ne)
 
   pub clear-own : length (q .ends) ≡ endCount → p < peers → queueOf afterClear p ≡ []
-  unfolding queueOf cleared entriesFrom build
-  clear-own hs hp = rw (length-new (q .ends) p 0 hs hp)
+  clear-own hs hp = queue-empty afterClear p (clear-length hs hp)
 
 -- A list stored over a queue.
 module _ (p h : ℕ) where
@@ -263,6 +301,16 @@ module _ (q : Rings) (p : ℕ) (m : Match) where
   pub remove-heads : (o : ℕ) → headOf (removed q p m .ends) o ≡ headOf (q .ends) o
   unfolding removed
   remove-heads o = head-kept (q .ends) p (length (others m (queueOf q p))) o
+
+  pub remove-length : length (q .ends) ≡ endCount → p < peers → lengthOf (removed q p m .ends) p ≤ lengthOf (q .ends) p
+  unfolding removed others
+  remove-length hs hp =
+      let f : Entry → Bool = λ e. not (matches m e) in
+      rw (length-new (q .ends) p (length (keep f (queueOf q p))) hs hp) (omega (arith, keep-le f (queueOf q p), queue-length q p))
+
+  pub remove-lengths : (o : ℕ) → (p ≡ o → ⊥) → lengthOf (removed q p m .ends) o ≡ lengthOf (q .ends) o
+  unfolding removed
+  remove-lengths o ne = length-kept (q .ends) p (length (others m (queueOf q p))) o ne
 
   pub remove-other : (o : ℕ) → (p ≡ o → ⊥) → queueOf (removed q p m) o ≡ queueOf q o
   unfolding queueOf removed

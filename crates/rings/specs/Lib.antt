@@ -1,4 +1,5 @@
 pub mod Rings
+pub mod Matches
 pub mod Laws
 pub mod Sweep
 pub mod Code

@@ -116,6 +116,10 @@ slotIn first mask s = pick (leb first s) (pick (ltb s (first + 16)) (bitAt mask 
 unfoldable pub matches : Match → Entry → Bool
 matches m e = pick (bitAt (m .kinds) (kindBit (e .kind))) (slotIn (m .first) (m .mask) (e .slot)) false
 
+-- The match of one slot: the 16 slots of its owner, of which one is meant.
+unfoldable pub oneSlot : ℕ → ℕ → Match
+oneSlot kinds s = record { kinds = kinds; first = s / 16 * 16; mask = 2 ^ (s % 16) }
+
 unfoldable pub others : Match → List Entry → List Entry
 others m es = keep (λ e. not (matches m e)) es
 

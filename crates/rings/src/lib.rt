@@ -6,7 +6,7 @@ ghost use Prim.Native.Nat.{_+_, _*_, _<_, _≤_};
 ghost use lib.ListN.{length};
 ghost use lib.Seq.{sets};
 ghost use Rattle.laws.specs.Rows.{rowIn};
-ghost use Rattle.rings.specs.Rings.{peers, ringSize, rowCount, endCount, rowsOf, ringsOf, Sized, fieldsOf, entryAt, putAt, rowOf, headOf, lengthOf, firstOf, pushed, popped, cleared, bitAt, kindBit, slotIn, matches, removed, swept, keptEntry, keptEntries};
+ghost use Rattle.rings.specs.Rings.{peers, ringSize, rowCount, endCount, rowsOf, ringsOf, Sized, fieldsOf, entryAt, putAt, rowOf, headOf, lengthOf, firstOf, pushed, popped, cleared, bitAt, kindBit, slotIn, matches, oneSlot, removed, swept, keptEntry, keptEntries};
 use ids::Peer;
 
 // The rows of one peer's ring.
@@ -208,6 +208,20 @@ fn byte_wide(x: u8) -> usize
     ensures { λ r. ⌜ r ≡ x ⌝ }
 {
     x as usize
+}
+
+impl Match {
+    // The entries of some kinds about one slot.
+    pub fn one_slot(kinds: u8, slot: usize) -> Self
+        ensures { λ r. ⌜ r ≡ oneSlot kinds slot ⌝ }
+    {
+        let one: usize = 1;
+        Self {
+            kinds: kinds,
+            first: slot / 16 * 16,
+            mask: (one << (slot % 16)) as u16,
+        }
+    }
 }
 
 // Does a removal take the entry out?
