@@ -1,16 +1,16 @@
 -- One law for each return of the code that a definition does not say at once, over plain variables: what the calls left makes what the definition says.
 -- Assumes nothing.
 use Prim.Native.Nat.{ℕ, _+_, _*_, _-_, _/_, _%_, _^_, _≤_, _<_}
-use mathlib.Core.Path.{_≡_, refl, sym, ap, _∙_}
+use mathlib.Core.Path.{_≡_, refl, ap}
 use mathlib.Core.Bool.{Bool, true, false}
 use mathlib.Core.List.{List, [], _∷_}
 use native.Mathlib.Omega.{arith}
-use lib.ListN.{getD, length, set}
+use lib.ListN.{getD, set}
 use lib.Seq.{sets}
 use lib.Pow.{pow-lt}
 use borrow.Author.Tests.{lt-ltb, le-ltb, le-leb, lt-leb}
 use Rattle.laws.specs.Rows.{rowIn, row5, row8, stores5}
-use Rattle.rings.specs.Rings.{ringSize, Rows, rowsOf, ringsOf, fieldsOf, entryAt, putAt, rowOf, headOf, lengthOf, queueOf, firstOf, pushed, popped, cleared, bitAt, kindBit, slotIn, matches, oneSlot, removed, Swept, swept, keptEntry, keptEntries}
+use Rattle.rings.specs.Rings.{ringSize, slots, Rows, rowsOf, ringsOf, fieldsOf, entryAt, putAt, rowOf, headOf, lengthOf, queueOf, firstOf, pushed, popped, cleared, bitAt, kindBit, slotIn, matches, oneSlot, removed, Swept, swept, keptEntry, keptEntries}
 use Rattle.rings.specs.declared.Entry.{Entry}
 use Rattle.rings.specs.declared.Match.{Match}
 
@@ -69,13 +69,13 @@ module _ (first mask s : ℕ) where
   unfolding slotIn
   slot-before h = rw (lt-leb first s h)
 
-  pub slot-behind : first ≤ s → 16 ≤ s - first → false ≡ slotIn first mask s
+  pub slot-behind : first ≤ s → slots ≤ s - first → false ≡ slotIn first mask s
   unfolding slotIn
-  slot-behind h k = let j : first + 16 ≤ s = omega arith in rw (le-leb first s h, le-ltb s (first + 16) j)
+  slot-behind h k = let j : first + slots ≤ s = omega arith in rw (le-leb first s h, le-ltb s (first + slots) j)
 
-  pub slot-among : first ≤ s → s - first < 16 → {b : Bool} → b ≡ bitAt mask (s - first) → b ≡ slotIn first mask s
+  pub slot-among : first ≤ s → s - first < slots → {b : Bool} → b ≡ bitAt mask (s - first) → b ≡ slotIn first mask s
   unfolding slotIn
-  slot-among h k e = let j : s < first + 16 = omega arith in rw (le-leb first s h, lt-ltb s (first + 16) j) e
+  slot-among h k e = let j : s < first + slots = omega arith in rw (le-leb first s h, lt-ltb s (first + slots) j) e
 
 module _ (m : Match) (e : Entry) {k x : ℕ} {b : Bool} (ek : k ≡ kindBit (e .kind)) (ex : x ≡ m .kinds) (eb : b ≡ bitAt x k) where
   kind-tested : b ≡ bitAt (m .kinds) (kindBit (e .kind))
@@ -93,12 +93,12 @@ module _ (m : Match) (e : Entry) {k x : ℕ} {b : Bool} (ek : k ≡ kindBit (e .
 pub shift-small : (k : ℕ) → k < 16 → 1 * 2 ^ k % 18446744073709551616 < 65536
 shift-small k h = let b : 2 ^ k < 65536 = pow-lt h in omega arith
 
-pub one-made : (k s : ℕ) → record { kinds = k; first = s / 16 * 16; mask = 1 * 2 ^ (s % 16) % 18446744073709551616 } ≡ oneSlot k s
+pub one-made : (k s : ℕ) → record { kinds = k; first = s / slots * slots; mask = 1 * 2 ^ (s % slots) % 18446744073709551616 } ≡ oneSlot k s
 unfolding oneSlot
 one-made k s =
-    let h : s % 16 < 16 = omega arith in
-    let b : 2 ^ (s % 16) < 65536 = pow-lt h in
-    let e : 1 * 2 ^ (s % 16) % 18446744073709551616 ≡ 2 ^ (s % 16) = omega arith in
+    let h : s % slots < 16 = omega arith in
+    let b : 2 ^ (s % slots) < 65536 = pow-lt h in
+    let e : 1 * 2 ^ (s % slots) % 18446744073709551616 ≡ 2 ^ (s % slots) = omega arith in
     rw e
 
 -- One entry of a sweep.

@@ -1,13 +1,13 @@
 -- The queues as lists: what each change makes of the peer's own queue, and that it leaves the others.
 -- Assumes nothing.
-use Prim.Native.Nat.{ℕ, zero, suc, _+_, _*_, _-_, _%_, _≤_, _<_}
+use Prim.Native.Nat.{ℕ, suc, _+_, _*_, _-_, _%_, _≤_, _<_}
 use mathlib.Core.Path.{_≡_, refl, sym, ap, ap₂, _∙_}
-use mathlib.Core.Bool.{Bool, true, false, not}
+use mathlib.Core.Bool.{Bool, not}
 use mathlib.Core.List.{List, [], _∷_, _++_, append-nil, append-assoc}
 use native.Mathlib.Omega.{arith}
 use native.Mathlib.Numerals.{add-one}
-use lib.ListN.{getD, length, set, length-set, length-append}
-use lib.Seq.{sets, length-sets, getD-set-same, getD-set-other}
+use lib.ListN.{getD, length, set, length-set}
+use lib.Seq.{length-sets, getD-set-same, getD-set-other}
 use Rattle.laws.specs.Weights.{All, all-keep, keep, keep-le}
 use Rattle.laws.specs.Build.{build, build-ext, build-snoc, build-length, build-at}
 use Rattle.laws.specs.Rows.{rowIn, row-length, row-self, row-put, row-put-other, all-build}

@@ -1,17 +1,16 @@
 -- What a removal's test says: of the kinds, of the slots of one owner, of one slot.
 -- Assumes nothing.
 use Prim.Native.Nat.{ℕ, zero, suc, _+_, _*_, _-_, _/_, _%_, _^_, _≤_, _<_}
-use mathlib.Core.Path.{_≡_, refl, sym, ap, _∙_}
-use mathlib.Core.Bool.{Bool, true, false}
+use mathlib.Core.Path.{_≡_, refl, ap, _∙_}
+use mathlib.Core.Bool.{false}
 use native.Mathlib.Omega.{arith}
 use native.Mathlib.Nat.{div-eq-of-lt}
 use lib.Dec.{eqb, ltb, leb}
 use lib.Pow.{pow-lt, pow-add, shl-shr}
 use borrow.Author.Tests.{eqb-true, eqb-false, leb-true, leb-false, ltb-true, ltb-false, eq-eqb, ne-eqb, le-ltb}
 use Rattle.laws.specs.Tests.{pick, Seen, Seen.is-true, Seen.is-false, look}
-use Rattle.rings.specs.Rings.{bitAt, kindBit, slotIn, matches, oneSlot}
+use Rattle.rings.specs.Rings.{slots, bitAt, kindBit, slotIn, matches, oneSlot}
 use Rattle.rings.specs.declared.Entry.{Entry}
-use Rattle.rings.specs.declared.Match.{Match}
 
 -- A kind that is no notice's is a message's.
 pub kind-other : (k : ℕ) → (k ≡ 1 → ⊥) → (k ≡ 2 → ⊥) → kindBit k ≡ 0
@@ -46,40 +45,40 @@ bit-one a b = go (look (ltb b a)) (look (ltb a b))
         let z : a - b ≡ 0 = omega arith in
         rw (eq-eqb b a e, split k, z)
 
--- The slots of the owner p are p * 16 to p * 16 + 15: a set of them, and one.
-pub slot-set : (p mask s : ℕ) → slotIn (p * 16) mask s ≡ pick (eqb (s / 16) p) (bitAt mask (s % 16)) false
+-- A set of the slots of the owner p, and one slot.
+pub slot-set : (p mask s : ℕ) → slotIn (p * slots) mask s ≡ pick (eqb (s / slots) p) (bitAt mask (s % slots)) false
 unfolding slotIn
-slot-set p mask s = go (look (leb (p * 16) s)) (look (ltb s (p * 16 + 16)))
+slot-set p mask s = go (look (leb (p * slots) s)) (look (ltb s (p * slots + slots)))
   where
-    apart : (s / 16 ≡ p → ⊥) → false ≡ pick (eqb (s / 16) p) (bitAt mask (s % 16)) false
-    apart n = rw (ne-eqb (s / 16) p n)
+    apart : (s / slots ≡ p → ⊥) → false ≡ pick (eqb (s / slots) p) (bitAt mask (s % slots)) false
+    apart n = rw (ne-eqb (s / slots) p n)
 
-    go : Seen (leb (p * 16) s) → Seen (ltb s (p * 16 + 16)) → slotIn (p * 16) mask s ≡ pick (eqb (s / 16) p) (bitAt mask (s % 16)) false
-    go (is-false a) b = let h : s < p * 16 = leb-false (p * 16) s a in rw a (apart (λ e. absurd (omega arith)))
-    go (is-true a) (is-false b) = let h : p * 16 + 16 ≤ s = ltb-false s (p * 16 + 16) b in rw (a, b) (apart (λ e. absurd (omega arith)))
+    go : Seen (leb (p * slots) s) → Seen (ltb s (p * slots + slots)) → slotIn (p * slots) mask s ≡ pick (eqb (s / slots) p) (bitAt mask (s % slots)) false
+    go (is-false a) b = let h : s < p * slots = leb-false (p * slots) s a in rw a (apart (λ e. absurd (omega arith)))
+    go (is-true a) (is-false b) = let h : p * slots + slots ≤ s = ltb-false s (p * slots + slots) b in rw (a, b) (apart (λ e. absurd (omega arith)))
     go (is-true a) (is-true b) =
-        let h : p * 16 ≤ s = leb-true (p * 16) s a in
-        let k : s < p * 16 + 16 = ltb-true s (p * 16 + 16) b in
-        let e : s / 16 ≡ p = omega arith in
-        let f : s - p * 16 ≡ s % 16 = omega arith in
-        rw (a, b, eq-eqb (s / 16) p e, f)
+        let h : p * slots ≤ s = leb-true (p * slots) s a in
+        let k : s < p * slots + slots = ltb-true s (p * slots + slots) b in
+        let e : s / slots ≡ p = omega arith in
+        let f : s - p * slots ≡ s % slots = omega arith in
+        rw (a, b, eq-eqb (s / slots) p e, f)
 
-pub slot-one : (t s : ℕ) → slotIn (t / 16 * 16) (2 ^ (t % 16)) s ≡ eqb s t
-slot-one t s = slot-set (t / 16) (2 ^ (t % 16)) s ∙ rw (bit-one (t % 16) (s % 16)) (go (look (eqb s t)) (look (eqb (s / 16) (t / 16))))
+pub slot-one : (t s : ℕ) → slotIn (t / slots * slots) (2 ^ (t % slots)) s ≡ eqb s t
+slot-one t s = slot-set (t / slots) (2 ^ (t % slots)) s ∙ rw (bit-one (t % slots) (s % slots)) (go (look (eqb s t)) (look (eqb (s / slots) (t / slots))))
   where
-    go : Seen (eqb s t) → Seen (eqb (s / 16) (t / 16)) → pick (eqb (s / 16) (t / 16)) (eqb (s % 16) (t % 16)) false ≡ eqb s t
+    go : Seen (eqb s t) → Seen (eqb (s / slots) (t / slots)) → pick (eqb (s / slots) (t / slots)) (eqb (s % slots) (t % slots)) false ≡ eqb s t
     go (is-true e) y =
         let h : s ≡ t = eqb-true s t e in
-        rw (e, eq-eqb (s / 16) (t / 16) (omega arith), eq-eqb (s % 16) (t % 16) (omega arith))
+        rw (e, eq-eqb (s / slots) (t / slots) (omega arith), eq-eqb (s % slots) (t % slots) (omega arith))
     go (is-false e) (is-false f) = rw (e, f)
     go (is-false e) (is-true f) =
-        let h : s / 16 ≡ t / 16 = eqb-true (s / 16) (t / 16) f in
-        rw (e, f, ne-eqb (s % 16) (t % 16) (λ g. eqb-false s t e (omega arith)))
+        let h : s / slots ≡ t / slots = eqb-true (s / slots) (t / slots) f in
+        rw (e, f, ne-eqb (s % slots) (t % slots) (λ g. eqb-false s t e (omega arith)))
 
 -- What matches, in these words: an entry of these kinds, about a slot of the owner p in the mask, or about the slot t.
 pub matches-set : (k p mask : ℕ) (e : Entry) →
-    matches (record { kinds = k; first = p * 16; mask = mask }) e
-    ≡ pick (bitAt k (kindBit (e .kind))) (pick (eqb (e .slot / 16) p) (bitAt mask (e .slot % 16)) false) false
+    matches (record { kinds = k; first = p * slots; mask = mask }) e
+    ≡ pick (bitAt k (kindBit (e .kind))) (pick (eqb (e .slot / slots) p) (bitAt mask (e .slot % slots)) false) false
 unfolding matches
 matches-set k p mask e = rw (slot-set p mask (e .slot))
 

@@ -1,8 +1,8 @@
 -- The queues of all peers in four tables: of each peer a ring of rows, in which its queue stands from its head on, oldest first.
 -- Assumes nothing.
-use Prim.Native.Nat.{ℕ, zero, suc, _+_, _*_, _-_, _/_, _%_, _^_}
+use Prim.Native.Nat.{ℕ, suc, _+_, _*_, _-_, _/_, _%_, _^_}
 use mathlib.Core.Path.{_≡_}
-use mathlib.Core.Bool.{Bool, true, false, not}
+use mathlib.Core.Bool.{Bool, false, not}
 use mathlib.Core.List.{List, [], _∷_}
 use lib.ListN.{getD, length, set}
 use lib.Seq.{sets}
@@ -20,6 +20,10 @@ peers = 8
 
 abbrev pub ringSize : ℕ
 ringSize = 512
+
+-- The slots of one owner: those of the peer p are p * slots to p * slots + 15.
+abbrev pub slots : ℕ
+slots = 16
 
 abbrev pub rowCount : ℕ
 rowCount = peers * ringSize
@@ -103,7 +107,7 @@ unfoldable pub cleared : List ℕ → ℕ → List ℕ
 cleared d p = set d (p * 2 + 1) 0
 
 -- Which entries a removal takes out: by kind (1 a destroy notice, 2 a release notice, anything else a message), each kind a bit of `kinds`,
--- and by slot, each of the 16 slots from `first` on a bit of `mask`.
+-- and by slot, each of the slots from `first` on a bit of `mask`.
 abbrev pub bitAt : ℕ → ℕ → Bool
 bitAt x k = eqb (x / 2 ^ k % 2) 1
 
@@ -111,14 +115,14 @@ abbrev pub kindBit : ℕ → ℕ
 kindBit k = pick (ltb k 3) k 0
 
 unfoldable pub slotIn : ℕ → ℕ → ℕ → Bool
-slotIn first mask s = pick (leb first s) (pick (ltb s (first + 16)) (bitAt mask (s - first)) false) false
+slotIn first mask s = pick (leb first s) (pick (ltb s (first + slots)) (bitAt mask (s - first)) false) false
 
 unfoldable pub matches : Match → Entry → Bool
 matches m e = pick (bitAt (m .kinds) (kindBit (e .kind))) (slotIn (m .first) (m .mask) (e .slot)) false
 
--- The match of one slot: the 16 slots of its owner, of which one is meant.
+-- The match of one slot: of its owner's slots that one.
 unfoldable pub oneSlot : ℕ → ℕ → Match
-oneSlot kinds s = record { kinds = kinds; first = s / 16 * 16; mask = 2 ^ (s % 16) }
+oneSlot kinds s = record { kinds = kinds; first = s / slots * slots; mask = 2 ^ (s % slots) }
 
 unfoldable pub others : Match → List Entry → List Entry
 others m es = keep (λ e. not (matches m e)) es

@@ -1,5 +1,5 @@
-// The queues of the eight peers in four lent tables: of each peer a ring of 512 rows, in which its queue stands from its
-// head on, oldest first. Row r of the peer p is row p * 512 + r of the tables `entries` (5 numbers a row), `carried`
+// The queues of the eight peers in four lent tables: of each peer a ring of RING rows, in which its queue stands from its
+// head on, oldest first. Row r of the peer p is row p * RING + r of the tables `entries` (5 numbers a row), `carried`
 // (8 slots a row) and `numbers` (the number of the command that queued it); `ends` has 2 numbers a peer, head and length.
 ghost use mathlib.Core.Path.{_≡_};
 ghost use Prim.Native.Nat.{_+_, _*_, _<_, _≤_};
@@ -11,6 +11,9 @@ use ids::Peer;
 
 // The rows of one peer's ring.
 const RING: usize = 512;
+
+// The slots of one owner, each a bit of a mask.
+const SLOTS: usize = 16;
 
 // A queued entry. Kind 1 is a destroy notice, 2 a release notice, anything else a message with its destination's slot,
 // its sender's user, its payload bytes, its attached handles and their slots.
@@ -198,7 +201,7 @@ fn has_slot(first: usize, mask: usize, slot: usize) -> bool
         return false;
     }
     let k = slot - first;
-    if 16 <= k {
+    if SLOTS <= k {
         return false;
     }
     bit(mask, k)
@@ -218,8 +221,8 @@ impl Match {
         let one: usize = 1;
         Self {
             kinds: kinds,
-            first: slot / 16 * 16,
-            mask: (one << (slot % 16)) as u16,
+            first: slot / SLOTS * SLOTS,
+            mask: (one << (slot % SLOTS)) as u16,
         }
     }
 }
@@ -236,11 +239,11 @@ pub fn is_match(m: Match, e: Entry) -> bool
 }
 
 // Where a sweep stands: the peer and its head, the entries read, the entries kept.
-pub struct At {
-    pub p: Peer,
-    pub head: usize,
-    pub read: usize,
-    pub kept: usize,
+struct At {
+    p: Peer,
+    head: usize,
+    read: usize,
+    kept: usize,
 }
 
 // The next entry moves behind those that were kept, unless it matches. How many are kept now.
