@@ -14,3 +14,12 @@ pub mod Claim
 pub mod Table
 pub mod Tested
 pub mod Accepted
+pub mod Queues
+pub mod QueuesLaws
+pub mod QueuesProof
+pub mod Unchanged
+pub mod Order
+pub mod OrderProof
+pub mod Coded
+pub mod Progress
+pub mod ProgressProof

@@ -1,0 +1,58 @@
+-- How the queues change: the entries of a queue stay in their order, some leave it, and new ones come behind them.
+-- Assumes nothing.
+use Prim.Native.Nat.{ℕ, _+_, _<_}
+use mathlib.Core.Path.{_≡_}
+use mathlib.Core.Bool.{false}
+use mathlib.Core.Logic.{_⊎_}
+use mathlib.Core.List.{List, [], _∷_, _++_}
+use lib.Dec.{eqb}
+use Rattle.laws.specs.Tests.{pick}
+use Rattle.laws.specs.Weights.{All}
+use Rattle.frames.specs.declared.Command.{Command}
+use Rattle.frames.specs.declared.Command.the-variants.{Open, Disconnect, Create, Destroy, Release, Transfer, Send, Receive, Quota, Holders}
+use Rattle.model.specs.State.{isLive, held, Entry, Entry.message, Entry.destroyed, Entry.released, State, total}
+
+-- The number of the accepted command that queued an entry.
+abbrev pub stamp : Entry → ℕ
+stamp (message n m) = n
+stamp (destroyed n s) = n
+stamp (released n s) = n
+
+-- A queue q became r: of the entries of q those that are not gone stand in r in their order, and behind them new ones.
+pub data Later (gone new : Entry → Type 0) : List Entry → List Entry → Type 0 where
+  behind : {r : List Entry} → All new r → Later gone new [] r
+  stays : {e : Entry} {q r : List Entry} → Later gone new q r → Later gone new (e ∷ q) (e ∷ r)
+  leaves : {e : Entry} {q r : List Entry} → gone e → Later gone new q r → Later gone new (e ∷ q) r
+
+-- Why an entry leaves the queue of p unreceived, from the state b before a command to the state a after it. A message is dropped:
+-- "Queued messages for the node are still delivered, until the owner's handle is gone". A notice is withdrawn "when its holder's handle goes",
+-- a release notice also "if the sum rises or the node is destroyed".
+abbrev pub Lapsed : State → State → ℕ → Entry → Type 0
+Lapsed b a p (message n m) = held (a .handle p (m .to)) ≡ false
+Lapsed b a p (destroyed n s) = held (a .handle p s) ≡ false
+Lapsed b a p (released n s) = (held (a .handle p s) ≡ false) ⊎ ((total (b .handle) s < total (a .handle) s) ⊎ (isLive (a .life s) ≡ false))
+
+-- What a command queues carries its own number, the next one.
+abbrev pub Next : State → Entry → Type 0
+Next b e = stamp e ≡ b .accepted + 1
+
+-- What an accepted command takes out of the queue of p for its answer: a receive of p the first entry.
+abbrev pub front : List Entry → List Entry
+front [] = []
+front (e ∷ q) = e ∷ []
+
+abbrev pub takenBy : State → ℕ → Command → List Entry
+takenBy b p (Open q u) = []
+takenBy b p (Disconnect q) = []
+takenBy b p (Create q i) = []
+takenBy b p (Destroy q i) = []
+takenBy b p (Release q i) = []
+takenBy b p (Transfer q i t) = []
+takenBy b p (Send q z) = []
+takenBy b p (Receive q room) = pick (eqb (q .0) p) (front (b .queue p)) []
+takenBy b p (Quota q u) = []
+takenBy b p (Holders q i) = []
+
+-- From the state b to the state a, while taken came out of the queue of p.
+abbrev pub Moved : State → State → ℕ → List Entry → Type 0
+Moved b a p taken = Later (Lapsed b a p) (Next b) (b .queue p) (taken ++ a .queue p)
