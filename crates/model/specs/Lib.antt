@@ -23,3 +23,7 @@ pub mod OrderProof
 pub mod Coded
 pub mod Progress
 pub mod ProgressProof
+pub mod Ascending
+pub mod Ids
+pub mod IdsLaws
+pub mod IdsProof

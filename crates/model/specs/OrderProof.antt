@@ -10,7 +10,7 @@ use Rattle.model.specs.Effects.{effect}
 use Rattle.model.specs.Accepted.{Kept, induction}
 use Rattle.model.specs.Unchanged.{Count, Count.one-more, Count.nothing, effect-count}
 use Rattle.model.specs.Queues.{stamp, Later, Later.behind, Later.stays, Later.leaves, takenBy}
-use Rattle.model.specs.QueuesLaws.{later-all}
+use Rattle.model.specs.QueuesLaws.{all-behind, later-all}
 use Rattle.model.specs.QueuesProof.{moved}
 use Rattle.model.specs.Order.{InOrder, Ordered, Order}
 
@@ -33,10 +33,6 @@ behind-order : (t q : List Entry) → InOrder (t ++ q) → InOrder q
 behind-order [] q o = o
 behind-order (e ∷ t) q o = behind-order t q (o .1)
 
-behind-all : (P : Entry → Type 0) (t q : List Entry) → All P (t ++ q) → All P q
-behind-all P [] q a = a
-behind-all P (e ∷ t) q a = behind-all P t q (a .1)
-
 ordered-kept : Kept (λ b. (p : ℕ) → Ordered (b .accepted) (b .queue p))
 ordered-kept b f k h l e p = go (effect-count b f k) (h p)
   where
@@ -50,7 +46,7 @@ ordered-kept b f k h l e p = go (effect-count b f k) (h p)
         let a = effect b f k .queue p in
         record {
           in-order = behind-order t a (later-order n m low (o .in-order));
-          numbered = rw z (behind-all (λ d. stamp d ≤ n) t a (later-all (λ d. stamp d ≤ n) (λ d y. omega arith) m low));
+          numbered = rw z (all-behind (λ d. stamp d ≤ n) t a (later-all (λ d. stamp d ≤ n) (λ d y. omega arith) m low));
         }
 
 pub order : Order

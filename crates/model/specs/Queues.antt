@@ -4,13 +4,15 @@ use Prim.Native.Nat.{ℕ, _+_, _<_}
 use mathlib.Core.Path.{_≡_}
 use mathlib.Core.Bool.{false}
 use mathlib.Core.Logic.{_⊎_}
-use mathlib.Core.List.{List, [], _∷_, _++_}
+use mathlib.Core.List.{List, [], _∷_, _++_, map}
 use lib.Dec.{eqb}
 use Rattle.laws.specs.Tests.{pick}
 use Rattle.laws.specs.Weights.{All}
 use Rattle.frames.specs.declared.Command.{Command}
 use Rattle.frames.specs.declared.Command.the-variants.{Open, Disconnect, Create, Destroy, Release, Transfer, Send, Receive, Quota, Holders}
-use Rattle.model.specs.State.{isLive, held, Entry, Entry.message, Entry.destroyed, Entry.released, State, total}
+use Rattle.frames.specs.Frame.{payloadOf}
+use Rattle.model.specs.State.{isLive, held, Entry, Entry.message, Entry.destroyed, Entry.released, State, slot, total}
+use Rattle.model.specs.Requests.{destinations, attached}
 
 -- The number of the accepted command that queued an entry.
 abbrev pub stamp : Entry → ℕ
@@ -53,6 +55,25 @@ takenBy b p (Receive q room) = pick (eqb (q .0) p) (front (b .queue p)) []
 takenBy b p (Quota q u) = []
 takenBy b p (Holders q i) = []
 
+-- What an accepted command queues as messages, one for each destination: a send alone.
+abbrev pub sentBy : State → List ℕ → Command → List Entry
+sentBy b f (Open q u) = []
+sentBy b f (Disconnect q) = []
+sentBy b f (Create q i) = []
+sentBy b f (Destroy q i) = []
+sentBy b f (Release q i) = []
+sentBy b f (Transfer q i t) = []
+sentBy b f (Send q z) =
+    map
+    (λ d. message (b .accepted + 1) (record { to = d; user = b .user (q .0); payload = payloadOf f; carried = map (slot b (q .0)) (attached f z) }))
+    (map (slot b (q .0)) (destinations f z))
+sentBy b f (Receive q room) = []
+sentBy b f (Quota q u) = []
+sentBy b f (Holders q i) = []
+
 -- From the state b to the state a, while taken came out of the queue of p.
+abbrev pub MovedBy : (Entry → Type 0) → State → State → ℕ → List Entry → Type 0
+MovedBy new b a p taken = Later (Lapsed b a p) new (b .queue p) (taken ++ a .queue p)
+
 abbrev pub Moved : State → State → ℕ → List Entry → Type 0
-Moved b a p taken = Later (Lapsed b a p) (Next b) (b .queue p) (taken ++ a .queue p)
+Moved b a p taken = MovedBy (Next b) b a p taken

@@ -68,6 +68,18 @@ pub map-new : {A : Type 0} (new : Entry → Type 0) (f : A → Entry) → ((s : 
 map-new new f h [] = tt
 map-new new f h (s ∷ ss) = (h s, map-new new f h ss)
 
+pub all-map : {A B : Type 0} (P : B → Type 0) (f : A → B) (xs : List A) → All (λ x. P (f x)) xs → All P (map f xs)
+all-map P f [] h = tt
+all-map P f (x ∷ xs) h = (h .0, all-map P f xs (h .1))
+
+pub map-all-of : {A B : Type 0} (P : B → Type 0) (f : A → B) (xs : List A) → All P (map f xs) → All (λ x. P (f x)) xs
+map-all-of P f [] h = tt
+map-all-of P f (x ∷ xs) h = (h .0, map-all-of P f xs (h .1))
+
+pub all-behind : {A : Type 0} (P : A → Type 0) (xs ys : List A) → All P (xs ++ ys) → All P ys
+all-behind P [] ys a = a
+all-behind P (x ∷ xs) ys a = all-behind P xs ys (a .1)
+
 module _ (gone : ℕ → Entry → Type 0) (new : Entry → Type 0) (x : State) where
   pub each-set : (p : ℕ) (r : List Entry) → Later (gone p) new (x .queue p) r → (q : ℕ) → Later (gone q) new (x .queue q) (upd (x .queue) p r q)
   each-set p r h = upd-all (λ q r. Later (gone q) new (x .queue q) r) (x .queue) p r (λ q. later-refl (x .queue q)) h
