@@ -37,11 +37,11 @@ handle-some i zero j d e = none-some e
 handle-some i (suc c) j d e = let z : suc c ≡ d = same-count e in (same-id e, omega arith)
 
 -- The handles after one of them changed.
-data Changed (h : ℕ → Handle) (s i t j d : ℕ) : Type 0 where
+pub data Changed (h : ℕ → Handle) (s i t j d : ℕ) : Type 0 where
   here : s ≡ t → i ≡ j → 0 < d → Changed h s i t j d
   there : (s ≡ t → ⊥) → h t ≡ some j d → Changed h s i t j d
 
-changed : (h : ℕ → Handle) (s i c t j d : ℕ) → upd h s (handleOf i c) t ≡ some j d → Changed h s i t j d
+pub changed : (h : ℕ → Handle) (s i c t j d : ℕ) → upd h s (handleOf i c) t ≡ some j d → Changed h s i t j d
 changed h s i c t j d e = go (same? s t)
   where
     go : Same s t → Changed h s i t j d

@@ -36,7 +36,7 @@ use Rattle.model.specs.Ids.{Handles, Holding, Carries, Ids, SoundIds}
 use Rattle.model.specs.IdsLaws.{none-some, same-id, handles-set, Fit, fit-of, at-slot, held-kept, held-of, holding-give, holding-gives, gives-given, give-given}
 
 -- A state with the same handles, given IDs and lives.
-holding-same : (b a : State) → a .handle ≡ b .handle → a .given ≡ b .given → a .life ≡ b .life → Holding b → Holding a
+pub holding-same : (b a : State) → a .handle ≡ b .handle → a .given ≡ b .given → a .life ≡ b .life → Holding b → Holding a
 holding-same b a h g l v = record { handles = λ p. rw (h, g) (v .handles p); owned = λ s e. rw h (v .owned s (rw l at e)) }
 
 -- Create: the ID is at no handle of the peer.
@@ -161,7 +161,7 @@ holding-release b p s (some i c) e n v =
     (holding-less b p s i c v e n))
 
 -- Receive.
-holding-out : (b : State) (p : ℕ) (out : List Message) (rest : List Entry) → Holding b → Holding (takeOut (accept b) p out rest)
+pub holding-out : (b : State) (p : ℕ) (out : List Message) (rest : List Entry) → Holding b → Holding (takeOut (accept b) p out rest)
 unfolding takeOut withCharges withQueues accept
 holding-out b p out rest v = record { handles = v .handles; owned = v .owned }
 
@@ -214,7 +214,7 @@ sent-carries b f (Quota p u) l e = tt
 sent-carries b f (Holders p i) l e = tt
 
 -- The IDs given by one command.
-release-given : (b : State) (p s : ℕ) (h : Handle) → releasesHandle (accept b) p s h .given ≡ b .given
+pub release-given : (b : State) (p s : ℕ) (h : Handle) → releasesHandle (accept b) p s h .given ≡ b .given
 unfolding releases
 release-given b p s none = unfold accept in refl
 release-given b p s (some i c) =

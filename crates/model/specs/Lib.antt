@@ -27,3 +27,6 @@ pub mod Ascending
 pub mod Ids
 pub mod IdsLaws
 pub mod IdsProof
+pub mod Given
+pub mod GivenLaws
+pub mod GivenProof
