@@ -1,25 +1,21 @@
--- The answers' definitions as runs of stores: each piece behind the one before it, and how long each is.
+-- The answers' definitions as runs of stores: each piece behind the one before it.
 -- Assumes nothing.
 use Prim.Native.Nat.{ℕ, suc, _+_, _*_, _/_, _%_, _≤_, _<_, min}
-use mathlib.Core.Path.{_≡_, refl, sym, ap, _∙_}
-use mathlib.Core.Bool.{Bool}
-use mathlib.Core.List.{List, [], _∷_, _++_, append-assoc, append-nil}
+use mathlib.Core.Path.{_≡_, refl, ap, _∙_}
+use mathlib.Core.List.{List, [], _∷_, _++_, append-nil}
 use native.Mathlib.Omega.{arith}
 use native.Mathlib.Numerals.{add-one}
-use lib.ListN.{length, getD, take, drop, set, length-append, length-take}
+use lib.ListN.{length, getD, take, set, length-take}
 use lib.Seq.{sets, take-suc, length-take-le}
 use borrow.Author.Tests.{lt-ltb, le-ltb}
 use Rattle.laws.specs.Bytes.{be, be-two, be-eight, be-length}
-use Rattle.laws.specs.Stores.{sets-append, sets-then, over, take-min}
+use Rattle.laws.specs.Stores.{sets-then, over, take-min}
 use Rattle.quota.specs.declared.Charge.{Charge}
 use Rattle.quota.specs.declared.Balance.{Balance}
-use Rattle.ids.specs.declared.HandleId.{HandleId}
 use Rattle.answers.specs.declared.Header.{Header}
-use Rattle.answers.specs.declared.Received.{Received}
-use Rattle.answers.specs.declared.Received.the-variants.{Message, Destroyed, Released}
 use Rattle.answers.specs.declared.Answer.{Answer}
-use Rattle.answers.specs.declared.Answer.the-variants.{Refused, Done, Transferred, Received as received, Quota, Holders}
-use Rattle.answers.specs.Answer.{idBytes, bit, headerBytes, messageBytes, noticeBytes, receivedBytes, chargeBytes, balanceBytes, holderBytes, numberOf, contentsOf, answerBytes, answerAfter, outcomeOf, answerSize, EINVAL, mostIds, mostBytes}
+use Rattle.answers.specs.AnswerLaws.{ids-length, ids-append, charge-length, header-length, message-length, contents-size}
+use Rattle.answers.specs.Answer.{idBytes, bit, headerBytes, messageBytes, chargeBytes, balanceBytes, numberOf, contentsOf, answerBytes, answerAfter, outcomeOf, answerSize, EINVAL, mostIds, mostBytes}
 
 pub two-stores : (o : List ℕ) (t x : ℕ) → set (set o t (x / 256 % 256)) (t + 1) (x % 256) ≡ sets o t (be 2 x)
 two-stores o t x = let e : t + 1 ≡ suc t = omega arith in rw (be-two x, e)
@@ -53,16 +49,6 @@ eight-stores o t x =
     rw (be-eight x, e1, e2, e3, e4, e5, e6, e7)
 
 -- IDs, one after another
-pub ids-length : (is : List ℕ) → length (idBytes is) ≡ 8 * length is
-unfolding idBytes
-ids-length [] = refl
-ids-length (i ∷ is) = rw (length-append, be-length 8 i) (omega (arith, ids-length is))
-
-pub ids-append : (is js : List ℕ) → idBytes (is ++ js) ≡ idBytes is ++ idBytes js
-unfolding idBytes
-ids-append [] js = refl
-ids-append (i ∷ is) js = ap (λ (r : List ℕ). be 8 i ++ r) (ids-append is js) ∙ sym (append-assoc (be 8 i) (idBytes is) (idBytes js))
-
 pub ids-next : (o o₁ o₂ is : List ℕ) (at k j : ℕ) → k < length is → o₁ ≡ sets o at (idBytes (take k is)) → j ≡ at + 8 * k →
     o₂ ≡ sets o₁ j (be 8 (getD is k 0)) → o₂ ≡ sets o at (idBytes (take (k + 1) is))
 unfolding idBytes
@@ -74,10 +60,6 @@ ids-next o o₁ o₂ is at k j h e f g =
     rw t (sets-then o o₁ o₂ at j (idBytes (take k is)) (be 8 (getD is k 0)) e (rw n f) g)
 
 -- three numbers of two bytes
-pub charge-length : (c : Charge) → length (chargeBytes c) ≡ 6
-unfolding chargeBytes
-charge-length c = rw (length-append, length-append, be-length 2 (c .messages), be-length 2 (c .bytes), be-length 2 (c .handles))
-
 module _ (o o₁ o₂ o₃ : List ℕ) (at a b : ℕ) (c : Charge) where
   pub charge-stores : o₁ ≡ sets o at (be 2 (c .messages)) → a ≡ at + 2 → o₂ ≡ sets o₁ a (be 2 (c .bytes)) → b ≡ a + 2 → o₃ ≡ sets o₂ b (be 2 (c .handles)) →
       o₃ ≡ sets o at (chargeBytes c)
@@ -90,10 +72,6 @@ pub balance-stores : (o o₁ o₂ : List ℕ) (at : ℕ) (b : Balance) → o₁ 
     o₂ ≡ sets o 1 (balanceBytes b)
 unfolding balanceBytes
 balance-stores o o₁ o₂ at b e f g = sets-then o o₁ o₂ 1 at (chargeBytes (b .queued)) (chargeBytes (b .left)) e (rw (charge-length (b .queued)) f) g
-
-pub balance-length : (b : Balance) → length (balanceBytes b) ≡ 12
-unfolding balanceBytes
-balance-length b = rw (length-append, charge-length (b .queued), charge-length (b .left))
 
 -- the header: a byte, an ID, two bytes, a number of two bytes, a byte
 pub header-stores : (o o₁ o₂ : List ℕ) (at end : ℕ) (h : Header) → o₁ ≡ sets (set o 1 1) 2 (be 8 (h .to .0)) → at ≡ 2 + 8 →
@@ -111,16 +89,8 @@ header-stores o o₁ o₂ at end h e f g k =
     (rw (be-length 2 (h .nb)))
     refl))
 
-pub header-length : (h : Header) → length (headerBytes h) ≡ 14
-unfolding headerBytes
-header-length h = rw (length-append, length-append, be-length 8 (h .to .0), be-length 2 (h .nb))
-
 -- a message: the header, at most 8 IDs, at most 512 bytes
 module _ (h : Header) (is bs : List ℕ) where
-  pub message-length : length (messageBytes h is bs) ≡ 14 + (8 * min mostIds (length is) + min mostBytes (length bs))
-  unfolding messageBytes
-  message-length = rw (length-append, length-append, header-length h, ids-length (take mostIds is), length-take, length-take)
-
   pub message-stores : (o o₁ o₂ o₃ : List ℕ) (at end n m : ℕ) → o₁ ≡ sets o 1 (headerBytes h) → at ≡ 15 → n ≡ min (length is) mostIds →
       o₂ ≡ sets o₁ at (idBytes (take n is)) → end ≡ at + 8 * length (take n is) → m ≡ min (length bs) mostBytes → o₃ ≡ sets o₂ end (take m bs) →
       o₃ ≡ sets o 1 (messageBytes h is bs)
@@ -136,27 +106,7 @@ module _ (h : Header) (is bs : List ℕ) where
   message-end at end n m r f i j k l =
       let a : length (take n is) ≡ min n (length is) = length-take n is in
       let b : length (take m bs) ≡ min m (length bs) = length-take m bs in
-      omega (arith, message-length)
-
-pub notice-length : (kind : ℕ) (i : HandleId) → length (noticeBytes kind i) ≡ 9
-unfolding noticeBytes
-notice-length kind i = rw (be-length 8 (i .0))
-
--- the longest is a message with 8 IDs and 512 bytes
-pub received-size : (r : Received) (is bs : List ℕ) → length (receivedBytes r is bs) ≤ 590
-unfolding receivedBytes
-received-size (Message h) is bs = omega (arith, message-length h is bs)
-received-size (Destroyed i) is bs = omega (arith, notice-length 2 i)
-received-size (Released i) is bs = omega (arith, notice-length 3 i)
-
-pub contents-size : (a : Answer) (is bs : List ℕ) → length (contentsOf a is bs) ≤ 590
-unfolding contentsOf holderBytes
-contents-size (Refused n) is bs = omega arith
-contents-size Done is bs = omega arith
-contents-size (Transferred i) is bs = omega (arith, be-length 8 (i .0))
-contents-size (received r) is bs = received-size r is bs
-contents-size (Quota b) is bs = omega (arith, balance-length b)
-contents-size (Holders h) is bs = omega arith
+      omega (arith, message-length h is bs)
 
 -- an answer, written or refused for want of room
 module _ (a : Answer) (is bs o : List ℕ) where

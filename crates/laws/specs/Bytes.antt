@@ -2,11 +2,11 @@
 -- Assumes nothing.
 use Prim.Native.Nat.{ℕ, zero, suc, _+_, _*_, _/_, _%_, _^_, _≤_, _<_}
 use mathlib.Core.Path.{_≡_, refl, sym, ap, _∙_}
-use mathlib.Core.List.{List, [], _∷_, _++_}
+use mathlib.Core.List.{List, [], _∷_, _++_, append-assoc}
 use native.Mathlib.Omega.{arith}
-use native.Mathlib.Nat.{div-add-mod', add-zero}
+use native.Mathlib.Nat.{div-add-mod', add-zero, zero-add}
 use lib.ListN.{length, getD, length-append, List·getD-append}
-use lib.Seq.{getD-at}
+use lib.Seq.{getD-at, getD-append-add}
 
 -- the w lowest bytes of x, highest first
 unfoldable pub be : ℕ → ℕ → List ℕ
@@ -74,3 +74,26 @@ be-eight x =
     let d6 : x / 1099511627776 / 256 ≡ x / 281474976710656 = omega arith in
     let d7 : x / 281474976710656 / 256 ≡ x / 72057594037927936 = omega arith in
     rw (d2, d3, d4, d5, d6, d7)
+
+-- behind a front stands what stood there without it
+pub num-past : (xs ys : List ℕ) (i w : ℕ) → numAt (xs ++ ys) (length xs + i) w ≡ numAt ys i w
+unfolding numAt
+num-past xs ys i zero = refl
+num-past xs ys i (suc w) =
+    let e : length xs + i + w ≡ length xs + (i + w) = omega arith in
+    rw (e, num-past xs ys i w, getD-append-add xs ys (i + w) 0)
+
+-- a number below 256 ^ w comes back from its w bytes
+num-front : (w x : ℕ) (ys : List ℕ) → x < 256 ^ w → numAt (be w x ++ ys) 0 w ≡ x
+unfolding be numAt
+num-front zero x ys h = omega arith
+num-front (suc w) x ys h =
+    let p : 256 ^ suc w ≡ 256 * 256 ^ w = omega arith in
+    let l : x / 256 < 256 ^ w = omega arith in
+    let e : getD (be w (x / 256) ++ x % 256 ∷ ys) w 0 ≡ x % 256 = getD-at (be w (x / 256)) (x % 256) ys 0 w (be-length w (x / 256)) in
+    rw (append-assoc, num-front w (x / 256) (x % 256 ∷ ys) l, zero-add, e) (omega arith)
+
+pub num-at : (xs ys : List ℕ) (n w x : ℕ) → length xs ≡ n → x < 256 ^ w → numAt (xs ++ (be w x ++ ys)) n w ≡ x
+num-at xs ys n w x e h =
+    let f : n ≡ length xs + 0 = omega arith in
+    rw (f, num-past xs (be w x ++ ys) 0 w) (num-front w x ys h)

@@ -6,15 +6,16 @@ use mathlib.Core.Bool.{Bool, true, false, not}
 use mathlib.Core.List.{List, [], _∷_, _++_}
 use native.Mathlib.Numerals.{add-one}
 use native.Mathlib.Omega.{arith}
-use lib.ListN.{length, getD, set, take, drop, length-take, length-drop, drop-of-length-le}
+use lib.ListN.{length, getD, set, take, drop, length-append, length-take, length-drop, drop-of-length-le}
 use lib.Seq.{sets, take-suc, take-length, getD-take, getD-drop, ext-getD}
 use lib.Dec.{eqb, ltb, leb}
 use borrow.Author.Tests.{ltb-true, eqb-true, eq-eqb, ne-eqb, lt-ltb, le-ltb, leb-true, leb-false, le-leb, lt-leb, not-false}
-use Rattle.laws.specs.Tests.{pick, Seen, Seen.is-true, Seen.is-false, look, clash, pick-then}
+use Rattle.laws.specs.Tests.{pick, pick-cases, Seen, Seen.is-true, Seen.is-false, look, clash, pick-then}
 use Rattle.laws.specs.Search.{first, first-le, first-found, first-before, first-is, first-from}
 use Rattle.laws.specs.Build.{build, build-length, build-store, build-part}
 use Rattle.laws.specs.Stores.{sets-append, getD-past}
-use Rattle.lines.specs.Line.{lf, mostDigits, mostCarried, isDigit, faultPlace, lineLength, digitValue, pairAt, lineRead, readLine, frameAfter, digitOf, digitsOf, answerLine, roomFor, lineWritten, linesAfter, carriedOf}
+use Rattle.lines.specs.Line.{lf, mostDigits, mostCarried, isDigit, faultPlace, lineLength, digitValue, pairAt, lineRead, readLine, afterRead, frameAfter, digitOf, digitsOf, answerLine, roomFor, lineWritten, linesAfter, carriedOf}
+use Rattle.lines.specs.declared.LineRead.{LineRead}
 use Rattle.lines.specs.declared.LineRead.the-variants.{Frame, Bad, Piece}
 use Rattle.lines.specs.declared.Written.the-variants.{Next, Full}
 
@@ -247,3 +248,38 @@ carry-some b l at end {e} {n} q h m k = (sym size, rw (size, same) k)
 
     same : take mostCarried (drop at (take end b)) ≡ take n (drop at b)
     same = ext-getD 0 (take mostCarried (drop at (take end b))) (take n (drop at b)) (size ∙ sym front) (λ i j. char i (rw size at j))
+
+-- What is read fits: a frame in 646 bytes, the place of a fault in 1,292, and a line with its LF in the input.
+abbrev pub Fits : List ℕ → LineRead → Type 0
+Fits s (Frame m next) = (m ≤ 646) × (0 < next) × (next ≤ length s)
+Fits s (Bad place next) = (place ≤ mostDigits) × (0 < next) × (next ≤ length s)
+Fits s (Piece place) = place ≤ mostDigits
+
+pub read-fits : (s : List ℕ) → Fits s (readLine s)
+unfolding readLine lineRead
+read-fits s =
+    let l = take (lineLength s) s in
+    let e : length l ≡ lineLength s = rw length-take (omega (arith, line-le s)) in
+    let p : faultPlace l ≤ mostDigits = omega (arith, fault-le l) in
+    pick-cases (Fits s) (ltb (lineLength s) (length s)) _ (Piece (faultPlace l))
+    (λ t.
+    let h = ltb-true (lineLength s) (length s) t in
+    pick-cases (Fits s) (pick (eqb (faultPlace l) (length l)) (eqb (length l % 2) 0) false) _ (Bad (faultPlace l) (lineLength s + 1))
+    (λ w. let q = eqb-true (faultPlace l) (length l) (pick-then (eqb (faultPlace l) (length l)) false true (λ z. clash (sym z)) w .0) in (omega arith, omega arith, omega arith))
+    (λ w. (p, omega arith, omega arith)))
+    (λ t. p)
+
+-- The frame buffer keeps its length.
+pub after-length : (s b : List ℕ) → length b ≡ 646 → length (frameAfter s b) ≡ 646
+unfolding frameAfter
+after-length s b h = go (readLine s) (read-fits s)
+  where
+    go : (r : LineRead) → Fits s r → length (afterRead r s b) ≡ 646
+    go (Frame m next) f = rw (length-append, build-length (pairAt s) m, length-drop) (omega (arith, f .0))
+    go (Bad place next) f = h
+    go (Piece place) f = h
+
+-- As much is carried over as tells an overlong line, at most.
+pub carried-length : (b : List ℕ) (at end : ℕ) → length (carriedOf b at end) ≤ mostCarried
+unfolding carriedOf
+carried-length b at end = rw length-take (omega arith)

@@ -1,7 +1,7 @@
 -- Document 01, "How the third demand counts": the book. It is fed the bytes of each frame, the number that came back and the bytes of the answer, and nothing else.
 -- Assumes nothing.
 use Prim.Native.Nat.{ℕ, zero, suc, _+_, _-_, _*_}
-use mathlib.Core.Bool.{Bool, true, false, not}
+use mathlib.Core.Bool.{Bool, not}
 use mathlib.Core.List.{List, [], _∷_, _++_, map}
 use lib.ListN.{length, getD}
 use lib.Dec.{eqb, ltb}
@@ -142,12 +142,12 @@ noteCreate k p i =
       received = k .received;
       dropped = k .dropped;
       handle = upd (k .handle) p (upd (k .handle p) i (notedOf (record { owner = p; number = k .entered }) 1));
-      entered = k .entered + 1;
+      entered = suc (k .entered);
     }
 
 -- An ID at a peer names a node; its count rises by 1.
 abbrev pub raise : Book → ℕ → ℕ → Node → Book
-raise k p i n = putHandle k p i (notedOf n (countOf (k .handle p i) + 1))
+raise k p i n = putHandle k p i (notedOf n (suc (countOf (k .handle p i))))
 
 -- "Transfer: the answered ID at the destination peer names the source ID's node; its count rises by 1."
 abbrev pub noteTransfer : Book → Noted → ℕ → ℕ → Book

@@ -1,8 +1,8 @@
 -- The small changes of a state that the effects of the commands are made of.
 -- The number of the accepted command that is being carried out is `b .accepted`: it is counted before its changes.
 -- Assumes nothing.
-use Prim.Native.Nat.{ℕ, _+_}
-use mathlib.Core.Bool.{Bool, true, false, not}
+use Prim.Native.Nat.{ℕ, suc}
+use mathlib.Core.Bool.{Bool, true, not}
 use mathlib.Core.List.{List, [], _∷_, _++_, map}
 use lib.ListN.{length}
 use lib.Dec.{eqb, ltb}
@@ -14,7 +14,7 @@ use Rattle.quota.specs.declared.Charges.{Charges}
 use Rattle.quota.specs.Charges.{charged, discharged}
 use Rattle.model.specs.Numbers.{peers, owner, invalid, nextId}
 use Rattle.model.specs.Lists.{both}
-use Rattle.model.specs.State.{Life, Life.dead, isLive, Handle, Handle.none, Handle.some, handleOf, held, count, idOr, Message, Entry, Entry.message, Entry.destroyed, Entry.released, messagesIn, State, total, byOwnerId}
+use Rattle.model.specs.State.{Life.dead, isLive, Handle, Handle.none, Handle.some, handleOf, held, count, idOr, Message, Entry, Entry.message, Entry.destroyed, Entry.released, messagesIn, State, total, byOwnerId}
 use Rattle.model.specs.Tables.{withGiven, withHandle, withQueues, withQueue, withCharges, withLives}
 use Rattle.model.specs.Refusals.{adds}
 
@@ -57,7 +57,7 @@ shown b p s = pick (isLive (b .life s)) (idOr (nextId (b .given p)) (b .handle p
 
 -- "never given twice": a new ID counts as given.
 abbrev pub givenAfter : Handle → ℕ → ℕ
-givenAfter none n = n + 1
+givenAfter none n = suc n
 givenAfter (some i c) n = n
 
 -- A handle to s is given to p. "A receive or transfer adds 1"; the release notice "is withdrawn if the sum rises".
@@ -65,7 +65,7 @@ unfoldable pub give : State → ℕ → ℕ → State
 give b p s =
     pick (isLive (b .life s))
     (withdraw
-    (withHandle (withGiven b (upd (b .given) p (givenAfter (b .handle p s) (b .given p)))) p s (handleOf (shown b p s) (count (b .handle p s) + 1)))
+    (withHandle (withGiven b (upd (b .given) p (givenAfter (b .handle p s) (b .given p)))) p s (handleOf (shown b p s) (suc (count (b .handle p s)))))
     (owner s) (eqb s))
     b
 

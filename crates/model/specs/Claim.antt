@@ -1,17 +1,18 @@
 -- The third demand: the statement. It speaks of the book and of what the next call gives, and names no state.
 -- Assumes nothing.
-use Prim.Native.Nat.{ℕ, _+_, _*_, _≤_, _<_}
+use Prim.Native.Nat.{ℕ, _+_, _≤_, _<_}
 use mathlib.Core.Path.{_≡_}
 use mathlib.Core.Bool.{true}
 use mathlib.Core.List.{List, [], _∷_}
 use lib.ListN.{getD}
 use Rattle.laws.specs.Bytes.{numAt}
+use Rattle.laws.specs.Weights.{All}
 use Rattle.frames.specs.Frame.{opcode}
 use Rattle.quota.specs.Charges.{users}
 use Rattle.model.specs.Resources.{Resource, Resource.messages, Resource.bytes, Resource.handles, most, share}
 use Rattle.model.specs.State.{State, start}
 use Rattle.model.specs.Refusals.{EDQUOT}
-use Rattle.model.specs.Step.{Call, Result, step, runFrom, answerOf}
+use Rattle.model.specs.Step.{Call, Result, step, run, answerOf}
 use Rattle.model.specs.Book.{Book, Fed, empty, feedAll, queued, isSend, actingPeer, goesTo, wouldLeave}
 
 -- Where the quota question's answer reports what is queued of a resource: "messages, bytes, handles .. (2 bytes each)" behind the 00.
@@ -43,6 +44,10 @@ historyFrom b (c ∷ cs) = let r = step b c in fed c r ∷ historyFrom (r .state
 abbrev pub bookAfter : List Call → Book
 bookAfter cs = feedAll empty (historyFrom start cs)
 
--- "Demand 3 is a single claim about the whole list of commands": for every list of calls from a fresh bus, and every next call.
+-- A frame is bytes. (Of other numbers an ID would not come back from the 8 bytes that show it.)
+abbrev pub OfBytes : Call → Type 0
+OfBytes c = All (λ x. x < 256) (c .frame)
+
+-- "Demand 3 is a single claim about the whole list of commands": for every list of calls from a fresh bus, and every next call, "with any frame and any answer buffer".
 abbrev pub ThirdDemand : Type 0
-ThirdDemand = (cs : List Call) (c : Call) → Claim (bookAfter cs) (fed c (step (runFrom start cs) c))
+ThirdDemand = (cs : List Call) (c : Call) → All OfBytes cs → OfBytes c → Claim (bookAfter cs) (fed c (step (run cs) c))

@@ -1,7 +1,6 @@
 -- The effect of each command that is not refused, as a composition of small changes. b is the state in which the command is counted already.
 -- Assumes nothing.
 use Prim.Native.Nat.{ℕ, _+_, _-_, _*_}
-use mathlib.Core.Bool.{Bool, true, false}
 use mathlib.Core.List.{List, [], _∷_, map}
 use lib.Dec.{eqb}
 use Rattle.laws.specs.Tests.{pick}
@@ -10,7 +9,7 @@ use Rattle.frames.specs.declared.Command.{Command}
 use Rattle.frames.specs.declared.Command.the-variants.{Open, Disconnect, Create, Destroy, Release, Transfer, Send, Receive, Quota, Holders}
 use Rattle.frames.specs.Frame.{payloadOf}
 use Rattle.model.specs.Numbers.{slots}
-use Rattle.model.specs.State.{Status, Status.opened, Status.disconnected, Life, Life.live, isLive, Handle, Handle.none, Handle.some, handleOf, Message, Entry, Entry.message, Entry.destroyed, Entry.released, messagesIn, State, slot, freePlace}
+use Rattle.model.specs.State.{Status.opened, Status.disconnected, Life.live, isLive, Handle, Handle.none, Handle.some, handleOf, Entry, Entry.message, Entry.destroyed, Entry.released, messagesIn, State, slot, freePlace}
 use Rattle.model.specs.Requests.{destinations, attached}
 use Rattle.model.specs.Tables.{accept, withStatus, withUser, withHandles, withHandle, withLives}
 use Rattle.model.specs.Changes.{takeOut, give, giveAll, forget, notify, notifyAll, destroyAll, deliver}
@@ -23,7 +22,7 @@ opens b p u = withUser (withStatus b p opened) p u
 unfoldable pub creates : State → ℕ → ℕ → State
 creates b p i = let s = p * slots + freePlace b p in withHandle (withLives b (upd (b .life) s live)) p s (handleOf i 1)
 
--- Destroy: one slot dies.
+-- Destroy: one node.
 unfoldable pub destroys : State → ℕ → ℕ → State
 destroys b p s = destroyAll b p (eqb s)
 
@@ -37,7 +36,7 @@ abbrev pub releasesHandle : State → ℕ → ℕ → Handle → State
 releasesHandle b p s none = b
 releasesHandle b p s (some i c) = releases b p s i c
 
--- "Disconnect: drop the queue, destroy live nodes, release all handles." The notices at the peer itself go with its handles, so its queue is emptied after the nodes died.
+-- "Disconnect: drop the queue, destroy live nodes, release all handles." The notices at the peer itself go with its handles, so its queue is emptied when its nodes are destroyed.
 unfoldable pub disconnects : State → ℕ → State
 disconnects b p =
     let died = destroyAll b p (λ s. isLive (b .life s)) in

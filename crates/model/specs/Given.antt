@@ -15,6 +15,7 @@ use Rattle.model.specs.Lists.{both, either}
 use Rattle.model.specs.State.{State, start, slot}
 use Rattle.model.specs.Step.{Call, Result, step, answerOf, run}
 use Rattle.model.specs.Book.{answeredId, answersMessage, shownIds}
+use Rattle.model.specs.Claim.{OfBytes}
 use Rattle.model.specs.Ascending.{Ascending}
 
 -- The IDs that the answer to a call shows to the peer p: a transfer's answer at its destination, and a received message's attached IDs at the acting peer.
@@ -44,10 +45,6 @@ newOf known (i ∷ is) = pick (either (eqb i invalid) (known i)) [] (i ∷ []) +
 unfoldable pub givenFrom : State → ℕ → List Call → List ℕ
 givenFrom b p [] = []
 givenFrom b p (c ∷ cs) = let r = step b c in newOf (holdsId b p) (shownTo p c r) ++ givenFrom (r .state) p cs
-
--- A frame is a list of bytes.
-abbrev pub OfBytes : Call → Type 0
-OfBytes c = All (λ x. x < 256) (c .frame)
 
 -- They are 7, 11, 15, ..: so each is over the one before it, none is given twice, also where a handle went and came back,
 -- and none is an ID that a peer may choose, nor the invalid one.

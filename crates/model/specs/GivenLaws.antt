@@ -47,7 +47,7 @@ pub holds-at : (b : State) (p i : ℕ) → holdsId b p i ≡ true → (t : ℕ) 
 holds-at b p i e = let r = at-slot b p i (ltb-true (slot b p i) nodes e) in (slot b p i, r .0, r .1)
 
 -- .. after a handle was given to it
-handle-after : (x : State) (p s t : ℕ) → isLive (x .life s) ≡ true → give x p s .handle p t ≡ upd (x .handle p) s (handleOf (shown x p s) (count (x .handle p s) + 1)) t
+handle-after : (x : State) (p s t : ℕ) → isLive (x .life s) ≡ true → give x p s .handle p t ≡ upd (x .handle p) s (handleOf (shown x p s) (suc (count (x .handle p s)))) t
 handle-after x p s t e = rw (give-handle x p s e, upd-same) refl
 
 shown-id : (x : State) (p s i c : ℕ) → isLive (x .life s) ≡ true → x .handle p s ≡ some i c → shown x p s ≡ i
@@ -61,7 +61,7 @@ holds-after x p s v l e j = same-test (holdsId (give x p s) p j) (either (eqb (s
     is-shown : shown x p s ≡ j → holdsId (give x p s) p j ≡ true
     is-shown z =
         let n : ℕ = count (x .handle p s) in
-        let h : give x p s .handle p s ≡ some j (suc n) = handle-after x p s s e ∙ rw (upd-same, z, add-one) refl in
+        let h : give x p s .handle p s ≡ some j (suc n) = handle-after x p s s e ∙ rw (upd-same, z) refl in
         holds-true (give x p s) p s j (suc n) l h
 
     back : Seen (eqb (shown x p s) j) → either (eqb (shown x p s) j) (holdsId x p j) ≡ true → holdsId (give x p s) p j ≡ true
@@ -75,13 +75,13 @@ holds-after x p s v l e j = same-test (holdsId (give x p s) p j) (either (eqb (s
             on (same y) = is-shown (shown-id x p s j (r .1) e (rw y (r .2)))
             on (other y) =
                 holds-true (give x p s) p (r .0) j (r .1) (v .handles p .within (r .0) j (r .1) (r .2))
-                (handle-after x p s (r .0) e ∙ upd-other (x .handle p) s (r .0) (handleOf (shown x p s) (count (x .handle p s) + 1)) y ∙ r .2)
+                (handle-after x p s (r .0) e ∙ upd-other (x .handle p) s (r .0) (handleOf (shown x p s) (suc (count (x .handle p s)))) y ∙ r .2)
 
     forth : holdsId (give x p s) p j ≡ true → either (eqb (shown x p s) j) (holdsId x p j) ≡ true
     forth f = go (holds-at (give x p s) p j f)
       where
         go : (t : ℕ) × (c : ℕ) × (give x p s .handle p t ≡ some j c) → either (eqb (shown x p s) j) (holdsId x p j) ≡ true
-        go r = on (changed (x .handle p) s (shown x p s) (count (x .handle p s) + 1) (r .0) j (r .1) (sym (handle-after x p s (r .0) e) ∙ r .2))
+        go r = on (changed (x .handle p) s (shown x p s) (suc (count (x .handle p s))) (r .0) j (r .1) (sym (handle-after x p s (r .0) e) ∙ r .2))
           where
             on : Changed (x .handle p) s (shown x p s) (r .0) j (r .1) → either (eqb (shown x p s) j) (holdsId x p j) ≡ true
             on (here z y k) = rw (eq-eqb (shown x p s) j y) refl
@@ -130,7 +130,7 @@ first-new x p s known v l few same-ids = go (look (isLive (x .life s))) (x .hand
         let g : ℕ = x .given p in
         let n : (nextId g ≡ invalid → ⊥) = λ z. omega arith in
         rw (new-shown x p s e f, given-after x p s e, f, ne-eqb (nextId g) invalid n, same-ids (nextId g) n, unheld (look (holdsId x p (nextId g))))
-        (sym (build-snoc nextId g) ∙ ap (build nextId) (sym (add-one g)))
+        (sym (build-snoc nextId g))
       where
         unheld : Seen (holdsId x p (nextId (x .given p))) → holdsId x p (nextId (x .given p)) ≡ false
         unheld (is-false z) = z

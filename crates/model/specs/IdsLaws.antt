@@ -119,8 +119,8 @@ next-free p g h t d v e = go (same? (owner t) p)
     go (other z) = let r = v .given t (nextId g) d e z in omega (arith, r .1, r .2)
 
 -- A handle changes and none goes: what is held stays held.
-pub held-of : (i c : ℕ) → held (handleOf i (c + 1)) ≡ true
-held-of i c = rw add-one refl
+pub held-of : (i c : ℕ) → held (handleOf i (suc c)) ≡ true
+held-of i c = refl
 
 pub held-kept : (h : ℕ → ℕ → Handle) (p s : ℕ) (y : Handle) → held y ≡ true → (q t : ℕ) → held (h q t) ≡ true → held (upd h p (upd (h p) s y) q t) ≡ true
 held-kept h p s y k q t =
@@ -129,13 +129,13 @@ held-kept h p s y k q t =
 
 -- A handle to a live node is given: the one that stands there, or a new one with the next ID.
 give-one : (p g : ℕ) (h : ℕ → Handle) (s : ℕ) → Handles p g h → s < nodes → (held (h s) ≡ false → owner s ≡ p → ⊥) → (x : Handle) → h s ≡ x →
-    Handles p (givenAfter x g) (upd h s (handleOf (idOr (nextId g) x) (count x + 1)))
+    Handles p (givenAfter x g) (upd h s (handleOf (idOr (nextId g) x) (suc (count x))))
 give-one p g h s v l strange none e =
-    handles-set p g (g + 1) h s (nextId g) 1 v (omega arith) l
+    handles-set p g (suc g) h s (nextId g) 1 v (omega arith) l
     (record { chosen = λ o. absurd (strange (ap held e) o); given = λ o. (g, omega arith, refl) })
     (λ t d f. absurd (next-free p g h t d v f))
 give-one p g h s v l strange (some i c) e =
-    handles-set p g g h s i (c + 1) v (omega arith) l (fit-of p g h s i c v e) (λ t d f. v .distinct t s i d c f e)
+    handles-set p g g h s i (suc c) v (omega arith) l (fit-of p g h s i c v e) (λ t d f. v .distinct t s i d c f e)
 
 pub holding-give : (x : State) (p s : ℕ) → Holding x → s < nodes → Holding (give x p s)
 unfolding give withdraw withHandles withGiven withQueues shown
@@ -154,10 +154,10 @@ holding-give x p s v l = go (look (isLive (x .life s)))
         (record {
           handles =
               upd-rel (λ q g h. Handles q g h) (x .given) (x .handle) p (givenAfter hd (x .given p))
-              (upd (x .handle p) s (handleOf (idOr (nextId (x .given p)) hd) (count hd + 1))) (v .handles)
+              (upd (x .handle p) s (handleOf (idOr (nextId (x .given p)) hd) (suc (count hd)))) (v .handles)
               (give-one p (x .given p) (x .handle p) s (v .handles p) l (strange e) hd refl);
           owned =
-              λ t k. held-kept (x .handle) p s (handleOf (idOr (nextId (x .given p)) hd) (count hd + 1))
+              λ t k. held-kept (x .handle) p s (handleOf (idOr (nextId (x .given p)) hd) (suc (count hd)))
               (held-of (idOr (nextId (x .given p)) hd) (count hd)) (owner t) t (v .owned t k);
         })
 

@@ -207,7 +207,7 @@ sent-carries b f (Send p z) l e =
     let hs : List ℕ = map (slot b (p .0)) (attached f z) in
     let n : length hs ≤ mostIds = rw (length-map, build-length) (l .1 .few-attached) in
     let a : All (λ s. s < nodes) hs = all-map (λ s. s < nodes) (slot b (p .0)) (attached f z) (tested b f (Send p z) e .holds-attached) in
-    map-new Carries (λ d. message (b .accepted + 1) (record { to = d; user = b .user (p .0); payload = payloadOf f; carried = hs })) (λ d. (n, a))
+    map-new Carries (λ d. message (suc (b .accepted)) (record { to = d; user = b .user (p .0); payload = payloadOf f; carried = hs })) (λ d. (n, a))
     (map (slot b (p .0)) (destinations f z))
 sent-carries b f (Receive p room) l e = tt
 sent-carries b f (Quota p u) l e = tt
@@ -253,7 +253,7 @@ given-le b f (Quota p u) v r = omega arith
 given-le b f (Holders p i) v r = omega arith
 
 -- "2^40 - 1 commands accepted already; not for questions".
-room-left : (b : State) (f : List ℕ) (k : Command) → refusal b f k ≡ 0 → effect b f k .accepted ≡ b .accepted + 1 → b .accepted < mostCommands
+room-left : (b : State) (f : List ℕ) (k : Command) → refusal b f k ≡ 0 → effect b f k .accepted ≡ suc (b .accepted) → b .accepted < mostCommands
 unfolding effect
 room-left b f (Open p u) e z = tested b f (Open p u) e .room
 room-left b f (Disconnect p) e z = tested b f (Disconnect p) e .room

@@ -9,11 +9,15 @@ pub mod Changes
 pub mod Effects
 pub mod Replies
 pub mod Step
+pub mod StepLaws
 pub mod Book
 pub mod Claim
+pub mod Scripts
 pub mod Table
+pub mod Examples
 pub mod Tested
 pub mod Accepted
+pub mod Shown
 pub mod Queues
 pub mod QueuesLaws
 pub mod QueuesProof

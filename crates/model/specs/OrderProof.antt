@@ -1,6 +1,6 @@
 -- Each queue is in the order of accepted commands: the proof.
 -- Assumes nothing.
-use Prim.Native.Nat.{ℕ, _+_, _≤_}
+use Prim.Native.Nat.{ℕ, suc, _+_, _≤_}
 use mathlib.Core.Path.{_≡_}
 use mathlib.Core.List.{List, [], _∷_, _++_}
 use native.Mathlib.Omega.{arith}
@@ -39,7 +39,7 @@ ordered-kept b f k h l e p = go (effect-count b f k) (h p)
     go : Count b (effect b f k) → Ordered (b .accepted) (b .queue p) → Ordered (effect b f k .accepted) (effect b f k .queue p)
     go (nothing z) o = rw z o
     go (one-more z) o =
-        let n : ℕ = b .accepted + 1 in
+        let n : ℕ = suc (b .accepted) in
         let low : All (λ d. stamp d ≤ n) (b .queue p) = all-imp (λ d. stamp d ≤ b .accepted) (λ d. stamp d ≤ n) (λ d y. omega arith) (b .queue p) (o .numbered) in
         let m = moved b f k l e p in
         let t = takenBy b p k in

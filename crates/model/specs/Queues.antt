@@ -1,6 +1,6 @@
 -- How the queues change: the entries of a queue stay in their order, some leave it, and new ones come behind them.
 -- Assumes nothing.
-use Prim.Native.Nat.{ℕ, _+_, _<_}
+use Prim.Native.Nat.{ℕ, suc, _+_, _<_}
 use mathlib.Core.Path.{_≡_}
 use mathlib.Core.Bool.{false}
 use mathlib.Core.Logic.{_⊎_}
@@ -36,7 +36,7 @@ Lapsed b a p (released n s) = (held (a .handle p s) ≡ false) ⊎ ((total (b .h
 
 -- What a command queues carries its own number, the next one.
 abbrev pub Next : State → Entry → Type 0
-Next b e = stamp e ≡ b .accepted + 1
+Next b e = stamp e ≡ suc (b .accepted)
 
 -- What an accepted command takes out of the queue of p for its answer: a receive of p the first entry.
 abbrev pub front : List Entry → List Entry
@@ -65,7 +65,7 @@ sentBy b f (Release q i) = []
 sentBy b f (Transfer q i t) = []
 sentBy b f (Send q z) =
     map
-    (λ d. message (b .accepted + 1) (record { to = d; user = b .user (q .0); payload = payloadOf f; carried = map (slot b (q .0)) (attached f z) }))
+    (λ d. message (suc (b .accepted)) (record { to = d; user = b .user (q .0); payload = payloadOf f; carried = map (slot b (q .0)) (attached f z) }))
     (map (slot b (q .0)) (destinations f z))
 sentBy b f (Receive q room) = []
 sentBy b f (Quota q u) = []

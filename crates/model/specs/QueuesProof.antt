@@ -33,7 +33,7 @@ count-of i zero = refl
 count-of i (suc c) = refl
 
 pub give-handle : (x : State) (p s : ℕ) → isLive (x .life s) ≡ true →
-    give x p s .handle ≡ upd (x .handle) p (upd (x .handle p) s (handleOf (shown x p s) (count (x .handle p s) + 1)))
+    give x p s .handle ≡ upd (x .handle) p (upd (x .handle p) s (handleOf (shown x p s) (suc (count (x .handle p s)))))
 unfolding give withdraw withHandles withGiven withQueues
 give-handle x p s e = rw e refl
 
@@ -44,7 +44,7 @@ give-dead x p s e = rw e refl
 pub give-raises : (x : State) (p s : ℕ) → p < peers → isLive (x .life s) ≡ true → total (x .handle) s < total (give x p s .handle) s
 give-raises x p s l e =
     rw (give-handle x p s e)
-    (omega (arith, total-set (x .handle) p s (handleOf (shown x p s) (count (x .handle p s) + 1)) l, count-of (shown x p s) (count (x .handle p s) + 1)))
+    (omega (arith, total-set (x .handle) p s (handleOf (shown x p s) (suc (count (x .handle p s)))) l, count-of (shown x p s) (suc (count (x .handle p s)))))
 
 pub give-total : (x : State) (p s t : ℕ) → p < peers → total (x .handle) t ≤ total (give x p s .handle) t
 give-total x p s t l = go (look (isLive (x .life s))) (same? s t)
@@ -53,7 +53,7 @@ give-total x p s t l = go (look (isLive (x .life s))) (same? s t)
     go (is-false e) z = rw (give-dead x p s e) (omega arith)
     go (is-true e) (same z) = rw (← z) (omega (arith, give-raises x p s l e))
     go (is-true e) (other z) =
-        rw (give-handle x p s e) (omega (arith, total-other (x .handle) p s t (handleOf (shown x p s) (count (x .handle p s) + 1)) z))
+        rw (give-handle x p s e) (omega (arith, total-other (x .handle) p s t (handleOf (shown x p s) (suc (count (x .handle p s)))) z))
 
 pub gives-total : (x : State) (p : ℕ) (ss : List ℕ) (t : ℕ) → p < peers → total (x .handle) t ≤ total (giveAll x p ss .handle) t
 gives-total x p [] t l = omega arith
@@ -67,7 +67,7 @@ moved-give new b a x p s l low high = go (look (isLive (x .life s)))
     given : State
     given =
         withHandle (withGiven x (upd (x .given) p (givenAfter (x .handle p s) (x .given p)))) p s
-        (handleOf (shown x p s) (count (x .handle p s) + 1))
+        (handleOf (shown x p s) (suc (count (x .handle p s))))
 
     go : Seen (isLive (x .life s)) → Each (Lapsed b a) new x (give x p s)
     go (is-false e) = rw e (λ q. later-refl (x .queue q))
@@ -119,12 +119,12 @@ first-out b p out e rest h q = go (same? p q)
     go (other z) = rw (ne-eqb p q z, upd-other (b .queue) p q rest z) refl
 
 -- One command in the state b, and any fact of what it queues: notices with its number, and a send's messages.
-module _ (b : State) (new : Entry → Type 0) (of-destroy : (s : ℕ) → new (destroyed (b .accepted + 1) s)) (of-release : (s : ℕ) → new (released (b .accepted + 1) s)) where
+module _ (b : State) (new : Entry → Type 0) (of-destroy : (s : ℕ) → new (destroyed (suc (b .accepted)) s)) (of-release : (s : ℕ) → new (released (suc (b .accepted)) s)) where
   destroy-new : (p : ℕ) (t : ℕ → Bool) (q : ℕ) → All new (destroyNotices (accept b) p t q)
   unfolding destroyNotices accept
-  destroy-new p t q = map-new new (destroyed (b .accepted + 1)) of-destroy (byOwnerId (b .handle) p (λ s. both (t s) (held (b .handle q s))))
+  destroy-new p t q = map-new new (destroyed (suc (b .accepted))) of-destroy (byOwnerId (b .handle) p (λ s. both (t s) (held (b .handle q s))))
 
-  release-new : (x : State) (q : ℕ) → x .accepted ≡ b .accepted + 1 → All new (releaseNotices (accept b) x q)
+  release-new : (x : State) (q : ℕ) → x .accepted ≡ suc (b .accepted) → All new (releaseNotices (accept b) x q)
   unfolding releaseNotices
   release-new x q e = map-new new (released (x .accepted)) (λ s. rw e (of-release s)) (byOwnerId (x .handle) q (fell (accept b) x))
 
@@ -164,7 +164,7 @@ module _ (b : State) (new : Entry → Type 0) (of-destroy : (s : ℕ) → new (d
       all-gone (released n s) = inl (no-handle s)
 
   -- Release: at count 1 what stood at the peer for the node goes.
-  moved-notify : (gone : ℕ → Entry → Type 0) (a x : State) (s : ℕ) → x .accepted ≡ b .accepted + 1 → Each gone new x (notify a x s)
+  moved-notify : (gone : ℕ → Entry → Type 0) (a x : State) (s : ℕ) → x .accepted ≡ suc (b .accepted) → Each gone new x (notify a x s)
   unfolding notify
   moved-notify gone a x s e =
       pick-cases (λ y. Each gone new x y) (fell a x s) (push x (owner s) (released (x .accepted) s ∷ [])) x
@@ -221,14 +221,14 @@ module _ (b : State) (new : Entry → Type 0) (of-destroy : (s : ℕ) → new (d
       moved-out p [] (released n s) rest h x (λ r. later-refl (x .queue r)) q
 
   -- Send.
-  arriving-new : (u : ℕ) (ds hs bytes : List ℕ) (q : ℕ) → All (λ d. new (message (b .accepted + 1) (record { to = d; user = u; payload = bytes; carried = hs }))) ds →
+  arriving-new : (u : ℕ) (ds hs bytes : List ℕ) (q : ℕ) → All (λ d. new (message (suc (b .accepted)) (record { to = d; user = u; payload = bytes; carried = hs }))) ds →
       All new (arriving (accept b) u ds hs bytes q)
   unfolding arriving accept
   arriving-new u ds hs bytes q h =
-      all-map new (λ d. message (b .accepted + 1) (record { to = d; user = u; payload = bytes; carried = hs })) (keep (λ d. eqb (owner d) q) ds)
-      (all-keep (λ d. new (message (b .accepted + 1) (record { to = d; user = u; payload = bytes; carried = hs }))) (λ d. eqb (owner d) q) ds h)
+      all-map new (λ d. message (suc (b .accepted)) (record { to = d; user = u; payload = bytes; carried = hs })) (keep (λ d. eqb (owner d) q) ds)
+      (all-keep (λ d. new (message (suc (b .accepted)) (record { to = d; user = u; payload = bytes; carried = hs }))) (λ d. eqb (owner d) q) ds h)
 
-  moved-send : (u : ℕ) (ds hs bytes : List ℕ) → All (λ d. new (message (b .accepted + 1) (record { to = d; user = u; payload = bytes; carried = hs }))) ds →
+  moved-send : (u : ℕ) (ds hs bytes : List ℕ) → All (λ d. new (message (suc (b .accepted)) (record { to = d; user = u; payload = bytes; carried = hs }))) ds →
       Each (Lapsed b (deliver (accept b) u ds hs bytes)) new b (deliver (accept b) u ds hs bytes)
   unfolding deliver withCharges accept
   moved-send u ds hs bytes h =
@@ -248,7 +248,7 @@ module _ (b : State) (new : Entry → Type 0) (of-destroy : (s : ℕ) → new (d
       moved-give new b (give (accept b) (t .0) s) (accept b) (t .0) s m (λ r. omega arith) (λ r. omega arith) p
   moved-by f (Send q z) n l e p =
       moved-send (b .user (q .0)) (map (slot b (q .0)) (destinations f z)) (map (slot b (q .0)) (attached f z)) (payloadOf f)
-      (map-all-of new (λ d. message (b .accepted + 1) (record { to = d; user = b .user (q .0); payload = payloadOf f; carried = map (slot b (q .0)) (attached f z) }))
+      (map-all-of new (λ d. message (suc (b .accepted)) (record { to = d; user = b .user (q .0); payload = payloadOf f; carried = map (slot b (q .0)) (attached f z) }))
       (map (slot b (q .0)) (destinations f z)) n)
       p
   moved-by f (Receive q room) n l e p = moved-receive (q .0) (omega (arith, l)) (b .queue (q .0)) refl p
@@ -265,7 +265,7 @@ sent-next b f (Release q i) = tt
 sent-next b f (Transfer q i t) = tt
 sent-next b f (Send q z) =
     map-new (Next b)
-    (λ d. message (b .accepted + 1) (record { to = d; user = b .user (q .0); payload = payloadOf f; carried = map (slot b (q .0)) (attached f z) }))
+    (λ d. message (suc (b .accepted)) (record { to = d; user = b .user (q .0); payload = payloadOf f; carried = map (slot b (q .0)) (attached f z) }))
     (λ d. refl) (map (slot b (q .0)) (destinations f z))
 sent-next b f (Receive q room) = tt
 sent-next b f (Quota q u) = tt
@@ -279,4 +279,4 @@ pub entries-kept : (P : Entry → Type 0) (b : State) (f : List ℕ) (k : Comman
     All P (sentBy b f k) → Legal f k → refusal b f k ≡ 0 → ((p : ℕ) → All P (b .queue p)) → (p : ℕ) → All P (effect b f k .queue p)
 entries-kept P b f k d r n l e h p =
     all-behind P (takenBy b p k) (effect b f k .queue p)
-    (later-all P (λ e z. z) (moved-by b P (λ s. d (b .accepted + 1) s) (λ s. r (b .accepted + 1) s) f k n l e p) (h p))
+    (later-all P (λ e z. z) (moved-by b P (λ s. d (suc (b .accepted)) s) (λ s. r (suc (b .accepted)) s) f k n l e p) (h p))

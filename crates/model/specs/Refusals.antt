@@ -3,7 +3,7 @@
 -- 22, 25 and 90 come from the frame alone (frames' parse).
 -- Assumes nothing.
 use Prim.Native.Nat.{ℕ, _+_, _*_}
-use mathlib.Core.Bool.{Bool, true, false, not}
+use mathlib.Core.Bool.{Bool}
 use mathlib.Core.List.{List, [], _∷_, _++_, map}
 use lib.ListN.{length}
 use lib.Dec.{eqb, ltb, leb}
@@ -16,7 +16,7 @@ use Rattle.quota.specs.declared.Charge.{Charge}
 use Rattle.quota.specs.Charges.{allowsAll}
 use Rattle.model.specs.Numbers.{slots, nodes, owner, mostCommands}
 use Rattle.model.specs.Lists.{both, every}
-use Rattle.model.specs.State.{Status, Status.unopened, Status.opened, Status.disconnected, isLive, Handle, count, Message, Entry, Entry.message, Entry.destroyed, Entry.released, State, slot, freePlace}
+use Rattle.model.specs.State.{Status, Status.unopened, Status.opened, Status.disconnected, isLive, count, Entry, Entry.message, Entry.destroyed, Entry.released, State, slot, freePlace}
 use Rattle.model.specs.Requests.{destinations, attached}
 
 abbrev pub EOVERFLOW : ℕ
@@ -55,8 +55,8 @@ ERANGE = 34
 -- Each row takes the rest of the cascade, r.
 
 -- "2^40 - 1 commands accepted already; not for questions".
-abbrev pub counted : State → ℕ → ℕ
-counted b r = pick (ltb (b .accepted) mostCommands) r EOVERFLOW
+abbrev pub countable : State → ℕ → ℕ
+countable b r = pick (ltb (b .accepted) mostCommands) r EOVERFLOW
 
 -- "peer never opened (acting, save in open; or destination of a transfer)"; "that peer disconnected".
 abbrev pub present : Status → ℕ → ℕ
@@ -118,34 +118,34 @@ takeable room (released n s ∷ q) = 0
 
 -- The cascade of each command.
 unfoldable pub refusesOpen : State → ℕ → ℕ
-refusesOpen b p = counted b (openable (b .status p))
+refusesOpen b p = countable b (openable (b .status p))
 
 unfoldable pub refusesDisconnect : State → ℕ → ℕ
-refusesDisconnect b p = counted b (present (b .status p) 0)
+refusesDisconnect b p = countable b (present (b .status p) 0)
 
 unfoldable pub refusesCreate : State → ℕ → ℕ → ℕ
-refusesCreate b p i = counted b (present (b .status p) (unheld b p i (roomy b p 0)))
+refusesCreate b p i = countable b (present (b .status p) (unheld b p i (roomy b p 0)))
 
 unfoldable pub refusesDestroy : State → ℕ → ℕ → ℕ
-refusesDestroy b p i = counted b (present (b .status p) (holding b p (i ∷ []) (owning p (slot b p i) (living b (slot b p i ∷ []) 0))))
+refusesDestroy b p i = countable b (present (b .status p) (holding b p (i ∷ []) (owning p (slot b p i) (living b (slot b p i ∷ []) 0))))
 
 unfoldable pub refusesRelease : State → ℕ → ℕ → ℕ
-refusesRelease b p i = counted b (present (b .status p) (holding b p (i ∷ []) (pick (pinned b p (slot b p i)) EPERM 0)))
+refusesRelease b p i = countable b (present (b .status p) (holding b p (i ∷ []) (pick (pinned b p (slot b p i)) EPERM 0)))
 
 unfoldable pub refusesTransfer : State → ℕ → ℕ → ℕ → ℕ
-refusesTransfer b p i q = counted b (present (b .status p) (present (b .status q) (holding b p (i ∷ []) (living b (slot b p i ∷ []) 0))))
+refusesTransfer b p i q = countable b (present (b .status p) (present (b .status q) (holding b p (i ∷ []) (living b (slot b p i ∷ []) 0))))
 
 -- Destination IDs is, attached IDs hs, nb payload bytes.
 unfoldable pub refusesSend : State → ℕ → List ℕ → List ℕ → ℕ → ℕ
 refusesSend b p is hs nb =
-    counted b
+    countable b
     (present (b .status p)
     (holding b p (is ++ hs)
     (living b (map (slot b p) is)
     (affordable b (b .user p) (map (slot b p) is) nb (length hs) 0))))
 
 unfoldable pub refusesReceive : State → ℕ → ℕ → ℕ
-refusesReceive b p room = counted b (present (b .status p) (takeable room (b .queue p)))
+refusesReceive b p room = countable b (present (b .status p) (takeable room (b .queue p)))
 
 unfoldable pub refusesQuota : State → ℕ → ℕ
 refusesQuota b p = present (b .status p) 0

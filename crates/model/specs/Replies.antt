@@ -1,7 +1,7 @@
 -- The reply of each command that is not refused: the kind of answer with its contents, and beside it the IDs and the payload of a message.
 -- Assumes nothing.
-use Prim.Native.Nat.{ℕ, _+_, _^_}
-use mathlib.Core.Bool.{Bool, true, false}
+use Prim.Native.Nat.{ℕ, _^_}
+use mathlib.Core.Bool.{Bool, false}
 use mathlib.Core.List.{List, [], _∷_}
 use lib.ListN.{length}
 use lib.Dec.{eqb}
@@ -10,11 +10,9 @@ use Rattle.laws.specs.Sums.{sumTo}
 use Rattle.frames.specs.declared.Command.{Command}
 use Rattle.frames.specs.declared.Command.the-variants.{Open, Disconnect, Create, Destroy, Release, Transfer, Send, Receive, Quota, Holders}
 use Rattle.quota.specs.Charges.{balanceOf}
-use Rattle.answers.specs.declared.Header.{Header}
-use Rattle.answers.specs.declared.Received.{Received}
 use Rattle.answers.specs.declared.Received.the-variants.{Message as aMessage, Destroyed as aDestroyed, Released as aReleased}
 use Rattle.answers.specs.declared.Answer.{Answer}
-use Rattle.answers.specs.declared.Answer.the-variants.{Refused as isRefused, Done as isDone, Transferred as isTransferred, Received as isReceived, Quota as isQuota, Holders as isHolders}
+use Rattle.answers.specs.declared.Answer.the-variants.{Done as isDone, Transferred as isTransferred, Received as isReceived, Quota as isQuota, Holders as isHolders}
 use Rattle.model.specs.Numbers.{peers, invalid}
 use Rattle.model.specs.Lists.{any}
 use Rattle.model.specs.State.{held, idOr, Message, Entry, Entry.message, Entry.destroyed, Entry.released, State, slot}

@@ -4,7 +4,7 @@ use Prim.Native.Nat.{ℕ, _+_}
 use mathlib.Core.List.{List}
 use Rattle.laws.specs.Build.{build}
 use Rattle.frames.specs.declared.Sizes.{Sizes}
-use Rattle.frames.specs.Frame.{sendId, payloadOf}
+use Rattle.frames.specs.Frame.{sendId}
 
 -- "07 send: nd (1), nh (1), nb (2), nd IDs, nh IDs, nb payload bytes."
 abbrev pub destinations : List ℕ → Sizes → List ℕ

@@ -1,8 +1,6 @@
 -- "Limits belong to each kind of resource": messages, payload bytes and attached handles, as one kind of number each, so that one proof serves the three.
 -- Assumes nothing.
-use Prim.Native.Nat.{ℕ, _*_, _/_, _^_}
-use mathlib.Core.List.{List}
-use lib.ListN.{length}
+use Prim.Native.Nat.{ℕ, _/_, _^_}
 use Rattle.quota.specs.declared.Charge.{Charge}
 use Rattle.quota.specs.Charges.{messageLimit, byteLimit, handleLimit, users}
 

@@ -3,15 +3,13 @@
 use Prim.Native.Nat.{ℕ, zero, suc, _+_, _*_}
 use mathlib.Core.Bool.{Bool, true, false, not}
 use mathlib.Core.List.{List, [], _∷_, map}
-use lib.ListN.{length}
 use lib.Dec.{eqb}
 use Rattle.laws.specs.Sums.{sumTo}
 use Rattle.laws.specs.Search.{first}
-use Rattle.quota.specs.declared.Charge.{Charge}
 use Rattle.quota.specs.declared.Charges.{Charges}
 use Rattle.quota.specs.Charges.{users, freshCharges}
 use Rattle.model.specs.Numbers.{peers, slots, nodes, owner}
-use Rattle.model.specs.Lists.{both, either, any, anyBelow, rising}
+use Rattle.model.specs.Lists.{either, any, anyBelow, rising}
 
 -- A peer was never opened, is open, or has disconnected.
 pub data Status : Type 0 where

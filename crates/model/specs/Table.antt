@@ -3,14 +3,13 @@
 use Prim.Native.Nat.{ℕ, _-_}
 use mathlib.Core.Path.{_≡_, refl}
 use mathlib.Core.List.{List, [], _∷_, _++_, map}
-use lib.ListN.{length, drop, replicate}
+use lib.ListN.{replicate}
 use Rattle.laws.specs.Tables.{upd}
 use Rattle.laws.specs.Sums.{sumTo}
 use Rattle.laws.specs.Build.{build}
 use Rattle.laws.specs.Search.{first}
 use Rattle.laws.specs.Bytes.{be, numAt}
 use Rattle.frames.specs.Frame.{idAt, shortAt, parseSizes, parseSend, frameLength, parseOpen, parseCreate, parseTransfer, parseQuota, parseRest, parseOther, parse, sendId, payloadOf}
-use Rattle.quota.specs.Rule.{left}
 use Rattle.quota.specs.Charges.{othersAll, allowsAll, balanceOf}
 use Rattle.answers.specs.Answer.{idBytes, headerBytes, noticeBytes, balanceBytes, holderBytes, messageBytes, receivedBytes, chargeBytes, contentsOf, answerBytes, answerAfter, outcomeOf}
 use Rattle.model.specs.Lists.{least, rising}
@@ -20,77 +19,8 @@ use Rattle.model.specs.Tables.{withStatus, withUser, withGiven, withHand
 use Rattle.model.specs.Changes.{pushAll, takeOut, withdraw, shown, give, forget, fell, notify, arriving, deliver}
 use Rattle.model.specs.Effects.{opens, creates, releases, effect}
 use Rattle.model.specs.Replies.{showsMessage, reply}
-use Rattle.model.specs.Step.{Call, carryOut, finish, step, answersFrom}
-
--- The frames of the commands.
-abbrev pub opening : ℕ → ℕ → List ℕ
-opening p u = 1 ∷ p ∷ u ∷ []
-
-abbrev pub create : ℕ → ℕ → List ℕ
-create p i = 3 ∷ p ∷ be 8 i
-
-abbrev pub release : ℕ → ℕ → List ℕ
-release p i = 5 ∷ p ∷ be 8 i
-
-abbrev pub transfer : ℕ → ℕ → ℕ → List ℕ
-transfer p i q = 6 ∷ p ∷ be 8 i ++ (q ∷ [])
-
-abbrev pub send : ℕ → List ℕ → List ℕ → List ℕ → List ℕ
-send p ds hs payload = 7 ∷ p ∷ length ds ∷ length hs ∷ be 2 (length payload) ++ (idBytes ds ++ (idBytes hs ++ payload))
-
-abbrev pub receive : ℕ → ℕ → List ℕ
-receive p room = 8 ∷ p ∷ be 2 room
-
-abbrev pub quota : ℕ → ℕ → List ℕ
-quota p u = 9 ∷ p ∷ u ∷ []
-
--- Answers: 00 or a refusal; an ID; the quota question's six numbers; a message to the ID to of the user u, flag 0, without payload or with it.
-abbrev pub number : ℕ → List ℕ
-number n = n ∷ []
-
-abbrev pub gives : ℕ → List ℕ
-gives i = 0 ∷ be 8 i
-
-abbrev pub queuedAndLeft : ℕ → ℕ → ℕ → ℕ → ℕ → ℕ → List ℕ
-queuedAndLeft m b h m′ b′ h′ = 0 ∷ be 2 m ++ (be 2 b ++ (be 2 h ++ (be 2 m′ ++ (be 2 b′ ++ be 2 h′))))
-
-abbrev pub takes : ℕ → ℕ → List ℕ → List ℕ → List ℕ
-takes to u ids payload = 0 ∷ 1 ∷ be 8 to ++ (u ∷ 0 ∷ be 2 (length payload) ++ (length ids ∷ idBytes ids ++ payload))
-
--- A row: a script of frames on a fresh bus and its last answers; or the quota rule with a limit, what others have, what is queued, and what is left.
-pub data Row : Type 0 where
-  played : List (List ℕ) → List (List ℕ) → Row
-  ruled : ℕ → ℕ → ℕ → ℕ → Row
-
-abbrev pub calls : List (List ℕ) → List Call
-calls fs = map (λ f. record { frame = f; buffer = replicate 591 0 }) fs
-
-abbrev pub lastOf : ℕ → List (List ℕ) → List (List ℕ)
-lastOf n rs = drop (length rs - n) rs
-
-abbrev pub computed : Row → List (List ℕ)
-computed (played fs rs) = lastOf (length rs) (answersFrom start (calls fs))
-computed (ruled limit others own rest) = (left limit others own ∷ []) ∷ []
-
-abbrev pub expected : Row → List (List ℕ)
-expected (played fs rs) = rs
-expected (ruled limit others own rest) = (rest ∷ []) ∷ []
-
--- Peer 0, of user 3, has a node with the ID 8; the peers 1 to 4, of the users 0 to 3, hold it as 7.
-abbrev pub five : List (List ℕ)
-five =
-    opening 0 3 ∷ opening 1 0 ∷ opening 2 1 ∷ opening 3 2 ∷ opening 4 3 ∷ create 0 8 ∷ transfer 0 8 1 ∷ transfer 0 8 2 ∷ transfer 0 8 3 ∷ transfer 0 8 4 ∷ []
-
--- Peer 0, of user 0, has a node with the ID 8; peer 1, of user 1, holds it as 7.
-abbrev pub two : List (List ℕ)
-two = opening 0 0 ∷ opening 1 1 ∷ create 0 8 ∷ transfer 0 8 1 ∷ []
-
--- n empty messages from the peer p, and n times the answer 00
-abbrev pub empties : ℕ → ℕ → List (List ℕ)
-empties n p = replicate n (send p (7 ∷ []) [] [])
-
-abbrev pub done : ℕ → List (List ℕ)
-done n = replicate n (number 0)
+use Rattle.model.specs.Scripts.{opening, create, release, send, receive, transfer, quota, number, gives, queuedAndLeft, takes, Row, Row.played, Row.ruled, computed, expected, five, two, empties, done}
+use Rattle.model.specs.Step.{carryOut, finish, step, answersFrom}
 
 -- "M1 user 0 alone: 32nd message in, 33rd 122. M2 then user 1: 16 in, 17th 122. M3 user 2: 8 in, 9th 122. M4 user 3: 4 in, 5th 122."
 abbrev pub M1-M4 : Row

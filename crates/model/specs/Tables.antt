@@ -1,6 +1,6 @@
 -- One table of the state changed, and the others left alone.
 -- Assumes nothing.
-use Prim.Native.Nat.{ℕ, _+_}
+use Prim.Native.Nat.{ℕ, suc}
 use mathlib.Core.List.{List}
 use Rattle.laws.specs.Tables.{upd}
 use Rattle.quota.specs.declared.Charges.{Charges}
@@ -72,4 +72,4 @@ withLives b f =
 -- One more command is accepted.
 unfoldable pub accept : State → State
 accept b =
-    record { status = b .status; user = b .user; given = b .given; handle = b .handle; queue = b .queue; charges = b .charges; life = b .life; accepted = b .accepted + 1 }
+    record { status = b .status; user = b .user; given = b .given; handle = b .handle; queue = b .queue; charges = b .charges; life = b .life; accepted = suc (b .accepted) }

@@ -17,7 +17,7 @@ use Rattle.model.specs.Numbers.{slots, nodes, owner, mostCommands}
 use Rattle.model.specs.Lists.{every}
 use Rattle.model.specs.State.{Status, Status.unopened, Status.opened, Status.disconnected, isLive, State, slot, freePlace}
 use Rattle.model.specs.Requests.{destinations, attached}
-use Rattle.model.specs.Refusals.{EOVERFLOW, EEXIST, ENXIO, EPERM, EHOSTUNREACH, ENOSPC, EDQUOT, counted, present, openable, holding, living, pinned, fits, takeable, refusesOpen, refusesDisconnect, refusesCreate, refusesDestroy, refusesRelease, refusesTransfer, refusesSend, refusesReceive, refusesQuota, refusesHolders, refusal}
+use Rattle.model.specs.Refusals.{EOVERFLOW, EEXIST, ENXIO, EPERM, EHOSTUNREACH, ENOSPC, EDQUOT, countable, present, openable, holding, living, pinned, fits, takeable, refusesOpen, refusesDisconnect, refusesCreate, refusesDestroy, refusesRelease, refusesTransfer, refusesSend, refusesReceive, refusesQuota, refusesHolders, refusal}
 
 -- The peer acts: it is open, and the bus may accept one more command.
 pub record Acting (b : State) (p : ℕ) : Type 0 where
@@ -98,8 +98,8 @@ every-split t (x ∷ xs) ys e =
     (rw (r .0) (s .0), s .1)
 
 -- One row of the cascade at a time.
-counted-in : (b : State) (r : ℕ) → counted b r ≡ 0 → (b .accepted < mostCommands) × (r ≡ 0)
-counted-in b r e =
+countable-in : (b : State) (r : ℕ) → countable b r ≡ 0 → (b .accepted < mostCommands) × (r ≡ 0)
+countable-in b r e =
     let x = pick-then {A = ℕ} (ltb (b .accepted) mostCommands) EOVERFLOW 0 (λ z. omega arith) e in
     (ltb-true (b .accepted) mostCommands (x .0), x .1)
 
@@ -113,9 +113,9 @@ openable-in unopened e = refl
 openable-in opened e = absurd (omega arith)
 openable-in disconnected e = absurd (omega arith)
 
-acting-in : (b : State) (p r : ℕ) → counted b (present (b .status p) r) ≡ 0 → Acting b p × (r ≡ 0)
+acting-in : (b : State) (p r : ℕ) → countable b (present (b .status p) r) ≡ 0 → Acting b p × (r ≡ 0)
 acting-in b p r e =
-    let x = counted-in b (present (b .status p) r) e in
+    let x = countable-in b (present (b .status p) r) e in
     let y = present-in (b .status p) r (x .1) in
     (record { room = x .0; is-open = y .0 }, y .1)
 
@@ -142,7 +142,7 @@ living-in b ss r e =
 -- Each command.
 tested-open : (b : State) (p : ℕ) → refusesOpen b p ≡ 0 → TestedOpen b p
 unfolding refusesOpen
-tested-open b p e = let x = counted-in b (openable (b .status p)) e in record { room = x .0; fresh = openable-in (b .status p) (x .1) }
+tested-open b p e = let x = countable-in b (openable (b .status p)) e in record { room = x .0; fresh = openable-in (b .status p) (x .1) }
 
 tested-disconnect : (b : State) (p : ℕ) → refusesDisconnect b p ≡ 0 → Acting b p
 unfolding refusesDisconnect

@@ -1,6 +1,6 @@
 -- What the small changes leave alone, and how many commands are accepted after each command.
 -- Assumes nothing.
-use Prim.Native.Nat.{ℕ, _+_, _-_}
+use Prim.Native.Nat.{ℕ, suc, _+_, _-_}
 use mathlib.Core.Path.{_≡_, refl, _∙_}
 use mathlib.Core.List.{List, [], _∷_}
 use lib.Dec.{eqb}
@@ -61,19 +61,19 @@ notify-apart a x s =
 
 -- A command counts as one, or it is a question and changes nothing.
 pub data Count (b a : State) : Type 0 where
-  one-more : a .accepted ≡ b .accepted + 1 → Count b a
+  one-more : a .accepted ≡ suc (b .accepted) → Count b a
   nothing : a ≡ b → Count b a
 
-release-count : (b : State) (p s : ℕ) (h : Handle) → releasesHandle (accept b) p s h .accepted ≡ b .accepted + 1
+release-count : (b : State) (p s : ℕ) (h : Handle) → releasesHandle (accept b) p s h .accepted ≡ suc (b .accepted)
 unfolding releases accept
 release-count b p s none = refl
 release-count b p s (some i c) =
     let less = withHandle (accept b) p s (handleOf i (c - 1)) in
     let x = pick (eqb c 1) (forget less p s) less in
     notify-apart (accept b) x s .alike .accepted
-    ∙ pick-all (λ y. y .accepted ≡ b .accepted + 1) (eqb c 1) (forget less p s) less (unfold forget takeOut withCharges withQueues withHandles in refl) (unfold withHandles in refl)
+    ∙ pick-all (λ y. y .accepted ≡ suc (b .accepted)) (eqb c 1) (forget less p s) less (unfold forget takeOut withCharges withQueues withHandles in refl) (unfold withHandles in refl)
 
-receive-count : (b : State) (p : ℕ) (q : List Entry) → receives (accept b) p q .accepted ≡ b .accepted + 1
+receive-count : (b : State) (p : ℕ) (q : List Entry) → receives (accept b) p q .accepted ≡ suc (b .accepted)
 unfolding accept takeOut withCharges withQueues
 receive-count b p [] = refl
 receive-count b p (message n m ∷ q) = gives-alike (takeOut (accept b) p (m ∷ []) q) p (m .carried) .accepted

@@ -3,7 +3,7 @@ use native.Mathlib.Omega.{arith}
 use mathlib.Core.Path.{refl}
 use Rattle.laws.specs.Bytes.{be-length}
 use Rattle.answers.specs.Answer.{holderBytes, contentsOf}
-use Rattle.answers.proofs.Laws.{balance-length}
+use Rattle.answers.specs.AnswerLaws.{balance-length}
 use borrow.Author.Needs.{needs}
 use Rattle.answers.proofs.put_contents.Statement.{statement}
 use Rattle.answers.proofs.put_contents.Tie as tie

@@ -1,7 +1,7 @@
 -- `answers::put_received` meets its contract: each arm of the match is the definition at that case. Assumes nothing.
 use native.Mathlib.Omega.{arith}
 use Rattle.answers.specs.Answer.{receivedBytes}
-use Rattle.answers.proofs.Laws.{notice-length}
+use Rattle.answers.specs.AnswerLaws.{notice-length}
 use borrow.Author.Needs.{needs}
 use Rattle.answers.proofs.put_received.Statement.{statement}
 use Rattle.answers.proofs.put_received.Tie as tie

@@ -1,0 +1,136 @@
+-- What the table does not show and the book cannot see: notices, their order and their withdrawal, the flag, drops, the room of a node,
+-- the order of refusals, the answer buffer, and EOVERFLOW; as one computed table, and a few equations.
+-- Assumes nothing.
+use Prim.Native.Nat.{ℕ, _+_, _-_, _*_}
+use mathlib.Core.Path.{_≡_, refl}
+use mathlib.Core.List.{List, [], _∷_, _++_, map}
+use lib.ListN.{replicate}
+use Rattle.laws.specs.Tables.{upd}
+use Rattle.laws.specs.Sums.{sumTo}
+use Rattle.laws.specs.Build.{build}
+use Rattle.laws.specs.Search.{first}
+use Rattle.laws.specs.Bytes.{be, numAt}
+use Rattle.frames.specs.Frame.{idAt, shortAt, parseSizes, parseSend, frameLength, parseOpen, parseCreate, parseTransfer, parseQuota, parseRest, parseOther, parse, sendId, payloadOf}
+use lib.Count.{ones, onesIn}
+use Rattle.quota.specs.Charges.{freshCharges, othersAll, allowsAll, balanceOf}
+use Rattle.answers.specs.Answer.{idBytes, headerBytes, noticeBytes, balanceBytes, holderBytes, messageBytes, receivedBytes, chargeBytes, contentsOf, answerBytes, answerAfter, outcomeOf}
+use Rattle.model.specs.Lists.{least, rising}
+use Rattle.model.specs.Numbers.{invalid, mostCommands}
+use Rattle.model.specs.State.{State, Status.opened, Life.dead, Handle.none, start, slotOf, total, heldByAny, named, counts, freePlace, byOwnerId}
+use Rattle.model.specs.Refusals.{placesAt, fits, refusesOpen, refusesDisconnect, refusesCreate, refusesDestroy, refusesRelease, refusesTransfer, refusesSend, refusesReceive, refusesQuota, refusesHolders, refusal}
+use Rattle.model.specs.Tables.{withStatus, withUser, withGiven, withHandles, withQueues, withCharges, withLives, accept}
+use Rattle.model.specs.Changes.{pushAll, takeOut, withdraw, shown, give, forget, fell, notify, releaseNotices, notifyAll, destroyNotices, destroyAll, arriving, deliver}
+use Rattle.model.specs.Effects.{opens, creates, destroys, releases, disconnects, effect}
+use Rattle.model.specs.Replies.{showsMessage, holdersOf, reply}
+use Rattle.model.specs.Scripts.{opening, disconnect, create, destroy, release, send, receive, transfer, quota, holders, number, gives, queuedAndLeft, takes, takesFlag, destroyedAt, releasedAt, Row, Row.played, Row.ruled, computed, expected, five, two, empties, done}
+use Rattle.model.specs.Step.{carryOut, finish, step, answersFrom}
+
+-- "When the sum of counts over all peers falls to 1 from above on a live node, a release notice is queued at the owner."
+abbrev pub released-notice : Row
+released-notice = played (two ++ (release 1 7 ∷ receive 0 0 ∷ receive 0 0 ∷ [])) (number 0 ∷ releasedAt 8 ∷ number 11 ∷ [])
+
+-- "It is withdrawn if the sum rises or the node is destroyed." The ID that comes again is a new one.
+abbrev pub withdrawn-risen : Row
+withdrawn-risen = played (two ++ (release 1 7 ∷ transfer 0 8 1 ∷ receive 0 0 ∷ [])) (number 0 ∷ gives 11 ∷ number 11 ∷ [])
+
+abbrev pub withdrawn-destroyed : Row
+withdrawn-destroyed = played (two ++ (release 1 7 ∷ destroy 0 8 ∷ receive 0 0 ∷ receive 0 0 ∷ [])) (number 0 ∷ number 0 ∷ destroyedAt 8 ∷ number 11 ∷ [])
+
+-- "Destroy queues a notice at every holder, owner included"; "A notice is withdrawn when its holder's handle goes."
+abbrev pub destroyed-notices : Row
+destroyed-notices = played (two ++ (destroy 0 8 ∷ receive 0 0 ∷ receive 1 0 ∷ receive 1 0 ∷ [])) (number 0 ∷ destroyedAt 8 ∷ destroyedAt 7 ∷ number 11 ∷ [])
+
+abbrev pub withdrawn-gone : Row
+withdrawn-gone = played (two ++ (destroy 0 8 ∷ release 1 7 ∷ receive 1 0 ∷ [])) (number 0 ∷ number 0 ∷ number 11 ∷ [])
+
+-- "Queued messages for the node are still delivered, until the owner's handle is gone; then they are dropped."
+abbrev pub still-delivered : Row
+still-delivered =
+    played (two ++ (send 1 (7 ∷ []) [] (51 ∷ []) ∷ destroy 0 8 ∷ receive 0 1 ∷ receive 0 1 ∷ []))
+    (number 0 ∷ takes 8 1 [] (51 ∷ []) ∷ destroyedAt 8 ∷ [])
+
+abbrev pub dropped-with-owner : Row
+dropped-with-owner =
+    played (two ++ (send 1 (7 ∷ []) [] (51 ∷ []) ∷ destroy 0 8 ∷ release 0 8 ∷ quota 0 1 ∷ receive 0 1 ∷ []))
+    (number 0 ∷ queuedAndLeft 0 0 0 32 2048 32 ∷ number 11 ∷ [])
+
+-- "The flag is 1 if, when it is taken out, another message of the same send is queued behind it at that peer."
+abbrev pub flags : Row
+flags =
+    played (two ++ (send 1 (7 ∷ 7 ∷ []) [] [] ∷ send 1 (7 ∷ []) [] [] ∷ receive 0 0 ∷ receive 0 0 ∷ receive 0 0 ∷ []))
+    (takesFlag 8 1 1 [] [] ∷ takesFlag 8 1 0 [] [] ∷ takesFlag 8 1 0 [] [] ∷ [])
+
+-- "if its node is destroyed by then, the invalid ID is given".
+abbrev pub invalid-shown : Row
+invalid-shown = played (two ++ (create 1 12 ∷ send 1 (7 ∷ []) (12 ∷ []) [] ∷ destroy 1 12 ∷ receive 0 8 ∷ [])) (number 0 ∷ takes 8 1 (invalid ∷ []) [] ∷ [])
+
+-- "destroy notices by ascending owner ID; then release notices by ascending owner ID": peer 1 holds 12 as 7 and 8 as 11, and peer 0 held 20 and 16 of peer 1.
+abbrev pub ordered : Row
+ordered =
+    played
+    (opening 0 0 ∷ opening 1 1 ∷ create 0 12 ∷ create 0 8 ∷ transfer 0 12 1 ∷ transfer 0 8 1 ∷ create 1 20 ∷ create 1 16 ∷ transfer 1 20 0 ∷ transfer 1 16 0
+    ∷ disconnect 0 ∷ receive 1 0 ∷ receive 1 0 ∷ receive 1 0 ∷ receive 1 0 ∷ receive 1 0 ∷ receive 0 0 ∷ [])
+    (number 0 ∷ destroyedAt 11 ∷ destroyedAt 7 ∷ releasedAt 16 ∷ releasedAt 20 ∷ number 11 ∷ number 108 ∷ [])
+
+-- "one byte with bit p set if peer p holds a handle to the node, then the number of set bits".
+abbrev pub held-by-two : Row
+held-by-two = played (two ++ (holders 0 8 ∷ holders 1 7 ∷ [])) ((0 ∷ 3 ∷ 2 ∷ []) ∷ number 1 ∷ [])
+
+-- "17th node 28; destroy one nobody else holds or queues, release it, create again: accepted"; while a queued message names it, it counts.
+abbrev pub sixteen : List (List ℕ)
+sixteen = build (λ k. create 0 (4 * k + 4)) 16
+
+abbrev pub room-again : Row
+room-again =
+    played (opening 0 0 ∷ sixteen ++ (create 0 80 ∷ destroy 0 4 ∷ create 0 80 ∷ release 0 4 ∷ create 0 80 ∷ []))
+    (number 28 ∷ number 0 ∷ number 28 ∷ number 0 ∷ number 0 ∷ [])
+
+abbrev pub room-named : Row
+room-named =
+    played (opening 0 0 ∷ sixteen ++ (send 0 (8 ∷ []) (4 ∷ []) [] ∷ destroy 0 4 ∷ release 0 4 ∷ create 0 80 ∷ receive 0 8 ∷ create 0 80 ∷ []))
+    (number 0 ∷ number 28 ∷ takes 8 0 (invalid ∷ []) [] ∷ number 0 ∷ [])
+
+-- "each for all IDs of the frame before the next": an unheld attached ID before a dead destination, that before quota.
+abbrev pub cascade : Row
+cascade =
+    played (two ++ (create 0 12 ∷ transfer 0 12 1 ∷ empties 32 1 ++ (destroy 0 12 ∷ send 1 (11 ∷ 7 ∷ []) (99 ∷ []) [] ∷ send 1 (11 ∷ 7 ∷ []) [] [] ∷ send 1 (7 ∷ []) [] [] ∷ [])))
+    (number 6 ∷ number 113 ∷ number 122 ∷ [])
+
+abbrev pub examples : List Row
+examples =
+    released-notice ∷ withdrawn-risen ∷ withdrawn-destroyed ∷ destroyed-notices ∷ withdrawn-gone ∷ still-delivered ∷ dropped-with-owner ∷ flags ∷ invalid-shown
+    ∷ ordered ∷ held-by-two ∷ room-again ∷ room-named ∷ cascade ∷ []
+
+pub shown-by-examples : map computed examples ≡ map expected examples
+unfolding upd sumTo build first be numAt idAt shortAt parseSizes parseSend frameLength parseOpen parseCreate parseTransfer parseQuota parseRest parseOther parse sendId payloadOf othersAll allowsAll balanceOf idBytes headerBytes messageBytes noticeBytes receivedBytes chargeBytes balanceBytes holderBytes contentsOf answerBytes answerAfter outcomeOf least rising start slotOf total heldByAny named counts freePlace byOwnerId placesAt fits refusesOpen refusesDisconnect refusesCreate refusesDestroy refusesRelease refusesTransfer refusesSend refusesReceive refusesQuota refusesHolders refusal withStatus withUser withGiven withHandles withQueues withCharges withLives accept pushAll takeOut withdraw shown give forget fell notify releaseNotices notifyAll destroyNotices destroyAll arriving deliver opens creates destroys releases disconnects effect showsMessage holdersOf reply carryOut finish step answersFrom ones onesIn
+shown-by-examples = refl
+
+-- A bus that has accepted n commands, peer 0 open.
+abbrev pub used : ℕ → State
+used n =
+    record {
+      status = λ p. opened;
+      user = λ p. 0;
+      given = λ p. 0;
+      handle = λ p s. none;
+      queue = λ p. [];
+      charges = λ p. freshCharges;
+      life = λ s. dead 0;
+      accepted = n;
+    }
+
+abbrev pub numberFrom : State → List ℕ → ℕ
+numberFrom b f = step b (record { frame = f; buffer = replicate 591 0 }) .outcome .number
+
+pub record Shown : Type 0 where
+  -- "answer buffer under 591 bytes (nothing is written, the number is returned)", and the bus is left alone.
+  pub short-buffer : step start (record { frame = opening 0 0; buffer = replicate 590 170 }) ≡ record { outcome = record { number = 22; len = 0 }; state = start; buffer = replicate 590 170 }
+  -- "No answer touches the buffer past its own end."
+  pub past-the-end : step start (record { frame = opening 0 0; buffer = replicate 591 170 }) .buffer ≡ 0 ∷ replicate 590 170
+  -- "2^40 - 1 commands accepted already; not for questions": 22 comes before it, 17 and 11 after it.
+  pub overflows : map (numberFrom (used mostCommands)) (create 0 6 ∷ opening 0 0 ∷ receive 0 0 ∷ quota 0 0 ∷ []) ≡ 22 ∷ 75 ∷ 75 ∷ 0 ∷ []
+  pub not-yet : map (numberFrom (used (mostCommands - 1))) (opening 0 0 ∷ disconnect 0 ∷ receive 0 0 ∷ []) ≡ 17 ∷ 0 ∷ 11 ∷ []
+
+pub equations : Shown
+unfolding upd sumTo build first be numAt idAt shortAt parseSizes parseSend frameLength parseOpen parseCreate parseTransfer parseQuota parseRest parseOther parse sendId payloadOf othersAll allowsAll balanceOf idBytes headerBytes messageBytes noticeBytes receivedBytes chargeBytes balanceBytes holderBytes contentsOf answerBytes answerAfter outcomeOf least rising start slotOf total heldByAny named counts freePlace byOwnerId placesAt fits refusesOpen refusesDisconnect refusesCreate refusesDestroy refusesRelease refusesTransfer refusesSend refusesReceive refusesQuota refusesHolders refusal withStatus withUser withGiven withHandles withQueues withCharges withLives accept pushAll takeOut withdraw shown give forget fell notify releaseNotices notifyAll destroyNotices destroyAll arriving deliver opens creates destroys releases disconnects effect showsMessage holdersOf reply carryOut finish step answersFrom ones onesIn
+equations = record { short-buffer = refl; past-the-end = refl; overflows = refl; not-yet = refl }
