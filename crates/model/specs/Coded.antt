@@ -40,8 +40,26 @@ actor (Receive p r) = p .0
 actor (Quota p u) = p .0
 actor (Holders p i) = p .0
 
+-- A chosen ID stands in bytes 2 to 9, a transfer's destination peer in byte 10.
+abbrev pub Rest : List ℕ → Command → Type 0
+Rest f (Open p u) = Unit {0}
+Rest f (Disconnect p) = Unit {0}
+Rest f (Create p i) = i ≡ idAt f 2
+Rest f (Destroy p i) = Unit {0}
+Rest f (Release p i) = Unit {0}
+Rest f (Transfer p i q) = getD f 10 0 ≡ q .0
+Rest f (Send p z) = Unit {0}
+Rest f (Receive p r) = Unit {0}
+Rest f (Quota p u) = Unit {0}
+Rest f (Holders p i) = Unit {0}
+
+pub record Coded (f : List ℕ) (k : Command) : Type 0 where
+  pub byte : opcode f ≡ code k
+  pub peer : getD f 1 0 ≡ actor k
+  pub rest : Rest f k
+
 abbrev Says : List ℕ → Parsed → Type 0
-Says f (Read k) = (opcode f ≡ code k) × (getD f 1 0 ≡ actor k)
+Says f (Read k) = Coded f k
 Says f (Refused n) = Unit {0}
 
 unless : (f : List ℕ) (bad : Bool) (n : ℕ) (r : Parsed) → (bad ≡ false → Says f r) → Says f (pick bad (Refused n) r)
@@ -54,20 +72,20 @@ says-send f e =
     unless f (ltb lastPeer (getD f 1 0)) EINVAL _ (λ b.
     unless f (eqb (getD f 2 0) 0) EINVAL _ (λ c.
     unless f (oversized (getD f 2 0) (getD f 3 0) (shortAt f 4)) EMSGSIZE _ (λ d.
-    pick-all (Says f) (eqb (length f) (sendLength (getD f 2 0) (getD f 3 0) (shortAt f 4))) _ (Refused EINVAL) (e, refl) tt))))
+    pick-all (Says f) (eqb (length f) (sendLength (getD f 2 0) (getD f 3 0) (shortAt f 4))) _ (Refused EINVAL) (record { byte = e; peer = refl; rest = tt }) tt))))
 
 says-rest : (f : List ℕ) → known (opcode f) ≡ true → eqb (opcode f) 7 ≡ false → Says f (parseRest (opcode f) (peerAt f 1) f)
 unfolding parseRest parseOpen parseCreate parseTransfer parseQuota
 says-rest f k other =
     let is : (n : ℕ) → eqb (opcode f) n ≡ true → opcode f ≡ n = λ n e. eqb-true (opcode f) n e in
-    pick-cases (Says f) (eqb (opcode f) 1) _ _ (λ e. unless f (ltb lastUser (getD f 2 0)) EINVAL _ (λ z. (is 1 e, refl))) (λ n1.
-    pick-cases (Says f) (eqb (opcode f) 2) _ _ (λ e. (is 2 e, refl)) (λ n2.
-    pick-cases (Says f) (eqb (opcode f) 3) _ _ (λ e. pick-all (Says f) (eqb (idAt f 2 .0 % 4) 0) _ (Refused EINVAL) (is 3 e, refl) tt) (λ n3.
-    pick-cases (Says f) (eqb (opcode f) 4) _ _ (λ e. (is 4 e, refl)) (λ n4.
-    pick-cases (Says f) (eqb (opcode f) 5) _ _ (λ e. (is 5 e, refl)) (λ n5.
-    pick-cases (Says f) (eqb (opcode f) 6) _ _ (λ e. unless f (ltb lastPeer (getD f 10 0)) EINVAL _ (λ z. (is 6 e, refl))) (λ n6.
-    pick-cases (Says f) (eqb (opcode f) 8) _ _ (λ e. (is 8 e, refl)) (λ n8.
-    pick-cases (Says f) (eqb (opcode f) 9) _ _ (λ e. unless f (ltb lastUser (getD f 2 0)) EINVAL _ (λ z. (is 9 e, refl))) (λ n9.
+    pick-cases (Says f) (eqb (opcode f) 1) _ _ (λ e. unless f (ltb lastUser (getD f 2 0)) EINVAL _ (λ z. (record { byte = is 1 e; peer = refl; rest = tt }))) (λ n1.
+    pick-cases (Says f) (eqb (opcode f) 2) _ _ (λ e. (record { byte = is 2 e; peer = refl; rest = tt })) (λ n2.
+    pick-cases (Says f) (eqb (opcode f) 3) _ _ (λ e. pick-all (Says f) (eqb (idAt f 2 .0 % 4) 0) _ (Refused EINVAL) (record { byte = is 3 e; peer = refl; rest = refl }) tt) (λ n3.
+    pick-cases (Says f) (eqb (opcode f) 4) _ _ (λ e. (record { byte = is 4 e; peer = refl; rest = tt })) (λ n4.
+    pick-cases (Says f) (eqb (opcode f) 5) _ _ (λ e. (record { byte = is 5 e; peer = refl; rest = tt })) (λ n5.
+    pick-cases (Says f) (eqb (opcode f) 6) _ _ (λ e. unless f (ltb lastPeer (getD f 10 0)) EINVAL _ (λ z. (record { byte = is 6 e; peer = refl; rest = refl }))) (λ n6.
+    pick-cases (Says f) (eqb (opcode f) 8) _ _ (λ e. (record { byte = is 8 e; peer = refl; rest = tt })) (λ n8.
+    pick-cases (Says f) (eqb (opcode f) 9) _ _ (λ e. unless f (ltb lastUser (getD f 2 0)) EINVAL _ (λ z. (record { byte = is 9 e; peer = refl; rest = tt }))) (λ n9.
     let r = pick-else (eqb (opcode f) 0) false true (λ z. clash (sym z)) k in
     let g0 : 0 < opcode f = omega (arith, eqb-false (opcode f) 0 (r .0)) in
     let g1 : 1 < opcode f = omega (arith, eqb-false (opcode f) 1 n1) in
@@ -79,7 +97,7 @@ says-rest f k other =
     let g7 : 7 < opcode f = omega (arith, eqb-false (opcode f) 7 other) in
     let g8 : 8 < opcode f = omega (arith, eqb-false (opcode f) 8 n8) in
     let g9 : 9 < opcode f = omega (arith, eqb-false (opcode f) 9 n9) in
-    (omega (arith, leb-true (opcode f) 10 (r .1)), refl)))))))))
+    (record { byte = omega (arith, leb-true (opcode f) 10 (r .1)); peer = refl; rest = tt })))))))))
 
 says : (f : List ℕ) → Says f (parse f)
 unfolding parse parseOther
@@ -93,5 +111,5 @@ says f =
     (λ e. tt))
 
 -- Every frame that was read.
-pub coded : (f : List ℕ) (k : Command) → parse f ≡ Read k → (opcode f ≡ code k) × (getD f 1 0 ≡ actor k)
+pub coded : (f : List ℕ) (k : Command) → parse f ≡ Read k → Coded f k
 coded f k e = rw e at (says f)

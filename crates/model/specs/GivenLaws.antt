@@ -1,26 +1,25 @@
 -- The new IDs that a command's reply shows to a peer are the next ones of 7, 11, 15, ...
 -- Assumes nothing.
-use Prim.Native.Nat.{ℕ, zero, suc, _+_, _*_, _%_, _≤_, _<_}
-use mathlib.Core.Path.{_≡_, refl, sym, ap, ap₂, _∙_}
+use Prim.Native.Nat.{ℕ, suc, _+_, _≤_, _<_}
+use mathlib.Core.Path.{_≡_, refl, sym, ap, _∙_}
 use mathlib.Core.Bool.{Bool, true, false}
 use mathlib.Core.List.{List, [], _∷_, _++_, append-nil, append-assoc}
 use native.Mathlib.Omega.{arith}
-use native.Mathlib.Numerals.{add-one}
 use lib.ListN.{length}
 use lib.Dec.{eqb, ltb}
-use borrow.Author.Tests.{eqb-true, eqb-false, eq-eqb, ne-eqb, lt-ltb, ltb-true, ltb-false}
+use borrow.Author.Tests.{eqb-true, eq-eqb, ne-eqb, ltb-true, ltb-false}
 use Rattle.laws.specs.Tests.{pick, Seen, Seen.is-true, Seen.is-false, look, clash, Same, Same.same, Same.other, same?}
 use Rattle.laws.specs.Tables.{upd, upd-same, upd-other}
 use Rattle.laws.specs.Search.{first-before}
 use Rattle.laws.specs.Weights.{All}
 use Rattle.laws.specs.Build.{build, build-snoc}
 use Rattle.model.specs.Numbers.{nodes, owner, invalid, nextId}
-use Rattle.model.specs.Lists.{both, either}
-use Rattle.model.specs.State.{isLive, Handle, Handle.none, Handle.some, handleOf, held, count, idOr, hasId, State, slotOf, slot}
-use Rattle.model.specs.Tables.{accept, withGiven, withHandles, withHandle, withQueues, withCharges}
+use Rattle.model.specs.Lists.{either}
+use Rattle.model.specs.State.{isLive, Handle, Handle.none, Handle.some, handleOf, count, hasId, State, slotOf, slot}
+use Rattle.model.specs.Tables.{withGiven, withHandles, withQueues}
 use Rattle.model.specs.Changes.{withdraw, shown, shownAll, givenAfter, give, giveAll}
-use Rattle.model.specs.Ids.{Handles, Holding}
-use Rattle.model.specs.IdsLaws.{none-some, same-id, at-slot, held-of, holding-give, next-free, Changed, Changed.here, Changed.there, changed, give-given}
+use Rattle.model.specs.Ids.{Holding}
+use Rattle.model.specs.IdsLaws.{at-slot, holding-give, next-free, Changed, Changed.here, Changed.there, changed, give-given}
 use Rattle.model.specs.QueuesProof.{give-handle, give-dead}
 use Rattle.model.specs.Given.{holdsId, newOf}
 

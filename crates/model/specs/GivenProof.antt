@@ -1,30 +1,40 @@
 -- The IDs that the bus gives to a peer are 7, 11, 15, ..: the proof.
 -- Assumes nothing.
-use Prim.Native.Nat.{ℕ, zero, suc, _+_, _*_, _%_, _≤_, _<_}
-use mathlib.Core.Path.{_≡_, refl, sym, ap, ap₂, subst, _∙_}
+use Prim.Native.Nat.{ℕ, zero, suc, _%_, _<_}
+use mathlib.Core.Path.{_≡_, refl, sym, ap, ap₂, _∙_}
 use mathlib.Core.Bool.{Bool, true, false}
 use mathlib.Core.List.{List, [], _∷_, _++_, append-nil, append-assoc}
 use native.Mathlib.Omega.{arith}
-use lib.ListN.{length}
-use lib.Dec.{eqb, ltb}
-use borrow.Author.Tests.{eqb-true, eqb-false, eq-eqb, ne-eqb}
+use lib.Dec.{eqb}
+use borrow.Author.Tests.{eq-eqb, ne-eqb}
 use Rattle.laws.specs.Tests.{pick, Seen, Seen.is-true, Seen.is-false, look, Same, Same.same, Same.other, same?}
-use Rattle.laws.specs.Tables.{upd, upd-other}
+use Rattle.laws.specs.Tables.{upd-other}
 use Rattle.laws.specs.Weights.{All}
 use Rattle.laws.specs.Build.{build}
+use Rattle.ids.specs.declared.HandleId.{HandleId}
+use Rattle.ids.specs.declared.Peer.{Peer}
 use Rattle.frames.specs.declared.Command.{Command}
 use Rattle.frames.specs.declared.Command.the-variants.{Open, Disconnect, Create, Destroy, Release, Transfer, Send, Receive, Quota, Holders}
-use Rattle.frames.specs.Legal.{Legal}
-use Rattle.model.specs.Numbers.{nodes, invalid, nextId}
-use Rattle.model.specs.State.{isLive, Handle, Message, Entry, Entry.message, Entry.destroyed, Entry.released, State, start, slotOf, slot}
-use Rattle.model.specs.Tables.{accept, withStatus, withUser, withGiven, withHandles, withHandle, withQueues, withCharges, withLives}
-use Rattle.model.specs.Refusals.{refusal}
+use Rattle.frames.specs.Frame.{opcode}
+use Rattle.model.specs.Numbers.{nodes, invalid, nextId, mostCommands}
+use Rattle.model.specs.Lists.{both}
+use Rattle.model.specs.State.{isLive, Entry, Entry.message, Entry.destroyed, Entry.released, State, start, slotOf, slot}
+use Rattle.model.specs.Tables.{accept, withStatus, withUser, withGiven, withHandles, withQueues, withCharges, withLives}
+use Rattle.model.specs.Refusals.{takeable, refusal}
 use Rattle.model.specs.Changes.{pushAll, takeOut, withdraw, shown, shownAll, give, giveAll, notifyAll, destroyAll, deliver, givenAfter}
 use Rattle.model.specs.Effects.{opens, creates, destroys, disconnects, receives, effect}
 use Rattle.model.specs.Tested.{tested}
-use Rattle.model.specs.Ids.{Handles, Holding, Carries, Ids}
-use Rattle.model.specs.IdsProof.{holding-same, holding-out, release-given}
-use Rattle.model.specs.Given.{holdsId, newOf}
+use Rattle.model.specs.Ids.{Carries, Ids}
+use Rattle.model.specs.IdsProof.{holding-same, holding-out, release-given, sound-ids}
+use Rattle.model.specs.Step.{Call, step, runFrom, run, answerOf}
+use Rattle.model.specs.Book.{answersMessage, shownIds}
+use Rattle.model.specs.Claim.{OfBytes}
+use Rattle.model.specs.Accepted.{Accepted, Came, Came.left, Came.done, came}
+use Rattle.model.specs.Shown.{transfer-answers, receive-message, receive-shows, receive-destroyed, receive-released}
+use Rattle.model.specs.Coded.{coded}
+use Rattle.model.specs.Ascending.{Ascending}
+use Rattle.model.specs.ShortIds.{Short, Sound, short-shown, short-gives, sound-call, sound-start}
+use Rattle.model.specs.Given.{shownTo, holdsId, newOf, givenFrom, Given}
 use Rattle.model.specs.GivenLaws.{all-new}
 
 -- The IDs that the reply of an accepted command shows to p.
@@ -134,3 +144,114 @@ command-new b f (Send q z) v e p = none-new b (effect b f (Send q z)) p (unfold 
 command-new b f (Receive q room) v e p = receive-new b (q .0) p (b .queue (q .0)) v (v .carried (q .0))
 command-new b f (Quota q u) v e p = none-new b b p refl
 command-new b f (Holders q i) v e p = none-new b b p refl
+
+-- What the bytes of the answer show is what the reply shows.
+transfer-shows : (b : State) (c : Call) (q : Peer) (i : HandleId) (t : Peer) (p : ℕ) → Sound b → Accepted b c (Transfer q i t) →
+    shownTo p c (step b c) ≡ showing b (Transfer q i t) p
+transfer-shows b c q i t p v a =
+    let d = coded (c .frame) (Transfer q i t) (a .read) in
+    let room : b .accepted < mostCommands = tested b (c .frame) (Transfer q i t) (a .unrefused) .acting .room in
+    let h : Short (shown b (t .0) (slot b (q .0) (i .0))) =
+    short-shown b (t .0) (slot b (q .0) (i .0)) (v .short) (omega (arith, v .ids .few-given (t .0), v .ids .few, room)) in
+    rw (eq-eqb (step b c .outcome .number) 0 (a .number), d .byte, d .rest, transfer-answers b c q i t a h) refl
+
+both-true : {A : Type 0} (t : Bool) (x y : A) → pick (both t true) x y ≡ pick t x y
+both-true true x y = refl
+both-true false x y = refl
+
+both-false : {A : Type 0} (t : Bool) (x y : A) → pick (both t false) x y ≡ pick t y y
+both-false true x y = refl
+both-false false x y = refl
+
+module _ (b : State) (c : Call) (q : Peer) (room p : ℕ) (v : Sound b) (a : Accepted b c (Receive q room)) where
+  receive-frame : shownTo p c (step b c) ≡ pick (both (eqb (q .0) p) (answersMessage (answerOf (step b c)))) (shownIds (answerOf (step b c))) []
+  receive-frame =
+      let d = coded (c .frame) (Receive q room) (a .read) in
+      rw (eq-eqb (step b c .outcome .number) 0 (a .number), d .byte, d .peer) refl
+
+  receive-first : (es : List Entry) → b .queue (q .0) ≡ es → All Carries es → takeable room es ≡ 0 →
+      pick (both (eqb (q .0) p) (answersMessage (answerOf (step b c)))) (shownIds (answerOf (step b c))) [] ≡ pick (eqb (q .0) p) (idsIn b (q .0) es) []
+  receive-first [] e w n = absurd (omega arith)
+  receive-first (message k m ∷ rest) e w n =
+      let y = takeOut b (q .0) (m ∷ []) rest in
+      let h : All Short (shownAll y (q .0) (m .carried)) =
+      short-gives y (q .0) (m .carried) (unfold takeOut withCharges withQueues in v .short)
+      (unfold takeOut withCharges withQueues in (omega (arith, w .0 .0, v .ids .few-given (q .0), v .ids .few))) .1 in
+      rw (receive-message b c q room a k m rest e, receive-shows b c q room a k m rest e (w .0 .0) h)
+      (both-true (eqb (q .0) p) (shownAll y (q .0) (m .carried)) [])
+  receive-first (destroyed k s ∷ rest) e w n =
+      rw (receive-destroyed b c q room a k s rest e) (both-false (eqb (q .0) p) (shownIds (answerOf (step b c))) [])
+  receive-first (released k s ∷ rest) e w n =
+      rw (receive-released b c q room a k s rest e) (both-false (eqb (q .0) p) (shownIds (answerOf (step b c))) [])
+
+  receive-shown : shownTo p c (step b c) ≡ showing b (Receive q room) p
+  receive-shown = receive-frame ∙ receive-first (b .queue (q .0)) refl (v .ids .carried (q .0)) (tested b (c .frame) (Receive q room) (a .unrefused) .next)
+
+-- A command of another kind shows no ID.
+no-ids : (b : State) (c : Call) (p n : ℕ) → opcode (c .frame) ≡ n → eqb n 6 ≡ false → eqb n 8 ≡ false → shownTo p c (step b c) ≡ []
+no-ids b c p n e f g = go (look (eqb (step b c .outcome .number) 0))
+  where
+    go : Seen (eqb (step b c .outcome .number) 0) → shownTo p c (step b c) ≡ []
+    go (is-true z) = rw (z, e, f, g) refl
+    go (is-false z) = rw z refl
+
+answer-shows : (b : State) (c : Call) (k : Command) (p : ℕ) → Sound b → Accepted b c k → shownTo p c (step b c) ≡ showing b k p
+answer-shows b c (Open q u) p v a = no-ids b c p 1 (coded (c .frame) (Open q u) (a .read) .byte) refl refl
+answer-shows b c (Disconnect q) p v a = no-ids b c p 2 (coded (c .frame) (Disconnect q) (a .read) .byte) refl refl
+answer-shows b c (Create q i) p v a = no-ids b c p 3 (coded (c .frame) (Create q i) (a .read) .byte) refl refl
+answer-shows b c (Destroy q i) p v a = no-ids b c p 4 (coded (c .frame) (Destroy q i) (a .read) .byte) refl refl
+answer-shows b c (Release q i) p v a = no-ids b c p 5 (coded (c .frame) (Release q i) (a .read) .byte) refl refl
+answer-shows b c (Transfer q i t) p v a = transfer-shows b c q i t p v a
+answer-shows b c (Send q z) p v a = no-ids b c p 7 (coded (c .frame) (Send q z) (a .read) .byte) refl refl
+answer-shows b c (Receive q room) p v a = receive-shown b c q room p v a
+answer-shows b c (Quota q u) p v a = no-ids b c p 9 (coded (c .frame) (Quota q u) (a .read) .byte) refl refl
+answer-shows b c (Holders q i) p v a = no-ids b c p 10 (coded (c .frame) (Holders q i) (a .read) .byte) refl refl
+
+-- Every call, and every run.
+call-new : (b : State) (c : Call) (p : ℕ) → Sound b → Grown b (step b c .state) p (shownTo p c (step b c))
+call-new b c p v = go (came b c)
+  where
+    go : Came b c → Grown b (step b c .state) p (shownTo p c (step b c))
+    go (left e n) = rw (ne-eqb (step b c .outcome .number) 0 n) (none-new b (step b c .state) p (ap (λ (x : State). x .given p) e))
+    go (done k a) = rw (answer-shows b c k p v a, a .after) (command-new b (c .frame) k (v .ids) (a .unrefused) p)
+
+run-new : (cs : List Call) (b : State) (p : ℕ) → Sound b → All OfBytes cs → build nextId (b .given p) ++ givenFrom b p cs ≡ build nextId (runFrom b cs .given p)
+unfolding givenFrom runFrom
+run-new [] b p v f = append-nil (build nextId (b .given p))
+run-new (c ∷ cs) b p v f =
+    let x = step b c .state in
+    let new : List ℕ = newOf (holdsId b p) (shownTo p c (step b c)) in
+    sym (append-assoc (build nextId (b .given p)) new (givenFrom x p cs))
+    ∙ ap (λ (l : List ℕ). l ++ givenFrom x p cs) (call-new b c p v)
+    ∙ run-new cs x p (sound-call b c (f .0) v) (f .1)
+
+-- What 7, 11, 15, .. have.
+all-build : {A : Type 0} (P : A → Type 0) (f : ℕ → A) (n : ℕ) → ((j : ℕ) → j < n → P (f j)) → All P (build f n)
+unfolding build
+all-build P f zero h = tt
+all-build P f (suc n) h = (h zero (omega arith), all-build P (λ j. f (suc j)) n (λ j l. h (suc j) (omega arith)))
+
+build-ascends : (f : ℕ → ℕ) (n : ℕ) → ((i j : ℕ) → i < j → f i < f j) → Ascending (λ i. i) (build f n)
+unfolding build
+build-ascends f zero h = tt
+build-ascends f (suc n) h = (
+  all-build (λ i. f zero < i) (λ j. f (suc j)) n (λ j l. h zero (suc j) (omega arith)),
+  build-ascends (λ j. f (suc j)) n (λ i j l. h (suc i) (suc j) (omega arith)),
+)
+
+pub given : Given
+given cs f p =
+    record {
+      exactly = e;
+      rising = rw e (build-ascends nextId n (λ i j l. omega arith));
+      apart = rw e (all-build (λ i. (i % 4 ≡ 3) × (i < invalid)) nextId n (λ j l. (omega arith, omega (arith, v .few-given p, v .few))));
+    }
+  where
+    n : ℕ
+    n = run cs .given p
+
+    v : Ids (run cs)
+    v = sound-ids cs
+
+    e : givenFrom start p cs ≡ build nextId n
+    e = unfold start build in run-new cs start p sound-start f

@@ -10,7 +10,7 @@ use lib.ListN.{length}
 use Rattle.laws.specs.Weights.{All}
 use Rattle.frames.specs.Frame.{mostIds}
 use Rattle.model.specs.Numbers.{nodes, owner, mostCommands, nextId}
-use Rattle.model.specs.State.{isLive, Handle, Handle.none, Handle.some, held, Message, Entry, Entry.message, Entry.destroyed, Entry.released, State}
+use Rattle.model.specs.State.{isLive, Handle, Handle.some, held, Entry, Entry.message, Entry.destroyed, Entry.released, State}
 use Rattle.model.specs.Step.{Call, run}
 
 -- The handles h of the peer p, to which g IDs were given.

@@ -1,23 +1,19 @@
 -- What the changes of handles do to `Handles` and `Holding`.
 -- Assumes nothing.
-use Prim.Native.Nat.{ℕ, zero, suc, _+_, _-_, _*_, _%_, _≤_, _<_}
+use Prim.Native.Nat.{ℕ, zero, suc, _+_, _%_, _≤_, _<_}
 use mathlib.Core.Path.{_≡_, refl, sym, ap, _∙_}
 use mathlib.Core.Bool.{Bool, true, false}
-use mathlib.Core.Logic.{_⊎_}
-use mathlib.Core.Logic._⊎_.{inl, inr}
 use mathlib.Core.List.{List, [], _∷_}
 use native.Mathlib.Omega.{arith}
-use native.Mathlib.Numerals.{add-one}
 use lib.ListN.{length}
-use lib.Dec.{eqb}
 use borrow.Author.Tests.{eqb-true}
-use Rattle.laws.specs.Tests.{pick, Seen, Seen.is-true, Seen.is-false, look, clash, Same, Same.same, Same.other, same?}
+use Rattle.laws.specs.Tests.{Seen, Seen.is-true, Seen.is-false, look, clash, Same, Same.same, Same.other, same?}
 use Rattle.laws.specs.Tables.{upd, upd-same, upd-other, upd-all, upd-rel}
-use Rattle.laws.specs.Search.{first, first-found, first-before}
+use Rattle.laws.specs.Search.{first-found}
 use Rattle.laws.specs.Weights.{All}
-use Rattle.model.specs.Numbers.{nodes, owner, invalid, nextId}
-use Rattle.model.specs.State.{Life, isLive, Handle, Handle.none, Handle.some, handleOf, held, count, idOr, hasId, State, slotOf, slot}
-use Rattle.model.specs.Tables.{withGiven, withHandles, withHandle, withQueues}
+use Rattle.model.specs.Numbers.{nodes, owner, nextId}
+use Rattle.model.specs.State.{isLive, Handle, Handle.none, Handle.some, handleOf, held, count, idOr, hasId, State, slotOf, slot}
+use Rattle.model.specs.Tables.{withGiven, withHandles, withQueues}
 use Rattle.model.specs.Changes.{withdraw, shown, givenAfter, give, giveAll}
 use Rattle.model.specs.Ids.{Handles, Holding}
 
@@ -32,7 +28,7 @@ pub same-count : {i j c d : ℕ} → some i c ≡ some j d → c ≡ d
 same-count e = cc
 
 -- The handle of an ID and a count.
-handle-some : (i c j d : ℕ) → handleOf i c ≡ some j d → (i ≡ j) × (0 < d)
+pub handle-some : (i c j d : ℕ) → handleOf i c ≡ some j d → (i ≡ j) × (0 < d)
 handle-some i zero j d e = none-some e
 handle-some i (suc c) j d e = let z : suc c ≡ d = same-count e in (same-id e, omega arith)
 

@@ -7,33 +7,32 @@ use mathlib.Core.List.{List, [], _∷_, map}
 use native.Mathlib.Omega.{arith}
 use lib.ListN.{length, length-map}
 use lib.Dec.{eqb}
-use borrow.Author.Tests.{eqb-true, eqb-false, eq-eqb, ne-eqb}
+use borrow.Author.Tests.{eq-eqb, ne-eqb}
 use Rattle.laws.specs.Tests.{pick, pick-all, Seen, Seen.is-true, Seen.is-false, look, clash, Same, Same.same, Same.other, same?}
-use Rattle.laws.specs.Tables.{upd, upd-same, upd-other, upd-all, upd-rel}
+use Rattle.laws.specs.Tables.{upd, upd-same, upd-other, upd-all}
 use Rattle.laws.specs.Search.{first-before}
-use Rattle.laws.specs.Weights.{All, all-imp}
+use Rattle.laws.specs.Weights.{All}
 use Rattle.laws.specs.Build.{build-length}
 use Rattle.frames.specs.declared.Command.{Command}
 use Rattle.frames.specs.declared.Command.the-variants.{Open, Disconnect, Create, Destroy, Release, Transfer, Send, Receive, Quota, Holders}
 use Rattle.frames.specs.Frame.{mostIds, payloadOf}
 use Rattle.frames.specs.Legal.{Legal}
-use Rattle.model.specs.Numbers.{slots, nodes, owner, mostCommands, nextId}
+use Rattle.model.specs.Numbers.{slots, nodes, owner, mostCommands}
 use Rattle.model.specs.Lists.{both}
 use Rattle.model.specs.State.{Life, Life.live, isLive, Handle, Handle.none, Handle.some, handleOf, held, count, hasId, Message, Entry, Entry.message, Entry.destroyed, Entry.released, State, start, slotOf, slot, counts, freePlace}
 use Rattle.model.specs.Requests.{destinations, attached}
 use Rattle.model.specs.Tables.{accept, withStatus, withUser, withHandles, withHandle, withQueues, withCharges, withLives}
 use Rattle.model.specs.Refusals.{pinned, refusal}
-use Rattle.model.specs.Changes.{pushAll, takeOut, withdraw, give, giveAll, forget, notify, notifyAll, destroyAll, deliver}
+use Rattle.model.specs.Changes.{pushAll, takeOut, withdraw, forget, notify, notifyAll, destroyAll, deliver}
 use Rattle.model.specs.Effects.{opens, creates, destroys, releases, releasesHandle, disconnects, receives, effect}
-use Rattle.model.specs.Step.{Call, run}
-use Rattle.model.specs.Tested.{Acting, Holds, Tested, TestedCreate, TestedRelease, tested}
+use Rattle.model.specs.Tested.{TestedCreate, tested}
 use Rattle.model.specs.Accepted.{Kept, induction}
 use Rattle.model.specs.Unchanged.{Count, Count.one-more, Count.nothing, effect-count, notify-apart}
 use Rattle.model.specs.Queues.{sentBy}
 use Rattle.model.specs.QueuesLaws.{map-new, all-map}
 use Rattle.model.specs.QueuesProof.{entries-kept}
 use Rattle.model.specs.Ids.{Handles, Holding, Carries, Ids, SoundIds}
-use Rattle.model.specs.IdsLaws.{none-some, same-id, handles-set, Fit, fit-of, at-slot, held-kept, held-of, holding-give, holding-gives, gives-given, give-given}
+use Rattle.model.specs.IdsLaws.{none-some, handles-set, fit-of, held-kept, holding-give, holding-gives, gives-given, give-given}
 
 -- A state with the same handles, given IDs and lives.
 pub holding-same : (b a : State) → a .handle ≡ b .handle → a .given ≡ b .given → a .life ≡ b .life → Holding b → Holding a
@@ -266,7 +265,7 @@ room-left b f (Receive p room) e z = tested b f (Receive p room) e .acting .room
 room-left b f (Quota p u) e z = absurd (omega arith)
 room-left b f (Holders p i) e z = absurd (omega arith)
 
-ids-kept : Kept Ids
+pub ids-kept : Kept Ids
 ids-kept b f k v l e = go (effect-count b f k)
   where
     go : Count b (effect b f k) → Ids (effect b f k)
@@ -279,7 +278,7 @@ ids-kept b f k v l e = go (effect-count b f k)
           few = rw z (omega (arith, room-left b f k e z));
         }
 
-ids-start : Ids start
+pub ids-start : Ids start
 unfolding start
 ids-start =
     record {

@@ -33,4 +33,6 @@ pub mod IdsLaws
 pub mod IdsProof
 pub mod Given
 pub mod GivenLaws
+pub mod Calls
+pub mod ShortIds
 pub mod GivenProof

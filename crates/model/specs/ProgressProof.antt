@@ -53,7 +53,7 @@ taken-refused b p c n = rw (ne-eqb (step b c .outcome .number) 0 n) refl
 taken-accepted : (b : State) (p : ℕ) (c : Call) (k : Command) → Accepted b c k → taken b p c ≡ takenBy b p k
 taken-accepted b p c k a =
     let h = coded (c .frame) k (a .read) in
-    rw (eq-eqb (step b c .outcome .number) 0 (a .number)) (taken-coded b p (c .frame) k (h .0) (h .1))
+    rw (eq-eqb (step b c .outcome .number) 0 (a .number)) (taken-coded b p (c .frame) k (h .byte) (h .peer))
 
 call-moved : (b : State) (p : ℕ) (c : Call) → Moved b (step b c .state) p (taken b p c)
 call-moved b p c = go (came b c)
@@ -116,7 +116,7 @@ call-one b p c = go (came b c)
     go (done k a) =
         let h = coded (c .frame) k (a .read) in
         ap length (taken-accepted b p c k a) ∙ one-taken b p (c .frame) k (a .unrefused)
-        ∙ sym (rw (eq-eqb (step b c .outcome .number) 0 (a .number), h .0, h .1) refl)
+        ∙ sym (rw (eq-eqb (step b c .outcome .number) 0 (a .number), h .byte, h .peer) refl)
 
 ones : (cs : List Call) (b : State) (p : ℕ) → length (takenOut b p cs) ≡ receivesOf b p cs
 unfolding takenOut receivesOf
