@@ -31,6 +31,8 @@ pub mod Ascending
 pub mod Ids
 pub mod IdsLaws
 pub mod IdsProof
+pub mod Within
+pub mod WithinProof
 pub mod Given
 pub mod GivenLaws
 pub mod Calls
