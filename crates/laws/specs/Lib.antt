@@ -2,6 +2,7 @@ pub mod Tests
 pub mod Tables
 pub mod Sums
 pub mod Weights
+pub mod Loads
 pub mod Build
 pub mod Stores
 pub mod Search

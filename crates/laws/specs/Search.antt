@@ -12,7 +12,7 @@ use Rattle.laws.specs.Tests.{pick, Seen, Seen.is-true, Seen.is-false, lo
 -- the first place below n that passes, or n where none does
 unfoldable pub first : (ℕ → Bool) → ℕ → ℕ
 first p zero = zero
-first p (suc n) = pick (p zero) zero (suc (first (λ j. p (suc j)) n))
+first p (suc n) = let rest = suc (first (λ j. p (suc j)) n) in pick (p zero) zero rest
 
 pub first-le : (p : ℕ → Bool) (n : ℕ) → first p n ≤ n
 unfolding first

@@ -8,7 +8,7 @@ use mathlib.Core.List.{List}
 use lib.ListN.{length, getD, set, replicate, length-set, length-replicate}
 use Rattle.laws.specs.Sums.{sum}
 use Rattle.quota.specs.Rule.{others, allowed}
-use Rattle.quota.specs.ShareProof.{Bounded, bounded-fresh, bounded-charge, bounded-lower, bounded-half, bounded-sum, bounded-allows}
+use Rattle.quota.specs.ShareProof.{Bounded, bounded-fresh, bounded-charge, bounded-lower, bounded-half, bounded-sum, bounded-rest, bounded-allows}
 
 -- The lists of charges, a number for each user, that can be reached: no charge at all; one user's charge within the rule; any charges taken off.
 pub data Reach (L k : ℕ) : List ℕ → Type 0 where
@@ -35,6 +35,10 @@ at-most-half {L} {c = c} r u = bounded-half L c (bounded r) u
 -- The users together are never over the limit.
 pub at-most-limit : {L k : ℕ} {c : List ℕ} → Reach L k c → sum c ≤ L
 at-most-limit {L} {c = c} r = bounded-sum L c (bounded r)
+
+-- One share of the limit is never queued by all of them together.
+pub share-unused : {L k : ℕ} {c : List ℕ} → Reach L k c → sum c + L / 2 ^ k ≤ L
+share-unused {L} {k} {c} r = let n : length c ≡ k = reach-length r in rw n at (bounded-rest L c (bounded r))
 
 -- No user is refused what keeps it within its share, the limit halved once for each user.
 pub share-allowed : {L k : ℕ} {c : List ℕ} → Reach L k c → (u a : ℕ) → u < k → getD c u 0 + a ≤ L / 2 ^ k → allowed L (others c u) (getD c u 0) a ≡ true

@@ -6,7 +6,7 @@ use mathlib.Core.Path.{_≡_, refl}
 use mathlib.Core.Bool.{Bool, true, false}
 use mathlib.Core.List.{List, [], _∷_}
 use native.Mathlib.Omega.{arith}
-use native.Mathlib.Nat.{mul-le-mul-left, le-of-mul-le-mul-left, le-div-iff-mul-le, not-suc-le-zero, le-of-suc-le-suc}
+use native.Mathlib.Nat.{le-refl, mul-le-mul-left, le-of-mul-le-mul-left, le-div-iff-mul-le, not-suc-le-zero, le-of-suc-le-suc}
 use lib.ListN.{length, getD, set, replicate}
 use lib.Seq.{set-out}
 use lib.Pow.{pow-pos}
@@ -148,6 +148,13 @@ bounded-sum L c inv =
     let m = replicate (length c) true in
     let i : power m * sum c + L ≤ power m * L = rw (all-sum c) at (inv m) in
     le-of-mul-le-mul-left {k = power m} (omega arith) (power-positive (replicate (length c) true))
+
+pub bounded-rest : (L : ℕ) (c : List ℕ) → Bounded L c → sum c + L / 2 ^ length c ≤ L
+bounded-rest L c inv =
+    let p = 2 ^ length c in
+    let i : p * sum c + L ≤ p * L = rw (all-sum c, all-power (length c)) at (inv (replicate (length c) true)) in
+    let q : L / p * p ≤ L = le-div-iff-mul-le (pow-pos (length c)) .0 (le-refl (L / p)) in
+    le-of-mul-le-mul-left {k = p} (omega arith) (pow-pos (length c))
 
 pub bounded-allows : (L : ℕ) (c : List ℕ) → Bounded L c → (u a : ℕ) → u < length c → getD c u 0 + a ≤ L / 2 ^ length c →
     allowed L (others c u) (getD c u 0) a ≡ true

@@ -1,0 +1,173 @@
+-- The third demand, proved. Book and bus go alike (SimRun), so what the book has queued is what the bus has; the bus's charges are the sums over its queues
+-- and within the share theorem (Charged), whatever the run.
+-- Assumes nothing.
+use Prim.Native.Nat.{ℕ, _+_, _-_, _*_, _≤_, _<_}
+use mathlib.Core.Path.{_≡_, refl, sym, ap, _∙_}
+use mathlib.Core.Bool.{Bool, true, false}
+use mathlib.Core.Logic._⊎_.{inl, inr}
+use mathlib.Core.List.{List, [], _∷_, _++_, map}
+use native.Mathlib.Omega.{arith}
+use lib.ListN.{length, getD}
+use lib.Dec.{eqb, ltb}
+use borrow.Author.Tests.{eqb-true, ltb-true, lt-ltb}
+use Rattle.laws.specs.Tests.{pick, pick-then, Seen, Seen.is-true, Seen.is-false, look, clash}
+use Rattle.laws.specs.Weights.{load, keep, All, all-imp}
+use Rattle.laws.specs.Build.{build-length}
+use Rattle.ids.specs.declared.Peer.{Peer}
+use Rattle.ids.specs.declared.User.{User}
+use Rattle.frames.specs.declared.Sizes.{Sizes}
+use Rattle.frames.specs.declared.Command.{Command}
+use Rattle.frames.specs.declared.Command.the-variants.{Open, Disconnect, Create, Destroy, Release, Transfer, Send, Receive, Quota, Holders}
+use Rattle.frames.specs.declared.Parsed.{Parsed}
+use Rattle.frames.specs.declared.Parsed.the-variants.{Read, Refused}
+use Rattle.frames.specs.Frame.{opcode, parse, sendId, payloadOf}
+use Rattle.frames.specs.Legal.{Sized, Legal, Outcome, legal, payload-length}
+use Rattle.frames.specs.Fields.{Acts, Fields, fields-command}
+use Rattle.quota.specs.Charges.{users, own}
+use Rattle.answers.specs.Answer.{answerSize, numberOf, outcomeOf}
+use Rattle.model.specs.Numbers.{nodes, mostCommands}
+use Rattle.model.specs.Resources.{Resource, Resource.messages, Resource.bytes, Resource.handles, weigh, amount, most, share}
+use Rattle.model.specs.Lists.{every}
+use Rattle.model.specs.Requests.{destinations, attached}
+use Rattle.model.specs.State.{Status, Status.unopened, Status.opened, Status.disconnected, messagesIn, State, slot, start}
+use Rattle.model.specs.Refusals.{EOVERFLOW, ENXIO, EDQUOT, present, placesAt, refusesSend, refusal}
+use Rattle.model.specs.Step.{Call, judge, carryOut, finish, step, run, answerOf}
+use Rattle.model.specs.StepLaws.{reply-number}
+use Rattle.model.specs.Book.{Book, Fed, queued, isSend, actingPeer, sizesOf, goesTo, senderHas, wouldLeave, nodesOf, ownedBy, weight, by}
+use Rattle.model.specs.Claim.{reported, Claim, fed, bookAfter, OfBytes, ThirdDemand}
+use Rattle.model.specs.Tested.{every-all, every-split}
+use Rattle.model.specs.Accepted.{Accepted, accepted-call}
+use Rattle.model.specs.Shown.{quota-reports}
+use Rattle.model.specs.Charged.{queuedBy, Charged}
+use Rattle.model.specs.ChargedProof.{always-charged, known-open}
+use Rattle.model.specs.ChargedBounds.{at-most-half-queued, share-never-refused}
+use Rattle.model.specs.Sim.{called, told, Sim}
+use Rattle.model.specs.SimQueues.{load-told}
+use Rattle.model.specs.SimSend.{nodes-of-slots, places-is}
+use Rattle.model.specs.SimRun.{Alike, alike}
+
+-- What the book has queued is what stands in the bus's queue.
+queued-is : {N : ℕ} (name : ℕ → ℕ) (b : State) (k : Book) → Sim N name b k → (q u : ℕ) (r : Resource) → queued k q u r ≡ queuedBy r u (messagesIn (b .queue q))
+queued-is name b k s q u r =
+    let e : load (by u) (weight r) (k .queue q) ≡ queuedBy r u (messagesIn (b .queue q)) = rw (s .queues q) (load-told name u r (messagesIn (b .queue q))) in
+    omega (arith, s .sums q u r)
+
+-- A send that comes back with 122 was refused by the cascade of a send.
+pub record Refused122 (b : State) (f : List ℕ) : Type 0 where
+  pub peer : Peer
+  pub sizes : Sizes
+  pub read : parse f ≡ Read (Send peer sizes)
+  pub lawful : Legal f (Send peer sizes)
+  pub refused : refusesSend b (peer .0) (destinations f sizes) (attached f sizes) (length (payloadOf f)) ≡ EDQUOT
+
+only-send : (b : State) (f : List ℕ) (c : Command) → opcode f ≡ 7 → parse f ≡ Read c → Legal f c → Fields f c → refusal b f c ≡ EDQUOT → Refused122 b f
+unfolding refusal
+only-send b f (Open p u) o e l x r = absurd (omega (arith, x .0 .command))
+only-send b f (Disconnect p) o e l x r = absurd (omega (arith, x .command))
+only-send b f (Create p i) o e l x r = absurd (omega (arith, x .0 .command))
+only-send b f (Destroy p i) o e l x r = absurd (omega (arith, x .0 .command))
+only-send b f (Release p i) o e l x r = absurd (omega (arith, x .0 .command))
+only-send b f (Transfer p i q) o e l x r = absurd (omega (arith, x .0 .command))
+only-send b f (Send p z) o e l x r = record { peer = p; sizes = z; read = e; lawful = l; refused = r }
+only-send b f (Receive p room) o e l x r = absurd (omega (arith, x .command))
+only-send b f (Quota p u) o e l x r = absurd (omega (arith, x .0 .command))
+only-send b f (Holders p i) o e l x r = absurd (omega (arith, x .0 .command))
+
+refused-send : (b : State) (c : Call) → opcode (c .frame) ≡ 7 → step b c .outcome .number ≡ EDQUOT → Refused122 b (c .frame)
+unfolding step finish outcomeOf carryOut
+refused-send b c o e = go (look (ltb (length (c .buffer)) answerSize)) (parse (c .frame)) refl (legal (c .frame))
+  where
+    on : (d : Command) → parse (c .frame) ≡ Read d → Legal (c .frame) d → numberOf ((carryOut b (c .frame) d (refusal b (c .frame) d)) .reply .answer) ≡ EDQUOT →
+        Seen (eqb (refusal b (c .frame) d) 0) → Refused122 b (c .frame)
+    on d p l n (is-true z) = absurd (omega (arith, rw z at n, reply-number b (c .frame) d))
+    on d p l n (is-false z) = only-send b (c .frame) d o p l (fields-command (c .frame) d p) (rw z at n)
+
+    go : Seen (ltb (length (c .buffer)) answerSize) → (x : Parsed) → parse (c .frame) ≡ x → Outcome (c .frame) x → Refused122 b (c .frame)
+    go (is-true s) x p l = absurd (omega (arith, rw s at e))
+    go (is-false s) (Refused n) p (inl h) = absurd (omega (arith, rw (s, p) at e))
+    go (is-false s) (Refused n) p (inr (inl h)) = absurd (omega (arith, rw (s, p) at e))
+    go (is-false s) (Refused n) p (inr (inr h)) = absurd (omega (arith, rw (s, p) at e))
+    go (is-false s) (Read d) p l = on d p l (rw (s, p) at e) (look (eqb (refusal b (c .frame) d) 0))
+
+-- So far the sender is open and holds every ID.
+pub record Reached122 (b : State) (p : ℕ) (is : List ℕ) : Type 0 where
+  pub is-open : b .status p ≡ opened
+  pub holds : All (λ i. slot b p i < nodes) is
+
+reached-122 : (b : State) (p : ℕ) (is hs : List ℕ) (nb : ℕ) → refusesSend b p is hs nb ≡ EDQUOT → Reached122 b p is
+unfolding refusesSend
+reached-122 b p is hs nb e =
+    let c = pick-then {A = ℕ} (ltb (b .accepted) mostCommands) EOVERFLOW EDQUOT (λ z. omega arith) e in
+    let o = open-at (b .status p) _ (c .1) in
+    let k = pick-then {A = ℕ} (every (λ i. ltb (slot b p i) nodes) (is ++ hs)) ENXIO EDQUOT (λ z. omega arith) (o .1) in
+    let a = every-all (λ i. ltb (slot b p i) nodes) is (every-split (λ i. ltb (slot b p i) nodes) is hs (k .0) .0) in
+    record { is-open = o .0; holds = all-imp _ _ (λ i h. ltb-true (slot b p i) nodes h) is a }
+  where
+    open-at : (s : Status) (r : ℕ) → present s r ≡ EDQUOT → (s ≡ opened) × (r ≡ EDQUOT)
+    open-at unopened r e = absurd (omega arith)
+    open-at opened r e = (refl, e)
+    open-at disconnected r e = absurd (omega arith)
+
+-- Within the share, by the book, no send is refused for quota.
+assured : {N : ℕ} (name : ℕ → ℕ) (b : State) (k : Book) (f : List ℕ) → Sim N name b k → Charged b → Refused122 b f →
+    ((q : ℕ) (r : Resource) → 0 < goesTo k f q → wouldLeave k f q r ≤ share r) → ⊥
+unfolding goesTo wouldLeave
+assured name b k f s h x within =
+    let p = x .peer .0 in
+    let z = x .sizes in
+    let sized = x .lawful .1 in
+    let g = reached-122 b p (destinations f z) (attached f z) (length (payloadOf f)) (x .refused) in
+    let l : b .user p < users = known-open b p h (g .is-open) in
+    let e : z ≡ sizesOf f = λ i. record { nd = sized .destinations i; nh = sized .attached i; nb = sized .bytes i } in
+    let a : p ≡ actingPeer f = fields-command f (Send (x .peer) z) (x .read) .peer in
+    let n : nodesOf k p (destinations f z) ≡ map (called name) (map (slot b p) (destinations f z)) = nodes-of-slots name b k s p (destinations f z) (g .holds) in
+    share-never-refused b h p (destinations f z) (attached f z) (length (payloadOf f))
+    (λ q r places.
+    let w : 0 < length (keep (ownedBy q) (nodesOf k p (destinations f z))) →
+    pick (ltb (k .user p) users) (queued k q (k .user p) r) 0 + length (keep (ownedBy q) (nodesOf k p (destinations f z))) * weigh r (z .nb) (z .nh) ≤ share r
+    = rw (e, a) (within q r) in
+    let v = rw (n, places-is name q (map (slot b p) (destinations f z)), s .users p, lt-ltb (b .user p) users l) at w in
+    let nb : length (payloadOf f) ≡ z .nb = payload-length f z sized in
+    let nh : length (attached f z) ≡ z .nh = build-length (λ j. sendId f (z .nd + j) .0) (z .nh) in
+    rw (nb, nh) (omega (arith, v places, queued-is name b k s q (b .user p) r, h .at q .sums r (b .user p) l)))
+    (x .refused)
+
+-- The quota question reports the book's numbers.
+reports : {N : ℕ} (name : ℕ → ℕ) (b : State) (k : Book) (c : Call) (d : Command) → Sim N name b k → Charged b → ((q u : ℕ) (r : Resource) → u < users → queued k q u r ≤ most r) →
+    Accepted b c d → Fields (c .frame) d → opcode (c .frame) ≡ 9 → (r : Resource) → reported r (answerOf (step b c)) ≡ queued k (actingPeer (c .frame)) (getD (c .frame) 2 0) r
+reports name b k c (Open p u) s h m a x o r = absurd (omega (arith, x .0 .command))
+reports name b k c (Disconnect p) s h m a x o r = absurd (omega (arith, x .command))
+reports name b k c (Create p i) s h m a x o r = absurd (omega (arith, x .0 .command))
+reports name b k c (Destroy p i) s h m a x o r = absurd (omega (arith, x .0 .command))
+reports name b k c (Release p i) s h m a x o r = absurd (omega (arith, x .0 .command))
+reports name b k c (Transfer p i q) s h m a x o r = absurd (omega (arith, x .0 .command))
+reports name b k c (Send p z) s h m a x o r = absurd (omega (arith, x .command))
+reports name b k c (Receive p room) s h m a x o r = absurd (omega (arith, x .command))
+reports name b k c (Quota p u) s h m a x o r =
+    let l : u .0 < users = omega (arith, a .legal .1) in
+    let e : amount r (own (b .charges (p .0)) u) ≡ queued k (p .0) (u .0) r = h .at (p .0) .sums r (u .0) l ∙ sym (queued-is name b k s (p .0) (u .0) r) in
+    rw (← x .0 .peer, ← x .1) (quota-reports b c p u a r (omega (arith, m (p .0) (u .0) r l, half-small r)) ∙ e)
+  where
+    half-small : (r : Resource) → most r < 65536
+    half-small Resource.messages = omega arith
+    half-small Resource.bytes = omega arith
+    half-small Resource.handles = omega arith
+reports name b k c (Holders p i) s h m a x o r = absurd (omega (arith, x .0 .command))
+
+-- The third demand.
+pub third-demand : ThirdDemand
+third-demand cs c o w =
+    let x = alike cs o in
+    let name = x .world .name in
+    let s = x .world .sim in
+    let h = always-charged cs in
+    let m : (q u : ℕ) (r : Resource) → u < users → queued (bookAfter cs) q u r ≤ most r
+    = λ q u r l. rw (queued-is name (run cs) (bookAfter cs) s q u r) (at-most-half-queued cs q r u l) in
+    record {
+      bounded = m;
+      assured = λ send within e. assured name (run cs) (bookAfter cs) (c .frame) s h (refused-send (run cs) c (eqb-true (opcode (c .frame)) 7 send) e) within;
+      reports = λ nine z r.
+          let y = accepted-call (run cs) c z in
+          reports name (run cs) (bookAfter cs) c (y .0) s h m (y .1) (fields-command (c .frame) (y .0) (y .1 .read)) nine r;
+      sums = λ q u r. omega (arith, s .sums q u r);
+    }

@@ -1,0 +1,162 @@
+-- Every accepted command, alike on the bus and in the book.
+-- Assumes nothing.
+use Prim.Native.Nat.{ℕ, zero, suc, _+_, _-_, _*_, _%_, _≤_, _<_}
+use mathlib.Core.Path.{_≡_, refl, sym, ap, _∙_}
+use mathlib.Core.Bool.{Bool, true, false, not}
+use mathlib.Core.List.{List, [], _∷_, map}
+use native.Mathlib.Omega.{arith}
+use lib.ListN.{length}
+use lib.Dec.{eqb}
+use borrow.Author.Tests.{ne-eqb, not-true}
+use Rattle.laws.specs.Tests.{pick, pick-all, Seen, Seen.is-true, Seen.is-false, look}
+use Rattle.laws.specs.Tables.{upd, upd-rel, upd-all}
+use Rattle.laws.specs.Weights.{All, all-imp}
+use Rattle.laws.specs.Build.{build, build-length}
+use Rattle.laws.specs.Search.{first, first-found}
+use Rattle.frames.specs.declared.Command.{Command}
+use Rattle.frames.specs.declared.Command.the-variants.{Open, Disconnect, Create, Destroy, Release, Transfer, Send, Receive, Quota, Holders}
+use Rattle.frames.specs.Frame.{sendId, payloadOf}
+use Rattle.frames.specs.Legal.{Sized, Legal, payload-length}
+use Rattle.model.specs.Numbers.{peers, slots, nodes, owner, invalid}
+use Rattle.model.specs.Requests.{destinations, attached}
+use Rattle.model.specs.State.{isLive, Handle, Handle.none, Handle.some, handleOf, Message, Entry, Entry.message, Entry.destroyed, Entry.released, messagesIn, State, slot, freePlace, counts, start}
+use Rattle.model.specs.Tables.{accept, withStatus, withUser, withGiven, withHandles, withHandle, withQueues, withCharges, withLives}
+use Rattle.model.specs.Changes.{pushAll, takeOut, withdraw, shown, shownAll, give, giveAll, forget, notify, notifyAll, destroyAll, deliver}
+use Rattle.model.specs.Effects.{opens, creates, destroys, releases, releasesHandle, disconnects, receives, effect}
+use Rattle.model.specs.Book.{Book, answeredId, answersMessage, shownIds, note, noteTransfer, noteReceive, raise, by, weight}
+use Rattle.model.specs.Tested.{Tested}
+use Rattle.model.specs.Notices.{Carried, Stands, Unnamed}
+use Rattle.model.specs.Sim.{called, told, Handles, Sim}
+use Rattle.model.specs.SimHandles.{some-none}
+use Rattle.model.specs.SimQueues.{Quiet, sim-quiet, sim-received}
+use Rattle.model.specs.SimGive.{IdsAt, Ids, enough, ids-set, sim-give, shown-valid, sim-gives, ids-give, ids-gives}
+use Rattle.model.specs.SimRelease.{sim-accept, sim-release, sim-destroy, sim-open, sim-disconnect}
+use Rattle.model.specs.SimCreate.{sim-create}
+use Rattle.model.specs.SimSend.{held-at-slot, noted-at-slot, sim-send}
+
+-- What the answer a of an accepted command shows of the bus b before it: a transfer the ID at the destination, a receive its message's IDs, or that it is no message.
+abbrev pub ReceiveShows : State → ℕ → List Entry → List ℕ → Type 0
+ReceiveShows b p [] a = answersMessage a ≡ false
+ReceiveShows b p (message n m ∷ q) a = (answersMessage a ≡ true) × (shownIds a ≡ shownAll (takeOut b p (m ∷ []) q) p (m .carried))
+ReceiveShows b p (destroyed n s ∷ q) a = answersMessage a ≡ false
+ReceiveShows b p (released n s ∷ q) a = answersMessage a ≡ false
+
+abbrev pub Shows : State → Command → List ℕ → Type 0
+Shows b (Open p u) a = Unit {0}
+Shows b (Disconnect p) a = Unit {0}
+Shows b (Create p i) a = Unit {0}
+Shows b (Destroy p i) a = Unit {0}
+Shows b (Release p i) a = Unit {0}
+Shows b (Transfer p i q) a = answeredId a ≡ shown b (q .0) (slot b (p .0) (i .0))
+Shows b (Send p z) a = Unit {0}
+Shows b (Receive p room) a = ReceiveShows b (p .0) (b .queue (p .0)) a
+Shows b (Quota p u) a = Unit {0}
+Shows b (Holders p i) a = Unit {0}
+
+-- What the relation needs to know of the bus: its IDs; that few have been given; that a message carries few slots; that a slot which does not count is named by nothing.
+pub record Ready (b : State) : Type 0 where
+  pub ids : Ids b
+  pub few : (p : ℕ) → b .given p + 8 < enough
+  pub carried : (p : ℕ) → All (λ m. Carried (m .carried)) (messagesIn (b .queue p))
+  pub free : (s : ℕ) → counts b s ≡ false → Unnamed b s
+
+-- Book and bus, for some names.
+pub record World (N : ℕ) (b : State) (k : Book) : Type 0 where
+  pub name : ℕ → ℕ
+  pub sim : Sim N name b k
+
+-- The number of accepted commands shows in nothing that a peer is given.
+give-accept : (b : State) (p s : ℕ) → give (accept b) p s ≡ accept (give b p s)
+unfolding give accept shown withdraw withGiven withHandles withQueues
+give-accept b p s = go (look (isLive (b .life s)))
+  where
+    go : Seen (isLive (b .life s)) → give (accept b) p s ≡ accept (give b p s)
+    go (is-true e) = rw e
+    go (is-false e) = rw e
+
+gives-accept : (b : State) (p : ℕ) (ss : List ℕ) → giveAll (accept b) p ss ≡ accept (giveAll b p ss)
+gives-accept b p [] = refl
+gives-accept b p (s ∷ ss) = ap (λ (x : State). giveAll x p ss) (give-accept b p s) ∙ gives-accept (give b p s) p ss
+
+out-accept : (b : State) (p : ℕ) (ms : List Message) (q : List Entry) → takeOut (accept b) p ms q ≡ accept (takeOut b p ms q)
+unfolding takeOut accept withCharges withQueues
+out-accept b p ms q = refl
+
+-- Receive: the first message goes to received, and the IDs shown name its nodes.
+sim-receive : {N : ℕ} (name : ℕ → ℕ) (b : State) (k : Book) (p n : ℕ) (m : Message) (q : List Entry) (a : List ℕ) → Sim N name b k → Ready b → b .queue p ≡ message n m ∷ q →
+    Carried (m .carried) → shownIds a ≡ shownAll (takeOut b p (m ∷ []) q) p (m .carried) →
+    Sim N name (giveAll (takeOut (accept b) p (m ∷ []) q) p (m .carried)) (noteReceive k p (shownIds a) (k .queue p))
+unfolding takeOut withCharges withQueues
+sim-receive {N} name b k p n m q a r ready e c f =
+    let x : k .queue p ≡ told name m ∷ map (told name) (messagesIn q) = rw (r .queues p, e) in
+    let t : Sim N name (takeOut b p (m ∷ []) q) _ = sim-received name b k p (m ∷ []) q r (λ u w. rw x (omega arith)) in
+    let g = sim-gives name (takeOut b p (m ∷ []) q) _ p (m .carried) t (ready .ids) (c .1) (omega (arith, ready .few p, c .0)) in
+    rw (out-accept b p (m ∷ []) q, gives-accept (takeOut b p (m ∷ []) q) p (m .carried), x, f) (sim-accept _ g)
+
+received-first : (b : State) (p : ℕ) (q : List Entry) → b .queue p ≡ q → All (λ m. Carried (m .carried)) (messagesIn (b .queue p)) → All (λ m. Carried (m .carried)) (messagesIn q)
+received-first b p q e a = rw e at a
+
+quiet-out : (b : State) (p : ℕ) (q : List Entry) → messagesIn q ≡ messagesIn (b .queue p) → Quiet b (takeOut b p [] q)
+unfolding takeOut withCharges withQueues
+quiet-out b p q e =
+    record { users = refl; handles = refl; messages = upd-all (λ p x. messagesIn x ≡ messagesIn (b .queue p)) (b .queue) p q (λ p. refl) e }
+
+sim-receives : {N : ℕ} (name : ℕ → ℕ) (b : State) (k : Book) (p : ℕ) (q : List Entry) (a : List ℕ) → Sim N name b k → Ready b → b .queue p ≡ q → ReceiveShows b p q a →
+    Sim N name (receives (accept b) p q) (pick (answersMessage a) (noteReceive k p (shownIds a) (k .queue p)) k)
+sim-receives name b k p [] a r ready e s = rw s (sim-accept b r)
+sim-receives name b k p (message n m ∷ q) a r ready e s =
+    rw (s .0) (sim-receive name b k p n m q a r ready e (received-first b p (message n m ∷ q) e (ready .carried p) .0) (s .1))
+sim-receives name b k p (destroyed n t ∷ q) a r ready e s =
+    rw (s, out-accept b p [] q) (sim-accept _ (sim-quiet b _ r (quiet-out b p q (rw e))))
+sim-receives name b k p (released n t ∷ q) a r ready e s =
+    rw (s, out-accept b p [] q) (sim-accept _ (sim-quiet b _ r (quiet-out b p q (rw e))))
+
+-- Create takes a slot that does not count.
+place-free : (b : State) (p : ℕ) → freePlace b p < slots → counts b (p * slots + freePlace b p) ≡ false
+unfolding freePlace
+place-free b p l = not-true _ (first-found (λ k. not (counts b (p * slots + k))) slots l)
+
+unnamed-accept : (b : State) (s : ℕ) → Unnamed b s → Unnamed (accept b) s
+unfolding accept
+unnamed-accept b s u = record { dead = u .dead; unheld = u .unheld; unqueued = u .unqueued }
+
+-- An accepted command: bus and book go on alike.
+pub sim-command : {N : ℕ} (b : State) (f : List ℕ) (c : Command) (k : Book) (a : List ℕ) → World N b k → Ready b → Legal f c → Tested b f c → Shows b c a → k .entered < N →
+    World N (effect b f c) (note k f a c)
+unfolding effect note
+sim-command b f (Open p u) k a w ready legal tested shows more = record { name = w .name; sim = sim-open (w .name) (accept b) k (p .0) (u .0) (sim-accept b (w .sim)) }
+sim-command b f (Disconnect p) k a w ready legal tested shows more =
+    record { name = w .name; sim = sim-disconnect (w .name) (accept b) k (p .0) (sim-accept b (w .sim)) }
+sim-command b f (Create p i) k a w ready legal tested shows more =
+    let e : freePlace (accept b) (p .0) ≡ freePlace b (p .0) = unfold accept freePlace counts in refl in
+    let l : freePlace (accept b) (p .0) < slots = rw e (tested .free) in
+    let u : Unnamed (accept b) (p .0 * slots + freePlace (accept b) (p .0)) = rw e (unnamed-accept b _ (ready .free _ (place-free b (p .0) (tested .free)))) in
+    record {
+      name = upd (w .name) (p .0 * slots + freePlace (accept b) (p .0)) (k .entered);
+      sim = sim-create (w .name) (accept b) k (p .0) (i .0) (sim-accept b (w .sim)) (omega (arith, legal .0)) l u (unfold accept in tested .unheld) more;
+    }
+sim-command b f (Destroy p i) k a w ready legal tested shows more =
+    record { name = w .name; sim = sim-destroy (accept b) (p .0) (slot b (p .0) (i .0)) (sim-accept b (w .sim)) }
+sim-command b f (Release p i) k a w ready legal tested shows more =
+    let x = held-at-slot b (p .0) (i .0) (tested .holds) in
+    record {
+      name = w .name;
+      sim = rw (x .1) (sim-release (w .name) (accept b) k (p .0) (slot b (p .0) (i .0)) (i .0) (x .0) (sim-accept b (w .sim)) (tested .holds) (unfold accept in x .1));
+    }
+sim-command b f (Transfer p i q) k a w ready legal tested shows more =
+    let s = slot b (p .0) (i .0) in
+    let y = noted-at-slot (w .name) b k (w .sim) (p .0) (i .0) (tested .holds) in
+    let v : shown b (q .0) s ≡ invalid → ⊥ = shown-valid (w .name) b k (q .0) s (w .sim) (ready .ids) (tested .holds) (omega (arith, ready .few (q .0))) (tested .lives) in
+    let g = sim-give (w .name) b k (q .0) s (w .sim) (ready .ids) (tested .holds) (omega (arith, ready .few (q .0))) in
+    record { name = w .name; sim = rw (y .1, shows, give-accept b (q .0) s) (sim-accept (give b (q .0) s) (rw (ne-eqb (shown b (q .0) s) invalid v) at g)) }
+sim-command b f (Send p z) k a w ready legal tested shows more =
+    record {
+      name = w .name;
+      sim =
+          sim-send (w .name) b (accept b) k (p .0) (destinations f z) (attached f z) (payloadOf f) z (w .sim) (sim-accept b (w .sim)) (tested .holds) (tested .holds-attached)
+          (payload-length f z (legal .1)) (build-length (λ j. sendId f (z .nd + j) .0) (z .nh));
+    }
+sim-command b f (Receive p room) k a w ready legal tested shows more =
+    record { name = w .name; sim = sim-receives (w .name) b k (p .0) (b .queue (p .0)) a (w .sim) ready refl shows }
+sim-command b f (Quota p u) k a w ready legal tested shows more = w
+sim-command b f (Holders p i) k a w ready legal tested shows more = w
