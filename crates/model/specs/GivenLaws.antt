@@ -18,8 +18,8 @@ use Rattle.model.specs.Lists.{either}
 use Rattle.model.specs.State.{isLive, Handle, Handle.none, Handle.some, handleOf, count, hasId, State, slotOf, slot}
 use Rattle.model.specs.Tables.{withGiven, withHandles, withQueues}
 use Rattle.model.specs.Changes.{withdraw, shown, shownAll, givenAfter, give, giveAll}
-use Rattle.model.specs.Ids.{Holding}
-use Rattle.model.specs.IdsLaws.{at-slot, holding-give, next-free, Changed, Changed.here, Changed.there, changed, give-given}
+use Rattle.model.specs.IdsLaws.{Holding, at-slot, holding-give, next-free, Changed, Changed.here, Changed.there, changed}
+use Rattle.model.specs.SimGive.{given-give}
 use Rattle.model.specs.QueuesProof.{give-handle, give-dead}
 use Rattle.model.specs.Given.{holdsId, newOf}
 
@@ -155,4 +155,4 @@ all-new x p (s ∷ ss) known v a l same-ids =
     let rest : List ℕ = newOf known′ (shownAll y p ss) in
     sym (append-assoc (build nextId (x .given p)) (pick (either (eqb i invalid) (known i)) [] (i ∷ [])) rest)
     ∙ ap (λ (z : List ℕ). z ++ rest) (first-new x p s known v (a .0) (omega arith) same-ids)
-    ∙ all-new y p ss known′ (holding-give x p s v (a .0)) (a .1) (omega (arith, give-given x p s p)) (next-known x p s known v (a .0) same-ids)
+    ∙ all-new y p ss known′ (holding-give x p s v (a .0)) (a .1) (omega (arith, given-give x p s p)) (next-known x p s known v (a .0) same-ids)

@@ -2,15 +2,11 @@
 -- "Owner IDs are chosen, bits 0 and 1 clear .. IDs the bus gives are 4n + 3, n = 1, 2, 3 ... for each peer, never given twice."
 -- "A peer has at most one handle to a node, with a count." "At 0 the handle is gone".
 -- Assumes nothing.
-use Prim.Native.Nat.{ℕ, _*_, _%_, _≤_, _<_}
+use Prim.Native.Nat.{ℕ, _%_, _<_}
 use mathlib.Core.Path.{_≡_}
-use mathlib.Core.Bool.{true}
 use mathlib.Core.List.{List}
-use lib.ListN.{length}
-use Rattle.laws.specs.Weights.{All}
-use Rattle.frames.specs.Frame.{mostIds}
-use Rattle.model.specs.Numbers.{nodes, owner, mostCommands, nextId}
-use Rattle.model.specs.State.{isLive, Handle, Handle.some, held, Entry, Entry.message, Entry.destroyed, Entry.released, State}
+use Rattle.model.specs.Numbers.{nodes, owner, nextId}
+use Rattle.model.specs.State.{Handle, Handle.some, State}
 use Rattle.model.specs.Step.{Call, run}
 
 -- The handles h of the peer p, to which g IDs were given.
@@ -24,23 +20,9 @@ pub record Handles (p g : ℕ) (h : ℕ → Handle) : Type 0 where
   pub chosen : (s i c : ℕ) → h s ≡ some i c → owner s ≡ p → i % 4 ≡ 0
   pub given : (s i c : ℕ) → h s ≡ some i c → (owner s ≡ p → ⊥) → (n : ℕ) × (n < g) × (i ≡ nextId n)
 
--- Of every peer; and the owner of a live node holds it.
-pub record Holding (b : State) : Type 0 where
-  pub handles : (p : ℕ) → Handles p (b .given p) (b .handle p)
-  pub owned : (s : ℕ) → isLive (b .life s) ≡ true → held (b .handle (owner s) s) ≡ true
-
--- A queued message carries at most 8 handles, each to a slot of some peer.
-abbrev pub Carries : Entry → Type 0
-Carries (message n m) = (length (m .carried) ≤ mostIds) × All (λ s. s < nodes) (m .carried)
-Carries (destroyed n s) = Unit {0}
-Carries (released n s) = Unit {0}
-
--- Each accepted command gives at most 8 IDs, and at most 2^40 - 1 commands are accepted.
-pub record Ids (b : State) : Type 0 where
-  pub holding : Holding b
-  pub carried : (p : ℕ) → All Carries (b .queue p)
-  pub few-given : (p : ℕ) → b .given p ≤ mostIds * b .accepted
-  pub few : b .accepted ≤ mostCommands
+-- Of every peer.
+abbrev pub Ids : State → Type 0
+Ids b = (p : ℕ) → Handles p (b .given p) (b .handle p)
 
 -- For every list of calls from a fresh bus.
 abbrev pub SoundIds : Type 0

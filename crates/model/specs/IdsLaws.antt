@@ -1,11 +1,10 @@
 -- What the changes of handles do to `Handles` and `Holding`.
 -- Assumes nothing.
-use Prim.Native.Nat.{ℕ, zero, suc, _+_, _%_, _≤_, _<_}
+use Prim.Native.Nat.{ℕ, zero, suc, _%_, _≤_, _<_}
 use mathlib.Core.Path.{_≡_, refl, sym, ap, _∙_}
 use mathlib.Core.Bool.{Bool, true, false}
 use mathlib.Core.List.{List, [], _∷_}
 use native.Mathlib.Omega.{arith}
-use lib.ListN.{length}
 use borrow.Author.Tests.{eqb-true}
 use Rattle.laws.specs.Tests.{Seen, Seen.is-true, Seen.is-false, look, clash, Same, Same.same, Same.other, same?}
 use Rattle.laws.specs.Tables.{upd, upd-same, upd-other, upd-all, upd-rel}
@@ -15,11 +14,8 @@ use Rattle.model.specs.Numbers.{nodes, owner, nextId}
 use Rattle.model.specs.State.{isLive, Handle, Handle.none, Handle.some, handleOf, held, count, idOr, hasId, State, slotOf, slot}
 use Rattle.model.specs.Tables.{withGiven, withHandles, withQueues}
 use Rattle.model.specs.Changes.{withdraw, shown, givenAfter, give, giveAll}
-use Rattle.model.specs.Ids.{Handles, Holding}
-
--- No handle is a handle.
-pub none-some : {A : Type 0} {i c : ℕ} → none ≡ some i c → A
-none-some e = let z : _≡_ {A = ℕ} 0 1 = cc in absurd (omega arith)
+use Rattle.model.specs.SimHandles.{some-none}
+use Rattle.model.specs.Ids.{Handles, Ids}
 
 pub same-id : {i j c d : ℕ} → some i c ≡ some j d → i ≡ j
 same-id e = cc
@@ -29,7 +25,7 @@ same-count e = cc
 
 -- The handle of an ID and a count.
 pub handle-some : (i c j d : ℕ) → handleOf i c ≡ some j d → (i ≡ j) × (0 < d)
-handle-some i zero j d e = none-some e
+handle-some i zero j d e = some-none (sym e)
 handle-some i (suc c) j d e = let z : suc c ≡ d = same-count e in (same-id e, omega arith)
 
 -- The handles after one of them changed.
@@ -123,6 +119,11 @@ held-kept h p s y k q t =
     upd-all (λ q r. held (h q t) ≡ true → held (r t) ≡ true) h p (upd (h p) s y) (λ q e. e)
     (upd-all (λ t r. held (h p t) ≡ true → held r ≡ true) (h p) s y (λ t e. e) (λ e. k) t) q
 
+-- The handles of every peer; and the owner of a live node holds it.
+pub record Holding (b : State) : Type 0 where
+  pub handles : Ids b
+  pub owned : (s : ℕ) → isLive (b .life s) ≡ true → held (b .handle (owner s) s) ≡ true
+
 -- A handle to a live node is given: the one that stands there, or a new one with the next ID.
 give-one : (p g : ℕ) (h : ℕ → Handle) (s : ℕ) → Handles p g h → s < nodes → (held (h s) ≡ false → owner s ≡ p → ⊥) → (x : Handle) → h s ≡ x →
     Handles p (givenAfter x g) (upd h s (handleOf (idOr (nextId g) x) (suc (count x))))
@@ -160,22 +161,3 @@ holding-give x p s v l = go (look (isLive (x .life s)))
 pub holding-gives : (x : State) (p : ℕ) (ss : List ℕ) → Holding x → All (λ s. s < nodes) ss → Holding (giveAll x p ss)
 holding-gives x p [] v a = v
 holding-gives x p (s ∷ ss) v a = holding-gives (give x p s) p ss (holding-give x p s v (a .0)) (a .1)
-
--- How many IDs are given.
-after-le : (h : Handle) (n : ℕ) → (n ≤ givenAfter h n) × (givenAfter h n ≤ n + 1)
-after-le none n = (omega arith, omega arith)
-after-le (some i c) n = (omega arith, omega arith)
-
-pub give-given : (x : State) (p s q : ℕ) → give x p s .given q ≤ x .given q + 1
-unfolding give withdraw withHandles withGiven withQueues
-give-given x p s q = go (look (isLive (x .life s)))
-  where
-    go : Seen (isLive (x .life s)) → give x p s .given q ≤ x .given q + 1
-    go (is-false e) = rw e (omega arith)
-    go (is-true e) =
-        rw e
-        (upd-all (λ q n. n ≤ x .given q + 1) (x .given) p (givenAfter (x .handle p s) (x .given p)) (λ q. omega arith) (after-le (x .handle p s) (x .given p) .1) q)
-
-pub gives-given : (x : State) (p : ℕ) (ss : List ℕ) (q : ℕ) → giveAll x p ss .given q ≤ x .given q + length ss
-gives-given x p [] q = omega arith
-gives-given x p (s ∷ ss) q = omega (arith, give-given x p s q, gives-given (give x p s) p ss q)

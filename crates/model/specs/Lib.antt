@@ -66,6 +66,4 @@ pub mod Within
 pub mod WithinProof
 pub mod Given
 pub mod GivenLaws
-pub mod Calls
-pub mod ShortIds
 pub mod GivenProof

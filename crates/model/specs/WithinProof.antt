@@ -21,8 +21,9 @@ use Rattle.model.specs.Effects.{disconnects, effect}
 use Rattle.model.specs.Step.{run}
 use Rattle.model.specs.Tested.{Lives}
 use Rattle.model.specs.Ascending.{both-true, by-id-ascends, by-id-pass, by-id-all}
-use Rattle.model.specs.Ids.{Holding, Ids}
-use Rattle.model.specs.IdsProof.{ids-kept, sound-ids}
+use Rattle.model.specs.NoticesProof.{noted, noted-kept}
+use Rattle.model.specs.IdsLaws.{Holding}
+use Rattle.model.specs.IdsProof.{ids-kept, holding}
 use Rattle.model.specs.Within.{ById, isAt, SendOrder, Died, Fell, Parted, DisconnectOrder}
 
 -- Send.
@@ -120,6 +121,10 @@ parted b p q v w l n =
 pub disconnect-order : DisconnectOrder
 unfolding effect
 disconnect-order cs c p a q l n =
-    let v = sound-ids cs in
-    let w : Ids (effect (run cs) (c .frame) (Disconnect p)) = ids-kept (run cs) (c .frame) (Disconnect p) v (a .legal) (a .unrefused) in
-    rw (a .after) (parted (run cs) (p .0) q (v .holding) (w .holding) l n)
+    let v = holding cs in
+    let w : Holding (effect (run cs) (c .frame) (Disconnect p)) =
+    record {
+      handles = ids-kept (run cs) (c .frame) (Disconnect p) v (noted cs) (a .legal) (a .unrefused);
+      owned = noted-kept (run cs) (c .frame) (Disconnect p) (noted cs) (a .legal) (a .unrefused) .owned;
+    } in
+    rw (a .after) (parted (run cs) (p .0) q v w l n)
