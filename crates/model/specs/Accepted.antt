@@ -12,16 +12,16 @@ use lib.Dec.{eqb, ltb}
 use borrow.Author.Tests.{ltb-false, eqb-true, eqb-false}
 use Rattle.laws.specs.Tests.{Seen, Seen.is-true, Seen.is-false, look}
 use Rattle.frames.specs.declared.Command.{Command}
-use Rattle.frames.specs.declared.Command.the-variants.{Open, Disconnect, Create, Destroy, Release, Transfer, Send, Receive, Quota, Holders}
 use Rattle.frames.specs.declared.Parsed.{Parsed}
 use Rattle.frames.specs.declared.Parsed.the-variants.{Read, Refused}
 use Rattle.frames.specs.Frame.{parse}
 use Rattle.frames.specs.Legal.{Legal, Outcome, legal}
 use Rattle.answers.specs.Answer.{answerSize, numberOf, outcomeOf}
-use Rattle.model.specs.State.{Entry, Entry.message, Entry.destroyed, Entry.released, State, start}
+use Rattle.model.specs.State.{State, start}
 use Rattle.model.specs.Refusals.{refusal}
 use Rattle.model.specs.Effects.{effect}
-use Rattle.model.specs.Replies.{showsMessage, shows, reply}
+use Rattle.model.specs.Replies.{reply}
+use Rattle.model.specs.StepLaws.{reply-number, refused-alone}
 use Rattle.model.specs.Step.{Verdict, carryOut, refused, judge, Call, Result, finish, step, runFrom, run, resultsFrom}
 
 -- An accepted call: its frame gives the command k, nothing refuses it, and what comes back is k's reply and k's effect.
@@ -38,27 +38,6 @@ pub record Accepted (b : State) (c : Call) (k : Command) : Type 0 where
 pub data Came (b : State) (c : Call) : Type 0 where
   left : step b c .state ≡ b → (step b c .outcome .number ≡ 0 → ⊥) → Came b c
   done : (k : Command) → Accepted b c k → Came b c
-
--- The number of a reply is 0.
-shows-number : (b : State) (p : ℕ) (q : List Entry) → numberOf (shows b p q .answer) ≡ 0
-unfolding showsMessage
-shows-number b p [] = refl
-shows-number b p (message n m ∷ q) = refl
-shows-number b p (destroyed n s ∷ q) = refl
-shows-number b p (released n s ∷ q) = refl
-
-reply-number : (b : State) (f : List ℕ) (k : Command) → numberOf (reply b f k .answer) ≡ 0
-unfolding reply
-reply-number b f (Open p u) = refl
-reply-number b f (Disconnect p) = refl
-reply-number b f (Create p i) = refl
-reply-number b f (Destroy p i) = refl
-reply-number b f (Release p i) = refl
-reply-number b f (Transfer p i q) = refl
-reply-number b f (Send p z) = refl
-reply-number b f (Receive p room) = shows-number b (p .0) (b .queue (p .0))
-reply-number b f (Quota p u) = refl
-reply-number b f (Holders p i) = refl
 
 -- What comes back of a verdict: nothing but 22 over a short buffer, else its number and its state.
 finish-short : (b : State) (out : List ℕ) (v : Verdict) → ltb (length out) answerSize ≡ true → (finish b out v .state ≡ b) × (finish b out v .outcome .number ≡ 22)
@@ -136,18 +115,10 @@ kept-run P kept (c ∷ cs) b h = kept-run P kept cs (step b c .state) (kept-step
 pub induction : (P : State → Type 0) → P start → Kept P → (cs : List Call) → P (run cs)
 induction P fresh kept cs = kept-run P kept cs start fresh
 
--- A call that comes back with a number over 0 leaves the state as it was.
-pub refused-leaves : (b : State) (c : Call) → (step b c .outcome .number ≡ 0 → ⊥) → step b c .state ≡ b
-refused-leaves b c h = go (came b c)
-  where
-    go : Came b c → step b c .state ≡ b
-    go (left e n) = e
-    go (done k a) = absurd (h (a .number))
-
--- So, in any run, everything that comes back of the later calls is what would come back without it.
+-- A call that comes back with a number over 0 leaves the state as it was. So, in any run, everything that comes back of the later calls is what would come back without it.
 pub refused-unseen : (before after : List Call) (c : Call) → (step (run before) c .outcome .number ≡ 0 → ⊥) →
     resultsFrom (step (run before) c .state) after ≡ resultsFrom (run before) after
-refused-unseen before after c h = rw (refused-leaves (run before) c h)
+refused-unseen before after c h = rw (refused-alone (run before) c h)
 
 -- A call that comes back with the number 0 was accepted.
 pub accepted-call : (b : State) (c : Call) → step b c .outcome .number ≡ 0 → (k : Command) × Accepted b c k

@@ -1,19 +1,19 @@
--- "First byte the command, second the acting peer": what the first two bytes of a frame say of the command that was read from it.
+-- The bytes of a frame that say what its command is: "First byte the command, second the acting peer", and of a transfer the destination peer, byte 10.
 -- Assumes nothing.
-use Prim.Native.Nat.{ℕ, _%_, _<_}
+use Prim.Native.Nat.{ℕ, _%_}
 use mathlib.Core.Path.{_≡_, refl, sym}
-use mathlib.Core.Bool.{Bool, true, false}
 use mathlib.Core.List.{List}
-use native.Mathlib.Omega.{arith}
 use lib.ListN.{length, getD}
 use lib.Dec.{eqb, ltb}
-use borrow.Author.Tests.{eqb-true, eqb-false, leb-true}
-use Rattle.laws.specs.Tests.{pick, pick-cases, pick-all, pick-else, clash}
+use Rattle.laws.specs.Tests.{pick-all}
+use Rattle.ids.specs.declared.HandleId.{HandleId}
+use Rattle.ids.specs.declared.Peer.{Peer}
 use Rattle.frames.specs.declared.Command.{Command}
 use Rattle.frames.specs.declared.Command.the-variants.{Open, Disconnect, Create, Destroy, Release, Transfer, Send, Receive, Quota, Holders}
 use Rattle.frames.specs.declared.Parsed.{Parsed}
 use Rattle.frames.specs.declared.Parsed.the-variants.{Read, Refused}
 use Rattle.frames.specs.Frame.{EINVAL, ENOTTY, EMSGSIZE, lastPeer, lastUser, peerAt, opcode, idAt, shortAt, oversized, known, sendLength, frameLength, parseSizes, parseSend, parseOpen, parseCreate, parseTransfer, parseQuota, parseRest, parseOther, parse}
+use Rattle.frames.specs.Fields.{Fields, fields-command}
 
 -- The byte of each command, and its acting peer.
 abbrev pub code : Command → ℕ
@@ -40,76 +40,73 @@ actor (Receive p r) = p .0
 actor (Quota p u) = p .0
 actor (Holders p i) = p .0
 
--- A chosen ID stands in bytes 2 to 9, a transfer's destination peer in byte 10.
-abbrev pub Rest : List ℕ → Command → Type 0
-Rest f (Open p u) = Unit {0}
-Rest f (Disconnect p) = Unit {0}
-Rest f (Create p i) = i ≡ idAt f 2
-Rest f (Destroy p i) = Unit {0}
-Rest f (Release p i) = Unit {0}
-Rest f (Transfer p i q) = getD f 10 0 ≡ q .0
-Rest f (Send p z) = Unit {0}
-Rest f (Receive p r) = Unit {0}
-Rest f (Quota p u) = Unit {0}
-Rest f (Holders p i) = Unit {0}
-
 pub record Coded (f : List ℕ) (k : Command) : Type 0 where
   pub byte : opcode f ≡ code k
   pub peer : getD f 1 0 ≡ actor k
-  pub rest : Rest f k
 
-abbrev Says : List ℕ → Parsed → Type 0
-Says f (Read k) = Coded f k
-Says f (Refused n) = Unit {0}
+of-fields : (f : List ℕ) (k : Command) → Fields f k → Coded f k
+of-fields f (Open p u) h = record { byte = h .0 .command; peer = sym (h .0 .peer) }
+of-fields f (Disconnect p) h = record { byte = h .command; peer = sym (h .peer) }
+of-fields f (Create p i) h = record { byte = h .0 .command; peer = sym (h .0 .peer) }
+of-fields f (Destroy p i) h = record { byte = h .0 .command; peer = sym (h .0 .peer) }
+of-fields f (Release p i) h = record { byte = h .0 .command; peer = sym (h .0 .peer) }
+of-fields f (Transfer p i q) h = record { byte = h .0 .command; peer = sym (h .0 .peer) }
+of-fields f (Send p z) h = record { byte = h .command; peer = sym (h .peer) }
+of-fields f (Receive p r) h = record { byte = h .command; peer = sym (h .peer) }
+of-fields f (Quota p u) h = record { byte = h .0 .command; peer = sym (h .0 .peer) }
+of-fields f (Holders p i) h = record { byte = h .0 .command; peer = sym (h .0 .peer) }
 
-unless : (f : List ℕ) (bad : Bool) (n : ℕ) (r : Parsed) → (bad ≡ false → Says f r) → Says f (pick bad (Refused n) r)
-unless f bad n r h = pick-cases (Says f) bad (Refused n) r (λ e. tt) h
-
-says-send : (f : List ℕ) → opcode f ≡ 7 → Says f (parseSend f)
-unfolding parseSend parseSizes
-says-send f e =
-    unless f (ltb (length f) 6) EINVAL _ (λ a.
-    unless f (ltb lastPeer (getD f 1 0)) EINVAL _ (λ b.
-    unless f (eqb (getD f 2 0) 0) EINVAL _ (λ c.
-    unless f (oversized (getD f 2 0) (getD f 3 0) (shortAt f 4)) EMSGSIZE _ (λ d.
-    pick-all (Says f) (eqb (length f) (sendLength (getD f 2 0) (getD f 3 0) (shortAt f 4))) _ (Refused EINVAL) (record { byte = e; peer = refl; rest = tt }) tt))))
-
-says-rest : (f : List ℕ) → known (opcode f) ≡ true → eqb (opcode f) 7 ≡ false → Says f (parseRest (opcode f) (peerAt f 1) f)
-unfolding parseRest parseOpen parseCreate parseTransfer parseQuota
-says-rest f k other =
-    let is : (n : ℕ) → eqb (opcode f) n ≡ true → opcode f ≡ n = λ n e. eqb-true (opcode f) n e in
-    pick-cases (Says f) (eqb (opcode f) 1) _ _ (λ e. unless f (ltb lastUser (getD f 2 0)) EINVAL _ (λ z. (record { byte = is 1 e; peer = refl; rest = tt }))) (λ n1.
-    pick-cases (Says f) (eqb (opcode f) 2) _ _ (λ e. (record { byte = is 2 e; peer = refl; rest = tt })) (λ n2.
-    pick-cases (Says f) (eqb (opcode f) 3) _ _ (λ e. pick-all (Says f) (eqb (idAt f 2 .0 % 4) 0) _ (Refused EINVAL) (record { byte = is 3 e; peer = refl; rest = refl }) tt) (λ n3.
-    pick-cases (Says f) (eqb (opcode f) 4) _ _ (λ e. (record { byte = is 4 e; peer = refl; rest = tt })) (λ n4.
-    pick-cases (Says f) (eqb (opcode f) 5) _ _ (λ e. (record { byte = is 5 e; peer = refl; rest = tt })) (λ n5.
-    pick-cases (Says f) (eqb (opcode f) 6) _ _ (λ e. unless f (ltb lastPeer (getD f 10 0)) EINVAL _ (λ z. (record { byte = is 6 e; peer = refl; rest = refl }))) (λ n6.
-    pick-cases (Says f) (eqb (opcode f) 8) _ _ (λ e. (record { byte = is 8 e; peer = refl; rest = tt })) (λ n8.
-    pick-cases (Says f) (eqb (opcode f) 9) _ _ (λ e. unless f (ltb lastUser (getD f 2 0)) EINVAL _ (λ z. (record { byte = is 9 e; peer = refl; rest = tt }))) (λ n9.
-    let r = pick-else (eqb (opcode f) 0) false true (λ z. clash (sym z)) k in
-    let g0 : 0 < opcode f = omega (arith, eqb-false (opcode f) 0 (r .0)) in
-    let g1 : 1 < opcode f = omega (arith, eqb-false (opcode f) 1 n1) in
-    let g2 : 2 < opcode f = omega (arith, eqb-false (opcode f) 2 n2) in
-    let g3 : 3 < opcode f = omega (arith, eqb-false (opcode f) 3 n3) in
-    let g4 : 4 < opcode f = omega (arith, eqb-false (opcode f) 4 n4) in
-    let g5 : 5 < opcode f = omega (arith, eqb-false (opcode f) 5 n5) in
-    let g6 : 6 < opcode f = omega (arith, eqb-false (opcode f) 6 n6) in
-    let g7 : 7 < opcode f = omega (arith, eqb-false (opcode f) 7 other) in
-    let g8 : 8 < opcode f = omega (arith, eqb-false (opcode f) 8 n8) in
-    let g9 : 9 < opcode f = omega (arith, eqb-false (opcode f) 9 n9) in
-    (record { byte = omega (arith, leb-true (opcode f) 10 (r .1)); peer = refl; rest = tt })))))))))
-
-says : (f : List ℕ) → Says f (parse f)
-unfolding parse parseOther
-says f =
-    unless f (eqb (length f) 0) EINVAL _ (λ a.
-    pick-cases (Says f) (known (opcode f)) _ (Refused ENOTTY) (λ k.
-    pick-cases (Says f) (eqb (opcode f) 7) (parseSend f) (parseOther f) (λ e. says-send f (eqb-true (opcode f) 7 e)) (λ e.
-    pick-all (Says f) (eqb (length f) (frameLength (opcode f))) _ (Refused EINVAL)
-    (unless f (ltb lastPeer (getD f 1 0)) EINVAL _ (λ z. says-rest f k e))
-    tt))
-    (λ e. tt))
-
--- Every frame that was read.
+-- A frame that was read.
 pub coded : (f : List ℕ) (k : Command) → parse f ≡ Read k → Coded f k
-coded f k e = rw e at (says f)
+coded f k e = of-fields f k (fields-command f k e)
+
+-- The destination peer of a transfer.
+abbrev To : List ℕ → Parsed → Type 0
+To f (Read (Open p u)) = Unit {0}
+To f (Read (Disconnect p)) = Unit {0}
+To f (Read (Create p i)) = Unit {0}
+To f (Read (Destroy p i)) = Unit {0}
+To f (Read (Release p i)) = Unit {0}
+To f (Read (Transfer p i q)) = getD f 10 0 ≡ q .0
+To f (Read (Send p z)) = Unit {0}
+To f (Read (Receive p r)) = Unit {0}
+To f (Read (Quota p u)) = Unit {0}
+To f (Read (Holders p i)) = Unit {0}
+To f (Refused n) = Unit {0}
+
+to-send : (f : List ℕ) → To f (parseSend f)
+unfolding parseSend parseSizes
+to-send f =
+    let nd = getD f 2 0 in
+    let nh = getD f 3 0 in
+    let nb = shortAt f 4 in
+    pick-all (To f) (ltb (length f) 6) (Refused EINVAL) _ tt
+    (pick-all (To f) (ltb lastPeer (getD f 1 0)) (Refused EINVAL) _ tt
+    (pick-all (To f) (eqb nd 0) (Refused EINVAL) _ tt
+    (pick-all (To f) (oversized nd nh nb) (Refused EMSGSIZE) _ tt (pick-all (To f) (eqb (length f) (sendLength nd nh nb)) _ (Refused EINVAL) tt tt))))
+
+to-rest : (f : List ℕ) (op : ℕ) (p : Peer) → To f (parseRest op p f)
+unfolding parseRest parseOpen parseCreate parseTransfer parseQuota
+to-rest f op p =
+    pick-all (To f) (eqb op 1) _ _ (pick-all (To f) (ltb lastUser (getD f 2 0)) (Refused EINVAL) _ tt tt)
+    (pick-all (To f) (eqb op 2) _ _ tt
+    (pick-all (To f) (eqb op 3) _ _ (pick-all (To f) (eqb (idAt f 2 .0 % 4) 0) _ (Refused EINVAL) tt tt)
+    (pick-all (To f) (eqb op 4) _ _ tt
+    (pick-all (To f) (eqb op 5) _ _ tt
+    (pick-all (To f) (eqb op 6) _ _ (pick-all (To f) (ltb lastPeer (getD f 10 0)) (Refused EINVAL) _ tt refl)
+    (pick-all (To f) (eqb op 8) _ _ tt
+    (pick-all (To f) (eqb op 9) _ _ (pick-all (To f) (ltb lastUser (getD f 2 0)) (Refused EINVAL) _ tt tt) tt)))))))
+
+to-frame : (f : List ℕ) → To f (parse f)
+unfolding parse parseOther
+to-frame f =
+    pick-all (To f) (eqb (length f) 0) (Refused EINVAL) _ tt
+    (pick-all (To f) (known (opcode f)) _ (Refused ENOTTY)
+    (pick-all (To f) (eqb (opcode f) 7) (parseSend f) (parseOther f) (to-send f)
+    (pick-all (To f) (eqb (length f) (frameLength (opcode f))) _ (Refused EINVAL)
+    (pick-all (To f) (ltb lastPeer (getD f 1 0)) (Refused EINVAL) _ tt (to-rest f (opcode f) (peerAt f 1)))
+    tt))
+    tt)
+
+pub destination : (f : List ℕ) (p : Peer) (i : HandleId) (q : Peer) → parse f ≡ Read (Transfer p i q) → getD f 10 0 ≡ q .0
+destination f p i q e = rw e at (to-frame f)

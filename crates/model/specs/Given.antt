@@ -16,7 +16,7 @@ use Rattle.model.specs.State.{State, start, slot}
 use Rattle.model.specs.Step.{Call, Result, step, answerOf, run}
 use Rattle.model.specs.Book.{answeredId, answersMessage, shownIds}
 use Rattle.model.specs.Claim.{OfBytes}
-use Rattle.model.specs.Ascending.{Ascending}
+use Rattle.model.specs.Rising.{Sorted}
 
 -- The IDs that the answer to a call shows to the peer p: a transfer's answer at its destination, and a received message's attached IDs at the acting peer.
 abbrev pub transferTo : ℕ → Call → Bool
@@ -50,7 +50,7 @@ givenFrom b p (c ∷ cs) = let r = step b c in newOf (holdsId b p) (shownTo p c 
 -- and none is an ID that a peer may choose, nor the invalid one.
 pub record GivenOnce (is : List ℕ) (n : ℕ) : Type 0 where
   pub exactly : is ≡ build nextId n
-  pub rising : Ascending (λ i. i) is
+  pub rising : Sorted (λ i. i) is
   pub apart : All (λ i. (i % 4 ≡ 3) × (i < invalid)) is
 
 -- For every list of calls from a fresh bus.

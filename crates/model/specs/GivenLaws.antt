@@ -18,8 +18,9 @@ use Rattle.model.specs.Lists.{either}
 use Rattle.model.specs.State.{isLive, Handle, Handle.none, Handle.some, handleOf, count, hasId, State, slotOf, slot}
 use Rattle.model.specs.Tables.{withGiven, withHandles, withQueues}
 use Rattle.model.specs.Changes.{withdraw, shown, shownAll, givenAfter, give, giveAll}
-use Rattle.model.specs.IdsLaws.{Holding, at-slot, holding-give, next-free, Changed, Changed.here, Changed.there, changed}
+use Rattle.model.specs.IdsLaws.{Holding, holding-give, next-free, Changed, Changed.here, Changed.there, changed}
 use Rattle.model.specs.SimGive.{given-give}
+use Rattle.model.specs.SimSend.{held-at-slot}
 use Rattle.model.specs.QueuesProof.{give-handle, give-dead}
 use Rattle.model.specs.Given.{holdsId, newOf}
 
@@ -43,7 +44,7 @@ holds-true b p t i c l e = go (look (ltb (slot b p i) nodes))
         clash (sym (rw e (eq-eqb i i refl)) ∙ f)
 
 pub holds-at : (b : State) (p i : ℕ) → holdsId b p i ≡ true → (t : ℕ) × (c : ℕ) × (b .handle p t ≡ some i c)
-holds-at b p i e = let r = at-slot b p i (ltb-true (slot b p i) nodes e) in (slot b p i, r .0, r .1)
+holds-at b p i e = let r = held-at-slot b p i (ltb-true (slot b p i) nodes e) in (slot b p i, r .0, r .1)
 
 -- .. after a handle was given to it
 handle-after : (x : State) (p s t : ℕ) → isLive (x .life s) ≡ true → give x p s .handle p t ≡ upd (x .handle p) s (handleOf (shown x p s) (suc (count (x .handle p s)))) t

@@ -38,8 +38,8 @@ use Rattle.model.specs.Book.{answersMessage, shownIds}
 use Rattle.model.specs.Claim.{OfBytes}
 use Rattle.model.specs.Accepted.{Accepted, Came, Came.left, Came.done, came, run-append}
 use Rattle.model.specs.Shown.{transfer-answers, receive-message, receive-shows, receive-destroyed, receive-released}
-use Rattle.model.specs.Coded.{coded}
-use Rattle.model.specs.Ascending.{Ascending}
+use Rattle.model.specs.Coded.{coded, destination}
+use Rattle.model.specs.Rising.{Sorted}
 use Rattle.model.specs.Given.{shownTo, holdsId, newOf, givenFrom, Given}
 use Rattle.model.specs.GivenLaws.{mostGiven, all-new}
 
@@ -177,7 +177,7 @@ transfer-shows : (b : State) (c : Call) (q : Peer) (i : HandleId) (t : Peer) (p 
 transfer-shows b c q i t p v a =
     let d = coded (c .frame) (Transfer q i t) (a .read) in
     let h = shown-small b (t .0) (slot b (q .0) (i .0)) (v .low) (omega (arith, v .few (t .0))) in
-    rw (eq-eqb (step b c .outcome .number) 0 (a .number), d .byte, d .rest, transfer-answers b c q i t a h) refl
+    rw (eq-eqb (step b c .outcome .number) 0 (a .number), d .byte, destination (c .frame) q i t (a .read), transfer-answers b c q i t a h) refl
 
 both-true : {A : Type 0} (t : Bool) (x y : A) → pick (both t true) x y ≡ pick t x y
 both-true true x y = refl
@@ -257,7 +257,7 @@ unfolding build
 all-build P f zero h = tt
 all-build P f (suc n) h = (h zero (omega arith), all-build P (λ j. f (suc j)) n (λ j l. h (suc j) (omega arith)))
 
-build-ascends : (f : ℕ → ℕ) (n : ℕ) → ((i j : ℕ) → i < j → f i < f j) → Ascending (λ i. i) (build f n)
+build-ascends : (f : ℕ → ℕ) (n : ℕ) → ((i j : ℕ) → i < j → f i < f j) → Sorted (λ i. i) (build f n)
 unfolding build
 build-ascends f zero h = tt
 build-ascends f (suc n) h = (

@@ -5,15 +5,14 @@ use mathlib.Core.Path.{_≡_, refl, sym, ap, _∙_}
 use mathlib.Core.Bool.{Bool, true, false}
 use mathlib.Core.List.{List, [], _∷_}
 use native.Mathlib.Omega.{arith}
-use borrow.Author.Tests.{eqb-true}
 use Rattle.laws.specs.Tests.{Seen, Seen.is-true, Seen.is-false, look, clash, Same, Same.same, Same.other, same?}
-use Rattle.laws.specs.Tables.{upd, upd-same, upd-other, upd-all, upd-rel}
-use Rattle.laws.specs.Search.{first-found}
+use Rattle.laws.specs.Tables.{upd, upd-same, upd-other, upd-rel}
 use Rattle.laws.specs.Weights.{All}
 use Rattle.model.specs.Numbers.{nodes, owner, nextId}
-use Rattle.model.specs.State.{isLive, Handle, Handle.none, Handle.some, handleOf, held, count, idOr, hasId, State, slotOf, slot}
+use Rattle.model.specs.State.{isLive, Handle, Handle.none, Handle.some, handleOf, held, count, idOr, State}
 use Rattle.model.specs.Tables.{withGiven, withHandles, withQueues}
 use Rattle.model.specs.Changes.{withdraw, shown, givenAfter, give, giveAll}
+use Rattle.model.specs.Counts.{put-all}
 use Rattle.model.specs.SimHandles.{some-none}
 use Rattle.model.specs.Ids.{Handles, Ids}
 
@@ -93,15 +92,6 @@ handles-set p g g′ h s i c v le l fit only = record { within = within; counted
         go (here z y m) = rw (← y) (fit .given (λ x. o (rw (← z) x)))
         go (there z y) = let r = v .given t j d y o in (r .0, omega (arith, r .1), r .2)
 
--- The ID that a frame names.
-pub has-id : (i : ℕ) (h : Handle) → hasId i h ≡ true → (c : ℕ) × (h ≡ some i c)
-has-id i none e = clash (sym e)
-has-id i (some j c) e = (c, ap (λ (k : ℕ). some k c) (eqb-true j i e))
-
-pub at-slot : (b : State) (p i : ℕ) → slot b p i < nodes → (c : ℕ) × (b .handle p (slot b p i) ≡ some i c)
-unfolding slotOf
-at-slot b p i l = has-id i (b .handle p (slot b p i)) (first-found (λ s. hasId i (b .handle p s)) nodes l)
-
 -- The next ID that the bus gives is at no handle.
 pub next-free : (p g : ℕ) (h : ℕ → Handle) (t d : ℕ) → Handles p g h → h t ≡ some (nextId g) d → ⊥
 next-free p g h t d v e = go (same? (owner t) p)
@@ -115,9 +105,7 @@ pub held-of : (i c : ℕ) → held (handleOf i (suc c)) ≡ true
 held-of i c = refl
 
 pub held-kept : (h : ℕ → ℕ → Handle) (p s : ℕ) (y : Handle) → held y ≡ true → (q t : ℕ) → held (h q t) ≡ true → held (upd h p (upd (h p) s y) q t) ≡ true
-held-kept h p s y k q t =
-    upd-all (λ q r. held (h q t) ≡ true → held (r t) ≡ true) h p (upd (h p) s y) (λ q e. e)
-    (upd-all (λ t r. held (h p t) ≡ true → held r ≡ true) (h p) s y (λ t e. e) (λ e. k) t) q
+held-kept h p s y k = put-all (λ q t r. held (h q t) ≡ true → held r ≡ true) h p s y (λ q t e. e) (λ e. k)
 
 -- The handles of every peer; and the owner of a live node holds it.
 pub record Holding (b : State) : Type 0 where

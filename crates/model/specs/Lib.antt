@@ -58,7 +58,7 @@ pub mod OrderProof
 pub mod Coded
 pub mod Progress
 pub mod ProgressProof
-pub mod Ascending
+pub mod RisingAll
 pub mod Ids
 pub mod IdsLaws
 pub mod IdsProof

@@ -1,13 +1,13 @@
 -- Laws of `Later`, and what the small changes do to the queues.
 -- Assumes nothing.
 use Prim.Native.Nat.{ℕ, _+_, _<_}
-use mathlib.Core.Path.{_≡_, refl, sym, ap, _∙_}
+use mathlib.Core.Path.{_≡_, sym, ap, _∙_}
 use mathlib.Core.Bool.{Bool, true, false, not}
 use mathlib.Core.List.{List, [], _∷_, _++_, map}
 use lib.Dec.{ltb}
 use Rattle.laws.specs.Tests.{pick-all, Seen, Seen.is-true, Seen.is-false, look, clash}
 use Rattle.laws.specs.Tables.{upd, upd-same, upd-other, upd-all}
-use Rattle.laws.specs.Sums.{sum-ext, sum-at}
+use Rattle.laws.specs.Sums.{sum-at}
 use Rattle.laws.specs.Weights.{keep, All, all-imp}
 use Rattle.model.specs.Numbers.{peers}
 use Rattle.model.specs.State.{Handle, count, Message, Entry, Entry.message, Entry.destroyed, Entry.released, State, total}
@@ -68,10 +68,6 @@ pub map-new : {A : Type 0} (new : Entry → Type 0) (f : A → Entry) → ((s : 
 map-new new f h [] = tt
 map-new new f h (s ∷ ss) = (h s, map-new new f h ss)
 
-pub all-map : {A B : Type 0} (P : B → Type 0) (f : A → B) (xs : List A) → All (λ x. P (f x)) xs → All P (map f xs)
-all-map P f [] h = tt
-all-map P f (x ∷ xs) h = (h .0, all-map P f xs (h .1))
-
 pub map-all-of : {A B : Type 0} (P : B → Type 0) (f : A → B) (xs : List A) → All P (map f xs) → All (λ x. P (f x)) xs
 map-all-of P f [] h = tt
 map-all-of P f (x ∷ xs) h = (h .0, map-all-of P f xs (h .1))
@@ -119,9 +115,3 @@ total-set h p s y l =
     let g : ℕ → ℕ → Handle = upd h p (upd (h p) s y) in
     let e : g p s ≡ y = rw upd-same (upd-same (h p) s y) in
     rw e at (sum-at (λ q. count (g q s)) (λ q. count (h q s)) p peers l (λ q m n. rw (upd-other h p q (upd (h p) s y) n)))
-
-pub total-other : (h : ℕ → ℕ → Handle) (p s t : ℕ) (y : Handle) → (s ≡ t → ⊥) → total (upd h p (upd (h p) s y)) t ≡ total h t
-unfolding total
-total-other h p s t y n =
-    sum-ext (λ q. count (upd h p (upd (h p) s y) q t)) (λ q. count (h q t)) peers
-    (λ q l. upd-all (λ q x. count (x t) ≡ count (h q t)) h p (upd (h p) s y) (λ q. refl) (ap count (upd-other (h p) s t y n)) q)

@@ -1,6 +1,6 @@
 -- Every accepted command moves every queue as `Moved` says.
 -- Assumes nothing.
-use Prim.Native.Nat.{ℕ, zero, suc, _-_, _≤_, _<_}
+use Prim.Native.Nat.{ℕ, suc, _-_, _≤_, _<_}
 use mathlib.Core.Path.{_≡_, refl, sym, ap, subst, _∙_}
 use mathlib.Core.Bool.{Bool, true, false, not}
 use mathlib.Core.Logic._⊎_.{inl, inr}
@@ -8,7 +8,7 @@ use mathlib.Core.List.{List, [], _∷_, _++_, map}
 use native.Mathlib.Omega.{arith}
 use lib.Dec.{eqb}
 use borrow.Author.Tests.{eqb-true, eq-eqb, ne-eqb}
-use Rattle.laws.specs.Tests.{pick, pick-all, pick-cases, Seen, Seen.is-true, Seen.is-false, look, clash, Same, Same.same, Same.other, same?}
+use Rattle.laws.specs.Tests.{pick, pick-cases, Seen, Seen.is-true, Seen.is-false, look, clash, Same, Same.same, Same.other, same?}
 use Rattle.laws.specs.Tables.{upd, upd-same, upd-other}
 use Rattle.laws.specs.Weights.{keep, All, all-keep}
 use Rattle.frames.specs.declared.Command.{Command}
@@ -25,13 +25,12 @@ use Rattle.model.specs.Changes.{push, pushAll, takeOut, withdraw, shown,
 use Rattle.model.specs.Effects.{opens, creates, destroys, releases, releasesHandle, disconnects, receives, effect}
 use Rattle.model.specs.Tested.{tested}
 use Rattle.model.specs.Queues.{Later, Later.behind, Lapsed, Next, front, takenBy, sentBy, MovedBy, Moved}
-use Rattle.model.specs.QueuesLaws.{later-refl, later-keep, later-empty, later-trans, later-front, Each, map-new, all-map, map-all-of, all-behind, later-all, each-push, each-pushAll, each-atPeers, each-takeOut, each-withdraw, total-set, total-other}
+use Rattle.model.specs.QueuesLaws.{later-refl, later-keep, later-empty, later-trans, later-front, Each, map-new, map-all-of, each-push, each-pushAll, each-atPeers, each-takeOut, each-withdraw, total-set}
+use Rattle.model.specs.Unchanged.{notify-apart}
+use Rattle.model.specs.Counts.{total-other, count-handle}
+use Rattle.model.specs.Occurs.{all-map}
 
 -- A handle is given: the sum rises, and with it the release notice goes.
-pub count-of : (i c : ℕ) → count (handleOf i c) ≡ c
-count-of i zero = refl
-count-of i (suc c) = refl
-
 pub give-handle : (x : State) (p s : ℕ) → isLive (x .life s) ≡ true →
     give x p s .handle ≡ upd (x .handle) p (upd (x .handle p) s (handleOf (shown x p s) (suc (count (x .handle p s)))))
 unfolding give withdraw withHandles withGiven withQueues
@@ -44,7 +43,7 @@ give-dead x p s e = rw e refl
 pub give-raises : (x : State) (p s : ℕ) → p < peers → isLive (x .life s) ≡ true → total (x .handle) s < total (give x p s .handle) s
 give-raises x p s l e =
     rw (give-handle x p s e)
-    (omega (arith, total-set (x .handle) p s (handleOf (shown x p s) (suc (count (x .handle p s)))) l, count-of (shown x p s) (suc (count (x .handle p s)))))
+    (omega (arith, total-set (x .handle) p s (handleOf (shown x p s) (suc (count (x .handle p s)))) l, count-handle (shown x p s) (suc (count (x .handle p s)))))
 
 pub give-total : (x : State) (p s t : ℕ) → p < peers → total (x .handle) t ≤ total (give x p s .handle) t
 give-total x p s t l = go (look (isLive (x .life s))) (same? s t)
@@ -53,7 +52,7 @@ give-total x p s t l = go (look (isLive (x .life s))) (same? s t)
     go (is-false e) z = rw (give-dead x p s e) (omega arith)
     go (is-true e) (same z) = rw (← z) (omega (arith, give-raises x p s l e))
     go (is-true e) (other z) =
-        rw (give-handle x p s e) (omega (arith, total-other (x .handle) p s t (handleOf (shown x p s) (suc (count (x .handle p s)))) z))
+        rw (give-handle x p s e) (omega (arith, total-other (x .handle) p s (handleOf (shown x p s) (suc (count (x .handle p s)))) t z))
 
 pub gives-total : (x : State) (p : ℕ) (ss : List ℕ) (t : ℕ) → p < peers → total (x .handle) t ≤ total (giveAll x p ss .handle) t
 gives-total x p [] t l = omega arith
@@ -81,10 +80,6 @@ moved-gives new b x p [] l low q = later-refl (x .queue q)
 moved-gives new b x p (s ∷ ss) l low q =
     later-trans (moved-give new b (giveAll (give x p s) p ss) x p s l low (λ t. gives-total (give x p s) p ss t l) q)
     (moved-gives new b (give x p s) p ss l (λ t. omega (arith, low t, give-total x p s t l)) q)
-
-notify-handle : (a x : State) (s : ℕ) → notify a x s .handle ≡ x .handle
-unfolding notify withQueues
-notify-handle a x s = pick-all (λ y. y .handle ≡ x .handle) (fell a x s) (push x (owner s) (released (x .accepted) s ∷ [])) x refl refl
 
 moved-forget : (gone : ℕ → Entry → Type 0) (new : Entry → Type 0) (x : State) (p s : ℕ) → ((e : Entry) → remains p s e ≡ false → gone p e) → Each gone new x (forget x p s)
 unfolding forget
@@ -184,7 +179,7 @@ module _ (b : State) (new : Entry → Type 0) (of-destroy : (s : ℕ) → new (d
           rw z
           (λ q. let a = notify (accept b) (forget less p s) s in
           let e : c - 1 ≡ 0 = omega (arith, eqb-true c 1 z) in
-          let none-left : held (a .handle p s) ≡ false = rw (notify-handle, upd-same, upd-same, e) refl in
+          let none-left : held (a .handle p s) ≡ false = rw (notify-apart (accept b) (forget less p s) s .handle, upd-same, upd-same, e) refl in
           later-trans (moved-forget (Lapsed b a) new less p s (not-remaining b a p s none-left) q)
           (moved-notify (Lapsed b a) (accept b) (forget less p s) s refl q))
 
@@ -273,10 +268,3 @@ sent-next b f (Holders q i) = tt
 
 pub moved : (b : State) (f : List ℕ) (k : Command) → Legal f k → refusal b f k ≡ 0 → (p : ℕ) → Moved b (effect b f k) p (takenBy b p k)
 moved b f k = moved-by b (Next b) (λ s. refl) (λ s. refl) f k (sent-next b f k)
-
--- A fact of every queued entry is kept, if every notice has it and so has what a send queues.
-pub entries-kept : (P : Entry → Type 0) (b : State) (f : List ℕ) (k : Command) → ((n s : ℕ) → P (destroyed n s)) → ((n s : ℕ) → P (released n s)) →
-    All P (sentBy b f k) → Legal f k → refusal b f k ≡ 0 → ((p : ℕ) → All P (b .queue p)) → (p : ℕ) → All P (effect b f k .queue p)
-entries-kept P b f k d r n l e h p =
-    all-behind P (takenBy b p k) (effect b f k .queue p)
-    (later-all P (λ e z. z) (moved-by b P (λ s. d (suc (b .accepted)) s) (λ s. r (suc (b .accepted)) s) f k n l e p) (h p))

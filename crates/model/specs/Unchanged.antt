@@ -13,51 +13,30 @@ use Rattle.model.specs.Tables.{accept, withStatus, withUser, withGiven, 
 use Rattle.model.specs.Changes.{push, pushAll, takeOut, withdraw, give, giveAll, forget, fell, notify, notifyAll, destroyAll, deliver}
 use Rattle.model.specs.Effects.{opens, creates, destroys, releases, releasesHandle, disconnects, receives, effect}
 
--- A handle that is given changes handles, given IDs and queues alone.
-pub record Alike (x y : State) : Type 0 where
-  pub status : y .status ≡ x .status
-  pub user : y .user ≡ x .user
-  pub charges : y .charges ≡ x .charges
-  pub life : y .life ≡ x .life
-  pub accepted : y .accepted ≡ x .accepted
-
-pub alike-refl : (x : State) → Alike x x
-alike-refl x = record { status = refl; user = refl; charges = refl; life = refl; accepted = refl }
-
-pub alike-trans : {x y z : State} → Alike x y → Alike y z → Alike x z
-alike-trans f g =
-    record {
-      status = g .status ∙ f .status;
-      user = g .user ∙ f .user;
-      charges = g .charges ∙ f .charges;
-      life = g .life ∙ f .life;
-      accepted = g .accepted ∙ f .accepted;
-    }
-
-pub give-alike : (x : State) (p s : ℕ) → Alike x (give x p s)
+-- A handle that is given leaves the number of commands.
+give-accepted : (x : State) (p s : ℕ) → give x p s .accepted ≡ x .accepted
 unfolding give withdraw withHandles withGiven withQueues
-give-alike x p s = go (look (isLive (x .life s)))
+give-accepted x p s = go (look (isLive (x .life s)))
   where
-    go : Seen (isLive (x .life s)) → Alike x (give x p s)
-    go (is-true e) = rw e (record { status = refl; user = refl; charges = refl; life = refl; accepted = refl })
-    go (is-false e) = rw e (alike-refl x)
+    go : Seen (isLive (x .life s)) → give x p s .accepted ≡ x .accepted
+    go (is-true e) = rw e refl
+    go (is-false e) = rw e refl
 
-pub gives-alike : (x : State) (p : ℕ) (ss : List ℕ) → Alike x (giveAll x p ss)
-gives-alike x p [] = alike-refl x
-gives-alike x p (s ∷ ss) = alike-trans (give-alike x p s) (gives-alike (give x p s) p ss)
+gives-accepted : (x : State) (p : ℕ) (ss : List ℕ) → giveAll x p ss .accepted ≡ x .accepted
+gives-accepted x p [] = refl
+gives-accepted x p (s ∷ ss) = gives-accepted (give x p s) p ss ∙ give-accepted x p s
 
 -- A release notice changes queues alone.
 pub record Apart (x y : State) : Type 0 where
-  pub alike : Alike x y
   pub handle : y .handle ≡ x .handle
   pub given : y .given ≡ x .given
+  pub accepted : y .accepted ≡ x .accepted
 
 pub notify-apart : (a x : State) (s : ℕ) → Apart x (notify a x s)
 unfolding notify withQueues
 notify-apart a x s =
-    pick-all (Apart x) (fell a x s) (push x (owner s) (released (x .accepted) s ∷ [])) x
-    (record { alike = record { status = refl; user = refl; charges = refl; life = refl; accepted = refl }; handle = refl; given = refl })
-    (record { alike = alike-refl x; handle = refl; given = refl })
+    pick-all (Apart x) (fell a x s) (push x (owner s) (released (x .accepted) s ∷ [])) x (record { handle = refl; given = refl; accepted = refl })
+    (record { handle = refl; given = refl; accepted = refl })
 
 -- A command counts as one, or it is a question and changes nothing.
 pub data Count (b a : State) : Type 0 where
@@ -70,13 +49,13 @@ release-count b p s none = refl
 release-count b p s (some i c) =
     let less = withHandle (accept b) p s (handleOf i (c - 1)) in
     let x = pick (eqb c 1) (forget less p s) less in
-    notify-apart (accept b) x s .alike .accepted
+    notify-apart (accept b) x s .accepted
     ∙ pick-all (λ y. y .accepted ≡ suc (b .accepted)) (eqb c 1) (forget less p s) less (unfold forget takeOut withCharges withQueues withHandles in refl) (unfold withHandles in refl)
 
 receive-count : (b : State) (p : ℕ) (q : List Entry) → receives (accept b) p q .accepted ≡ suc (b .accepted)
 unfolding accept takeOut withCharges withQueues
 receive-count b p [] = refl
-receive-count b p (message n m ∷ q) = gives-alike (takeOut (accept b) p (m ∷ []) q) p (m .carried) .accepted
+receive-count b p (message n m ∷ q) = gives-accepted (takeOut (accept b) p (m ∷ []) q) p (m .carried)
 receive-count b p (destroyed n s ∷ q) = refl
 receive-count b p (released n s ∷ q) = refl
 
@@ -88,7 +67,7 @@ effect-count b f (Disconnect p) =
 effect-count b f (Create p i) = one-more (unfold creates withHandles withLives accept in refl)
 effect-count b f (Destroy p i) = one-more (unfold destroys destroyAll pushAll withQueues withLives withdraw accept in refl)
 effect-count b f (Release p i) = one-more (release-count b (p .0) (slot b (p .0) (i .0)) (b .handle (p .0) (slot b (p .0) (i .0))))
-effect-count b f (Transfer p i q) = one-more (unfold accept in give-alike (accept b) (q .0) (slot b (p .0) (i .0)) .accepted)
+effect-count b f (Transfer p i q) = one-more (unfold accept in give-accepted (accept b) (q .0) (slot b (p .0) (i .0)))
 effect-count b f (Send p z) = one-more (unfold deliver withCharges pushAll withQueues accept in refl)
 effect-count b f (Receive p room) = one-more (receive-count b (p .0) (b .queue (p .0)))
 effect-count b f (Quota p u) = nothing refl

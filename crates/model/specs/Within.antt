@@ -17,11 +17,11 @@ use Rattle.model.specs.Step.{Call, step, run}
 use Rattle.model.specs.Tested.{Lives}
 use Rattle.model.specs.Accepted.{Accepted}
 use Rattle.model.specs.Queues.{sentBy}
-use Rattle.model.specs.Ascending.{Ascending}
+use Rattle.model.specs.Rising.{Sorted}
 
 -- Exactly the slots that pass, by ascending owner ID, so none of them twice.
 pub record ById (h : ℕ → ℕ → Handle) (P : ℕ → Type 0) (ss : List ℕ) : Type 0 where
-  pub ascending : Ascending (ownerId h) ss
+  pub ascending : Sorted (ownerId h) ss
   pub sound : All P ss
   pub complete : (s : ℕ) → P s → any (eqb s) ss ≡ true
 

@@ -20,7 +20,9 @@ use Rattle.model.specs.Changes.{pushAll, takeOut, withdraw, fell, releas
 use Rattle.model.specs.Effects.{disconnects, effect}
 use Rattle.model.specs.Step.{run}
 use Rattle.model.specs.Tested.{Lives}
-use Rattle.model.specs.Ascending.{both-true, by-id-ascends, by-id-pass, by-id-all}
+use Rattle.model.specs.Occurs.{both-true}
+use Rattle.model.specs.Rising.{owner-sorted, owner-pass}
+use Rattle.model.specs.RisingAll.{owner-all}
 use Rattle.model.specs.NoticesProof.{noted, noted-kept}
 use Rattle.model.specs.IdsLaws.{Holding}
 use Rattle.model.specs.IdsProof.{ids-kept, holding}
@@ -60,11 +62,11 @@ by-id : (b : State) (p : ℕ) (t : ℕ → Bool) (P : ℕ → Type 0) → Holdin
     ((s : ℕ) → t s ≡ true → Lives b s) → ById (b .handle) P (byOwnerId (b .handle) p t)
 by-id b p t P v into out live =
     record {
-      ascending = by-id-ascends (b .handle) p t;
-      sound = all-imp (λ s. (t s ≡ true) × (owner s ≡ p)) P (λ s z. into s (z .0) (z .1)) (byOwnerId (b .handle) p t) (by-id-pass (b .handle) p t);
+      ascending = owner-sorted (b .handle) p t;
+      sound = all-imp (λ s. (t s ≡ true) × (owner s ≡ p)) P (λ s z. into s (z .0) (z .1)) (byOwnerId (b .handle) p t) (owner-pass (b .handle) p t);
       complete =
           λ s z. let x = out s z in
-          by-id-all (b .handle) p t s (x .1) (x .0) (λ r o u e. live-apart b p r s v o (x .1) (live r u) (live s (x .0)) e);
+          owner-all (b .handle) p t s (x .1) (x .0) (λ r o u e. live-apart b p r s v o (x .1) (live r u) (live s (x .0)) e);
     }
 
 -- Disconnect: the state before its release notices.

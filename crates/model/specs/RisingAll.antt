@@ -1,4 +1,4 @@
--- Places by ascending key: `rising` lists passing places, in strictly ascending order of their keys, and every one whose key no other passing place has.
+-- Places by ascending key, complete: `rising` lists every passing place whose key no other passing place has. (Rising: it lists passing places alone, by ascending key.)
 -- Assumes nothing.
 use Prim.Native.Nat.{ℕ, zero, suc, _+_, _*_, _%_, _≤_, _<_}
 use mathlib.Core.Path.{_≡_, refl, sym, ap, _∙_}
@@ -7,21 +7,12 @@ use mathlib.Core.List.{List, [], _∷_, map}
 use native.Mathlib.Omega.{arith}
 use lib.Dec.{eqb, ltb}
 use borrow.Author.Tests.{eqb-true, eqb-false, eq-eqb, ltb-true, ltb-false, le-ltb, lt-ltb}
-use Rattle.laws.specs.Tests.{pick, pick-then, Seen, Seen.is-true, Seen.is-false, look, clash, Same, Same.same, Same.other, same?}
+use Rattle.laws.specs.Tests.{pick, Seen, Seen.is-true, Seen.is-false, look, Same, Same.same, Same.other, same?}
 use Rattle.laws.specs.Sums.{sumTo}
-use Rattle.laws.specs.Weights.{All, all-imp}
 use Rattle.model.specs.Numbers.{slots, owner}
 use Rattle.model.specs.Lists.{both, any, Found, Found.nowhere, Found.at, lower, least, follow, rising}
 use Rattle.model.specs.State.{Handle, ownerId, byOwnerId}
-use Rattle.model.specs.QueuesLaws.{all-map}
-
--- Strictly ascending keys.
-abbrev pub Ascending : (ℕ → ℕ) → List ℕ → Type 0
-Ascending key [] = Unit {0}
-Ascending key (i ∷ is) = All (λ j. key i < key j) is × Ascending key is
-
-pub both-true : (a b : Bool) → both a b ≡ true → (a ≡ true) × (b ≡ true)
-both-true a b e = pick-then a false true (λ z. clash (sym z)) e
+use Rattle.model.specs.Occurs.{no, both-true}
 
 -- The least.
 record Best (t : ℕ → Bool) (key : ℕ → ℕ) (n i : ℕ) : Type 0 where
@@ -40,9 +31,6 @@ one-more P i h k j l = go (same? i j)
     go (same e) = rw (← e) k
     go (other e) = h j (omega arith)
 
-both-ways : {A : Type 0} {b : Bool} → b ≡ false → b ≡ true → A
-both-ways e f = clash (sym f ∙ e)
-
 least-is : (t : ℕ → Bool) (key : ℕ → ℕ) (n : ℕ) → Least t key n (least t key n)
 unfolding least
 least-is t key zero = λ j l. absurd (omega arith)
@@ -55,14 +43,14 @@ least-is t key (suc i) = go (look (t i)) (least t key i) (least-is t key i)
         (record {
           inside = omega (arith, h .inside);
           pass = h .pass;
-          low = one-more (λ j. t j ≡ true → key k ≤ key j) i (h .low) (λ f. both-ways e f);
+          low = one-more (λ j. t j ≡ true → key k ≤ key j) i (h .low) (λ f. no e f);
         })
     go (is-true e) nowhere h =
         rw e
         (record {
           inside = omega arith;
           pass = e;
-          low = one-more (λ j. t j ≡ true → key i ≤ key j) i (λ j l f. both-ways (h j l) f) (λ f. omega arith);
+          low = one-more (λ j. t j ≡ true → key i ≤ key j) i (λ j l f. no (h j l) f) (λ f. omega arith);
         })
     go (is-true e) (at k) h = rw e (on (look (ltb (key i) (key k))))
       where
@@ -85,34 +73,6 @@ least-is t key (suc i) = go (look (t i)) (least t key i) (least-is t key i)
 -- The places that are left once i was listed.
 abbrev above : (ℕ → Bool) → (ℕ → ℕ) → ℕ → ℕ → Bool
 above t key i j = both (t j) (ltb (key i) (key j))
-
-pub rising-pass : (t : ℕ → Bool) (key : ℕ → ℕ) (n f : ℕ) → All (λ j. (t j ≡ true) × (j < n)) (rising t key n f)
-unfolding rising
-rising-pass t key n zero = tt
-rising-pass t key n (suc f) = go (least t key n) (least-is t key n) (λ u. rising-pass u key n f)
-  where
-    go : (x : Found) → Least t key n x → ((u : ℕ → Bool) → All (λ j. (u j ≡ true) × (j < n)) (rising u key n f)) →
-        All (λ j. (t j ≡ true) × (j < n)) (follow x (λ i. rising (above t key i) key n f))
-    go nowhere h ih = tt
-    go (at i) h ih = (
-      (h .pass, h .inside),
-      all-imp (λ j. (above t key i j ≡ true) × (j < n)) (λ j. (t j ≡ true) × (j < n)) (λ j z. (both-true (t j) (ltb (key i) (key j)) (z .0) .0, z .1))
-          (rising (above t key i) key n f) (ih (above t key i)),
-    )
-
-pub rising-ascends : (t : ℕ → Bool) (key : ℕ → ℕ) (n f : ℕ) → Ascending key (rising t key n f)
-unfolding rising
-rising-ascends t key n zero = tt
-rising-ascends t key n (suc f) = go (least t key n) (λ u. rising-ascends u key n f)
-  where
-    go : (x : Found) → ((u : ℕ → Bool) → Ascending key (rising u key n f)) → Ascending key (follow x (λ i. rising (above t key i) key n f))
-    go nowhere ih = tt
-    go (at i) ih = (
-      all-imp (λ j. (above t key i j ≡ true) × (j < n)) (λ j. key i < key j)
-          (λ j z. ltb-true (key i) (key j) (both-true (t j) (ltb (key i) (key j)) (z .0) .1))
-          (rising (above t key i) key n f) (rising-pass (above t key i) key n f),
-      ih (above t key i),
-    )
 
 -- How many places pass.
 abbrev passing : (ℕ → Bool) → ℕ → ℕ
@@ -159,7 +119,7 @@ rising-all t key n (suc f) h j l e d = go (least t key n) (least-is t key n) (λ
     go : (x : Found) → Least t key n x →
         ((u : ℕ → Bool) → passing u n ≤ f → (j : ℕ) → j < n → u j ≡ true → Unique u key n j → any (eqb j) (rising u key n f) ≡ true) →
         any (eqb j) (follow x (λ i. rising (above t key i) key n f)) ≡ true
-    go nowhere b ih = both-ways (b j l) e
+    go nowhere b ih = no (b j l) e
     go (at i) b ih = on (look (eqb j i))
       where
         on : Seen (eqb j i) → any (eqb j) (i ∷ rising (above t key i) key n f) ≡ true
@@ -180,11 +140,7 @@ rising-all t key n (suc f) h j l e d = go (least t key n) (least-is t key n) (λ
             up (same y) = absurd (eqb-false j i z (sym (d i (b .inside) (b .pass) y)))
             up (other y) = omega (arith, b .low j l e)
 
--- The same of the slots of an owner.
-ascending-map : (key g : ℕ → ℕ) (xs : List ℕ) → Ascending (λ k. key (g k)) xs → Ascending key (map g xs)
-ascending-map key g [] h = tt
-ascending-map key g (x ∷ xs) h = (all-map (λ j. key (g x) < key j) g xs (h .0), ascending-map key g xs (h .1))
-
+-- The slots of an owner.
 any-map : (g : ℕ → ℕ) (k : ℕ) (xs : List ℕ) → any (eqb k) xs ≡ true → any (eqb (g k)) (map g xs) ≡ true
 any-map g k [] h = h
 any-map g k (x ∷ xs) h = go (look (eqb k x)) (any-map g k xs)
@@ -198,27 +154,10 @@ any-map g k (x ∷ xs) h = go (look (eqb k x)) (any-map g k xs)
         on (is-false y) = rw y (ih (rw z at h))
 
 module _ (h : ℕ → ℕ → Handle) (p : ℕ) (t : ℕ → Bool) where
-  pub by-id-ascends : Ascending (ownerId h) (byOwnerId h p t)
-  unfolding byOwnerId
-  by-id-ascends =
-      ascending-map (ownerId h) (λ k. p * slots + k) (rising (λ k. t (p * slots + k)) (λ k. ownerId h (p * slots + k)) slots slots)
-      (rising-ascends (λ k. t (p * slots + k)) (λ k. ownerId h (p * slots + k)) slots slots)
-
-  pub by-id-pass : All (λ s. (t s ≡ true) × (owner s ≡ p)) (byOwnerId h p t)
-  unfolding byOwnerId
-  by-id-pass =
-      let xs = rising (λ k. t (p * slots + k)) (λ k. ownerId h (p * slots + k)) slots slots in
-      all-map (λ s. (t s ≡ true) × (owner s ≡ p)) (λ k. p * slots + k) xs
-      (all-imp (λ k. (t (p * slots + k) ≡ true) × (k < slots)) (λ k. (t (p * slots + k) ≡ true) × (owner (p * slots + k) ≡ p)) (λ k z. (z .0, place k (z .1))) xs
-      (rising-pass (λ k. t (p * slots + k)) (λ k. ownerId h (p * slots + k)) slots slots))
-    where
-      place : (k : ℕ) → k < slots → owner (p * slots + k) ≡ p
-      place k l = omega arith
-
-  pub by-id-all : (s : ℕ) → owner s ≡ p → t s ≡ true → ((r : ℕ) → owner r ≡ p → t r ≡ true → ownerId h r ≡ ownerId h s → r ≡ s) →
+  pub owner-all : (s : ℕ) → owner s ≡ p → t s ≡ true → ((r : ℕ) → owner r ≡ p → t r ≡ true → ownerId h r ≡ ownerId h s → r ≡ s) →
       any (eqb s) (byOwnerId h p t) ≡ true
   unfolding byOwnerId
-  by-id-all s o e d =
+  owner-all s o e d =
       let k : ℕ = s % slots in
       let at-s : p * slots + k ≡ s = omega arith in
       let xs = rising (λ k. t (p * slots + k)) (λ k. ownerId h (p * slots + k)) slots slots in
