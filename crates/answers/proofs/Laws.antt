@@ -8,6 +8,7 @@ use native.Mathlib.Numerals.{add-one}
 use lib.ListN.{length, getD, take, set, length-take}
 use lib.Seq.{sets, take-suc, length-take-le}
 use borrow.Author.Tests.{lt-ltb, le-ltb}
+use Rattle.ids.specs.Refusals.{EINVAL}
 use Rattle.laws.specs.Bytes.{be, be-two, be-eight, be-length}
 use Rattle.laws.specs.Stores.{sets-then, over, take-min}
 use Rattle.quota.specs.declared.Charge.{Charge}
@@ -15,7 +16,7 @@ use Rattle.quota.specs.declared.Balance.{Balance}
 use Rattle.answers.specs.declared.Header.{Header}
 use Rattle.answers.specs.declared.Answer.{Answer}
 use Rattle.answers.specs.AnswerLaws.{ids-length, ids-append, charge-length, header-length, message-length, contents-size}
-use Rattle.answers.specs.Answer.{idBytes, bit, headerBytes, messageBytes, chargeBytes, balanceBytes, numberOf, contentsOf, answerBytes, answerAfter, outcomeOf, answerSize, EINVAL, mostIds, mostBytes}
+use Rattle.answers.specs.Answer.{idBytes, bit, headerBytes, messageBytes, chargeBytes, balanceBytes, numberOf, contentsOf, answerBytes, answerAfter, outcomeOf, answerSize, mostIds, mostBytes}
 
 pub two-stores : (o : List ℕ) (t x : ℕ) → set (set o t (x / 256 % 256)) (t + 1) (x % 256) ≡ sets o t (be 2 x)
 two-stores o t x = let e : t + 1 ≡ suc t = omega arith in rw (be-two x, e)

@@ -8,6 +8,7 @@ use lib.Dec.{ltb}
 use lib.Count.{ones}
 use Rattle.laws.specs.Tests.{pick}
 use Rattle.laws.specs.Bytes.{be}
+use Rattle.ids.specs.Refusals.{EINVAL}
 use Rattle.ids.specs.declared.HandleId.{HandleId}
 use Rattle.quota.specs.declared.Charge.{Charge}
 use Rattle.quota.specs.declared.Balance.{Balance}
@@ -21,9 +22,6 @@ use Rattle.answers.specs.declared.Outcome.{Outcome}
 -- "answer buffer under 591 bytes (nothing is written, the number is returned)"; the longest answer: a message with 8 IDs and 512 bytes.
 abbrev pub answerSize : ℕ
 answerSize = 591
-
-abbrev pub EINVAL : ℕ
-EINVAL = 22
 
 -- "One send: .. 0 to 8 attached handles, 0 to 512 payload bytes."
 abbrev pub mostIds : ℕ

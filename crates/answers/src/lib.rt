@@ -6,14 +6,13 @@ ghost use lib.ListN.{length, take};
 ghost use lib.Seq.{sets};
 ghost use Rattle.laws.specs.Bytes.{be};
 ghost use Rattle.answers.specs.Answer.{idBytes, headerBytes, messageBytes, noticeBytes, receivedBytes, chargeBytes, balanceBytes, holderBytes, contentsOf, numberOf, answerAfter, outcomeOf};
+use ids::EINVAL;
 use ids::HandleId;
 use ids::User;
 use quota::Balance;
 use quota::Charge;
 
 const ANSWER_SIZE: usize = 591;
-
-const EINVAL: u8 = 22;
 
 const MOST_IDS: usize = 8;
 

@@ -1,21 +1,22 @@
 -- The frame reader's definitions from what its functions have tested: one law for each way out of a function that calls others.
 -- Assumes nothing.
-use Prim.Native.Nat.{ℕ, _+_, _*_, _-_, _/_, _≤_, _<_}
-use mathlib.Core.Path.{_≡_, refl, sym, ap, _∙_}
+use Prim.Native.Nat.{ℕ, _+_, _*_, _-_, _≤_, _<_}
+use mathlib.Core.Path.{_≡_, sym, _∙_}
 use mathlib.Core.Bool.{Bool, true, false}
-use mathlib.Core.List.{List, []}
+use mathlib.Core.List.{List}
 use native.Mathlib.Omega.{arith}
 use lib.ListN.{length, getD, take, drop, length-drop, drop-of-length-le}
 use lib.Seq.{take-all, drop-length}
-use lib.Dec.{eqb, ltb, leb}
+use lib.Dec.{eqb}
 use borrow.Author.Tests.{ne-eqb, eq-eqb, le-ltb, lt-ltb, le-leb, lt-leb}
+use Rattle.ids.specs.Refusals.{EINVAL, EMSGSIZE, ENOTTY}
 use Rattle.laws.specs.Tests.{pick-all}
 use Rattle.ids.specs.declared.Peer.{Peer}
 use Rattle.ids.specs.declared.HandleId.{HandleId}
 use Rattle.frames.specs.declared.Parsed.{Parsed}
 use Rattle.frames.specs.declared.Parsed.the-variants.{Read, Refused}
 use Rattle.frames.specs.declared.Command.the-variants.{Send, Holders}
-use Rattle.frames.specs.Frame.{EINVAL, ENOTTY, EMSGSIZE, oversized, opcode, peerAt, invalidId, idAt, shortAt, parseSizes, parseSend, frameLength, parseRest, parseOther, parse, sendId, payloadOf}
+use Rattle.frames.specs.Frame.{oversized, invalidId, idAt, shortAt, parseSizes, parseSend, frameLength, parseRest, parseOther, parse, sendId, payloadOf}
 
 -- A send's numbers, from what was tested of them.
 module _ (n p nd nh nb : ℕ) (over : Bool) (e : over ≡ oversized nd nh nb) where

@@ -7,15 +7,16 @@ use mathlib.Core.Bool.{Bool, true, false}
 use mathlib.Core.List.{List}
 use native.Mathlib.Omega.{arith}
 use lib.ListN.{length, getD}
-use lib.Dec.{eqb, ltb, leb}
+use lib.Dec.{eqb, ltb}
 use borrow.Author.Tests.{eqb-true, eqb-false, leb-true}
-use Rattle.laws.specs.Tests.{pick, pick-cases, pick-all, pick-then, pick-else, clash}
+use Rattle.ids.specs.Refusals.{EINVAL, EMSGSIZE, ENOTTY}
+use Rattle.laws.specs.Tests.{pick, pick-cases, pick-all, pick-else, clash}
 use Rattle.ids.specs.declared.Peer.{Peer}
 use Rattle.frames.specs.declared.Command.{Command}
 use Rattle.frames.specs.declared.Command.the-variants.{Open, Disconnect, Create, Destroy, Release, Transfer, Send, Receive, Quota, Holders}
 use Rattle.frames.specs.declared.Parsed.{Parsed}
 use Rattle.frames.specs.declared.Parsed.the-variants.{Read, Refused}
-use Rattle.frames.specs.Frame.{EINVAL, ENOTTY, EMSGSIZE, lastPeer, lastUser, oversized, sendLength, shortAt, opcode, peerAt, idAt, known, frameLength, parseSizes, parseSend, parseOpen, parseCreate, parseTransfer, parseQuota, parseRest, parseOther, parse}
+use Rattle.frames.specs.Frame.{lastPeer, lastUser, oversized, sendLength, shortAt, opcode, peerAt, idAt, known, frameLength, parseSizes, parseSend, parseOpen, parseCreate, parseTransfer, parseQuota, parseRest, parseOther, parse}
 
 -- The command byte and the acting peer.
 pub record Acts (f : List ℕ) (op : ℕ) (p : Peer) : Type 0 where

@@ -7,22 +7,12 @@ use lib.ListN.{length, getD, drop}
 use lib.Dec.{eqb, ltb, leb}
 use Rattle.laws.specs.Tests.{pick}
 use Rattle.laws.specs.Bytes.{numAt}
+use Rattle.ids.specs.Refusals.{EINVAL, ENOTTY, EMSGSIZE}
 use Rattle.ids.specs.declared.HandleId.{HandleId}
 use Rattle.ids.specs.declared.Peer.{Peer}
-use Rattle.frames.specs.declared.Sizes.{Sizes}
 use Rattle.frames.specs.declared.Command.the-variants.{Open, Disconnect, Create, Destroy, Release, Transfer, Send, Receive, Quota, Holders}
 use Rattle.frames.specs.declared.Parsed.{Parsed}
 use Rattle.frames.specs.declared.Parsed.the-variants.{Read, Refused}
-
--- The refusal numbers of this layer.
-abbrev pub EINVAL : ℕ
-EINVAL = 22
-
-abbrev pub ENOTTY : ℕ
-ENOTTY = 25
-
-abbrev pub EMSGSIZE : ℕ
-EMSGSIZE = 90
 
 -- "Peers 0 to 7. Users 0 to 3."
 abbrev pub lastPeer : ℕ

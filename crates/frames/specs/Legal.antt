@@ -1,25 +1,25 @@
 -- What holds of every command that the frame reader hands on, and that it refuses with no other number than 22, 25 and 90.
 -- Callers use this law and never the text of `parse`.
 -- Assumes nothing.
-use Prim.Native.Nat.{ℕ, _+_, _*_, _-_, _%_, _≤_, _<_}
-use mathlib.Core.Path.{_≡_, refl, sym, ap, _∙_}
+use Prim.Native.Nat.{ℕ, _%_, _≤_, _<_}
+use mathlib.Core.Path.{_≡_, refl}
 use mathlib.Core.Bool.{Bool, true, false}
 use mathlib.Core.Logic.{_⊎_}
 use mathlib.Core.Logic._⊎_.{inl, inr}
 use mathlib.Core.List.{List}
 use native.Mathlib.Omega.{arith}
-use lib.ListN.{length, getD, drop, length-drop}
-use lib.Dec.{eqb, ltb, leb}
-use borrow.Author.Tests.{ltb-true, ltb-false, eqb-true, eqb-false}
+use lib.ListN.{length, getD, length-drop}
+use lib.Dec.{eqb, ltb}
+use borrow.Author.Tests.{ltb-false, eqb-true, eqb-false}
+use Rattle.ids.specs.Refusals.{EINVAL, EMSGSIZE, ENOTTY}
 use Rattle.laws.specs.Tests.{pick, pick-cases, pick-all, pick-else, clash}
 use Rattle.ids.specs.declared.Peer.{Peer}
-use Rattle.ids.specs.declared.HandleId.{HandleId}
 use Rattle.frames.specs.declared.Command.{Command}
 use Rattle.frames.specs.declared.Command.the-variants.{Open, Disconnect, Create, Destroy, Release, Transfer, Send, Receive, Quota, Holders}
 use Rattle.frames.specs.declared.Sizes.{Sizes}
 use Rattle.frames.specs.declared.Parsed.{Parsed}
 use Rattle.frames.specs.declared.Parsed.the-variants.{Read, Refused}
-use Rattle.frames.specs.Frame.{EINVAL, ENOTTY, EMSGSIZE, lastPeer, lastUser, mostIds, mostBytes, peerAt, opcode, idAt, shortAt, oversized, known, sendLength, frameLength, parseSizes, parseSend, parseOpen, parseCreate, parseTransfer, parseQuota, parseRest, parseOther, parse, payloadOf}
+use Rattle.frames.specs.Frame.{lastPeer, lastUser, mostIds, mostBytes, peerAt, opcode, idAt, shortAt, oversized, known, sendLength, frameLength, parseSizes, parseSend, parseOpen, parseCreate, parseTransfer, parseQuota, parseRest, parseOther, parse, payloadOf}
 
 -- The sizes of a send: as the frame has them, in document 01's bounds, and the frame is as long as they say.
 pub record Sized (f : List ℕ) (z : Sizes) : Type 0 where

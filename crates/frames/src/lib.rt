@@ -5,15 +5,12 @@ ghost use Prim.Native.Nat.{_+_, _*_, _<_, _≤_};
 ghost use lib.ListN.{length};
 ghost use Rattle.laws.specs.Bytes.{numAt};
 ghost use Rattle.frames.specs.Frame.{oversized as tooLarge, shortAt, idAt, parseSizes, parseSend, frameLength, parseOpen, parseCreate, parseTransfer, parseQuota, parseRest, parseOther, parse as parsed, sendId, payloadOf};
+use ids::EINVAL;
+use ids::EMSGSIZE;
+use ids::ENOTTY;
 use ids::HandleId;
 use ids::Peer;
 use ids::User;
-
-pub const EINVAL: u8 = 22;
-
-pub const ENOTTY: u8 = 25;
-
-pub const EMSGSIZE: u8 = 90;
 
 const LAST_PEER: u8 = 7;
 

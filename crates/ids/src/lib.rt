@@ -1,4 +1,4 @@
-// The three kinds of number of document 01, "three kinds and must not be mixable by accident".
+// The three kinds of number of document 01, "three kinds and must not be mixable by accident", and the refusal numbers.
 
 // A peer, 0 to 7 on a bus: the place of its rows in a peer's table.
 pub struct Peer(pub usize);
@@ -8,3 +8,10 @@ pub struct User(pub usize);
 
 // A handle's ID, as one peer knows a node.
 pub struct HandleId(pub u64);
+
+// The refusal numbers of document 01's table; specs/Refusals.antt has the row of each.
+pub const EINVAL: u8 = 22;
+
+pub const ENOTTY: u8 = 25;
+
+pub const EMSGSIZE: u8 = 90;

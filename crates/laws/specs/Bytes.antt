@@ -1,11 +1,11 @@
 -- Numbers as bytes, big-endian, over the number of bytes.
 -- Assumes nothing.
-use Prim.Native.Nat.{ℕ, zero, suc, _+_, _*_, _/_, _%_, _^_, _≤_, _<_}
-use mathlib.Core.Path.{_≡_, refl, sym, ap, _∙_}
+use Prim.Native.Nat.{ℕ, zero, suc, _+_, _*_, _/_, _%_, _^_, _<_}
+use mathlib.Core.Path.{_≡_, refl, _∙_}
 use mathlib.Core.List.{List, [], _∷_, _++_, append-assoc}
 use native.Mathlib.Omega.{arith}
-use native.Mathlib.Nat.{div-add-mod', add-zero, zero-add}
-use lib.ListN.{length, getD, length-append, List·getD-append}
+use native.Mathlib.Nat.{add-zero, zero-add}
+use lib.ListN.{length, getD, length-append}
 use lib.Seq.{getD-at, getD-append-add}
 
 -- the w lowest bytes of x, highest first

@@ -43,9 +43,9 @@ pub keep-every : {A : Type 0} (xs : List A) → keep (λ x. true) xs ≡ xs
 keep-every [] = refl
 keep-every (x ∷ xs) = ap (_∷_ x) (keep-every xs)
 
-pub all-map : {A B : Type 0} (f : A → B) (P : B → Type 0) (xs : List A) → All (λ x. P (f x)) xs → All P (map f xs)
-all-map f P [] h = tt
-all-map f P (x ∷ xs) h = (h .0, all-map f P xs (h .1))
+pub all-map : {A B : Type 0} (P : B → Type 0) (f : A → B) (xs : List A) → All (λ x. P (f x)) xs → All P (map f xs)
+all-map P f [] h = tt
+all-map P f (x ∷ xs) h = (h .0, all-map P f xs (h .1))
 
 -- the number of elements as a weight
 pub load-length : {A : Type 0} (xs : List A) → load (λ x. true) (λ x. 1) xs ≡ length xs

@@ -21,7 +21,7 @@ use Rattle.model.specs.State.{State, start}
 use Rattle.model.specs.Refusals.{refusal}
 use Rattle.model.specs.Effects.{effect}
 use Rattle.model.specs.Replies.{reply}
-use Rattle.model.specs.StepLaws.{reply-number, refused-alone}
+use Rattle.model.specs.StepLaws.{reply-number}
 use Rattle.model.specs.Step.{Verdict, carryOut, refused, judge, Call, Result, finish, step, runFrom, run, resultsFrom}
 
 -- An accepted call: its frame gives the command k, nothing refuses it, and what comes back is k's reply and k's effect.
@@ -115,10 +115,18 @@ kept-run P kept (c ∷ cs) b h = kept-run P kept cs (step b c .state) (kept-step
 pub induction : (P : State → Type 0) → P start → Kept P → (cs : List Call) → P (run cs)
 induction P fresh kept cs = kept-run P kept cs start fresh
 
--- A call that comes back with a number over 0 leaves the state as it was. So, in any run, everything that comes back of the later calls is what would come back without it.
+-- A call that comes back with a number over 0 leaves the state as it was.
+pub refused-leaves : (b : State) (c : Call) → (step b c .outcome .number ≡ 0 → ⊥) → step b c .state ≡ b
+refused-leaves b c h = go (came b c)
+  where
+    go : Came b c → step b c .state ≡ b
+    go (left e n) = e
+    go (done k a) = absurd (h (a .number))
+
+-- So, in any run, everything that comes back of the later calls is what would come back without it.
 pub refused-unseen : (before after : List Call) (c : Call) → (step (run before) c .outcome .number ≡ 0 → ⊥) →
     resultsFrom (step (run before) c .state) after ≡ resultsFrom (run before) after
-refused-unseen before after c h = rw (refused-alone (run before) c h)
+refused-unseen before after c h = rw (refused-leaves (run before) c h)
 
 -- A call that comes back with the number 0 was accepted.
 pub accepted-call : (b : State) (c : Call) → step b c .outcome .number ≡ 0 → (k : Command) × Accepted b c k

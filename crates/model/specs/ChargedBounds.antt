@@ -2,14 +2,16 @@
 -- Assumes nothing.
 use Prim.Native.Nat.{ℕ, _+_, _*_, _≤_, _<_}
 use mathlib.Core.Path.{_≡_, refl, sym, _∙_}
-use mathlib.Core.Bool.{true}
+use mathlib.Core.Bool.{Bool, true, false}
 use mathlib.Core.List.{List, _++_, map}
 use native.Mathlib.Omega.{arith}
 use lib.ListN.{length, getD}
 use lib.Dec.{ltb}
-use Rattle.laws.specs.Tests.{pick-then}
+use borrow.Author.Tests.{ltb-true}
+use Rattle.ids.specs.Refusals.{EDQUOT, EHOSTUNREACH, ENXIO, EOVERFLOW}
+use Rattle.laws.specs.Tests.{pick, pick-then, clash}
 use Rattle.laws.specs.Sums.{sum, sum-ext}
-use Rattle.laws.specs.Weights.{load, all-imp}
+use Rattle.laws.specs.Weights.{load, All, all-imp}
 use Rattle.laws.specs.Loads.{sum-places, load-keys, load-length}
 use Rattle.laws.specs.Tables.{map-at}
 use Rattle.quota.specs.declared.Charges.{Charges}
@@ -20,9 +22,10 @@ use Rattle.model.specs.Numbers.{nodes, mostCommands}
 use Rattle.model.specs.Lists.{every}
 use Rattle.model.specs.Resources.{Resource, Resource.messages, Resource.bytes, Resource.handles, limit, weigh, amount, most, share}
 use Rattle.model.specs.State.{Status, Status.unopened, Status.opened, Status.disconnected, isLive, Message, messagesIn, State, slot}
-use Rattle.model.specs.Refusals.{EOVERFLOW, ENXIO, EHOSTUNREACH, EDQUOT, present, placesAt, fits, refusesSend}
+use Rattle.model.specs.Refusals.{present, placesAt, fits, refusesSend}
 use Rattle.model.specs.Step.{Call, run}
 use Rattle.model.specs.Charged.{weightOf, queuedBy, Fine, Sound, Charged}
+use Rattle.model.specs.Tested.{every-all, every-split}
 use Rattle.model.specs.Charging.{is-resource, reached-at}
 use Rattle.model.specs.ChargedProof.{known-open, always-charged}
 use Rattle.model.specs.Sending.{reached-fits}
@@ -64,11 +67,34 @@ module _ (cs : List Call) (q : ℕ) where
       let h = always-charged cs .at q in
       omega (arith, h .sums r u l, own-at-most-half (is-resource r) (run cs .charges q) (record { 0 = u }) (reached-at (run cs .charges q) (h .reached) r))
 
--- A peer at which the cascade goes on to EDQUOT is open.
-present-other : (s : Status) (r : ℕ) → present s r ≡ EDQUOT → (s ≡ opened) × (r ≡ EDQUOT)
-present-other unopened r e = absurd (omega arith)
-present-other opened r e = (refl, e)
-present-other disconnected r e = absurd (omega arith)
+-- A send that is refused with EDQUOT, and not before: its sender is open and holds every ID, its destinations live, and it does not fit.
+pub record Refused122 (b : State) (p : ℕ) (is hs : List ℕ) (nb : ℕ) : Type 0 where
+  pub is-open : b .status p ≡ opened
+  pub holds : All (λ i. slot b p i < nodes) is
+  pub unfit : fits b (b .user p) (map (slot b p) is) nb (length hs) ≡ false
+
+pub refused-122 : (b : State) (p : ℕ) (is hs : List ℕ) (nb : ℕ) → refusesSend b p is hs nb ≡ EDQUOT → Refused122 b p is hs nb
+unfolding refusesSend
+refused-122 b p is hs nb e =
+    let c = pick-then {A = ℕ} (ltb (b .accepted) mostCommands) EOVERFLOW EDQUOT (λ z. omega arith) e in
+    let o = open-at (b .status p) _ (c .1) in
+    let k = pick-then {A = ℕ} (every (λ i. ltb (slot b p i) nodes) (is ++ hs)) ENXIO EDQUOT (λ z. omega arith) (o .1) in
+    let l = pick-then {A = ℕ} (every (λ s. isLive (b .life s)) (map (slot b p) is)) EHOSTUNREACH EDQUOT (λ z. omega arith) (k .1) in
+    let a = every-all (λ i. ltb (slot b p i) nodes) is (every-split (λ i. ltb (slot b p i) nodes) is hs (k .0) .0) in
+    record {
+      is-open = o .0;
+      holds = all-imp _ _ (λ i h. ltb-true (slot b p i) nodes h) is a;
+      unfit = unfits (fits b (b .user p) (map (slot b p) is) nb (length hs)) (l .1);
+    }
+  where
+    open-at : (s : Status) (r : ℕ) → present s r ≡ EDQUOT → (s ≡ opened) × (r ≡ EDQUOT)
+    open-at unopened r e = absurd (omega arith)
+    open-at opened r e = (refl, e)
+    open-at disconnected r e = absurd (omega arith)
+
+    unfits : (x : Bool) → pick x 0 EDQUOT ≡ EDQUOT → x ≡ false
+    unfits true z = absurd (omega arith)
+    unfits false z = refl
 
 -- A send that stays within the share at each peer that it goes to fits: by the stored charges, or by what is queued.
 pub share-fits : (b : State) → Charged b → (u : ℕ) (ds : List ℕ) (nb nh : ℕ) → u < users →
@@ -86,15 +112,9 @@ pub share-never-refused : (b : State) → Charged b → (p : ℕ) (is hs : List 
     ((q : ℕ) (r : Resource) → 0 < placesAt q (map (slot b p) is) →
     amount r (own (b .charges q) (record { 0 = b .user p })) + placesAt q (map (slot b p) is) * weigh r nb (length hs) ≤ share r) →
     refusesSend b p is hs nb ≡ EDQUOT → ⊥
-unfolding refusesSend
 share-never-refused b h p is hs nb s e =
-    let c = pick-then {A = ℕ} (ltb (b .accepted) mostCommands) EOVERFLOW EDQUOT (λ z. omega arith) e in
-    let o = present-other (b .status p) _ (c .1) in
-    let k = pick-then {A = ℕ} (every (λ i. ltb (slot b p i) nodes) (is ++ hs)) ENXIO EDQUOT (λ z. omega arith) (o .1) in
-    let l = pick-then {A = ℕ} (every (λ s. isLive (b .life s)) (map (slot b p) is)) EHOSTUNREACH EDQUOT (λ z. omega arith) (k .1) in
-    let f = share-fits b h (b .user p) (map (slot b p) is) nb (length hs) (known-open b p h (o .0)) s in
-    let z : _≡_ {A = ℕ} 0 EDQUOT = rw f at (l .1) in
-    omega arith
+    let x = refused-122 b p is hs nb e in
+    clash (sym (share-fits b h (b .user p) (map (slot b p) is) nb (length hs) (known-open b p h (x .is-open)) s) ∙ x .unfit)
 
 pub run-share-fits : (cs : List Call) (u : ℕ) (ds : List ℕ) (nb nh : ℕ) → u < users →
     ((q : ℕ) (r : Resource) → 0 < placesAt q ds → amount r (own (run cs .charges q) (record { 0 = u })) + placesAt q ds * weigh r nb nh ≤ share r) →

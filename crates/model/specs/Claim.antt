@@ -5,13 +5,13 @@ use mathlib.Core.Path.{_≡_}
 use mathlib.Core.Bool.{true}
 use mathlib.Core.List.{List, [], _∷_}
 use lib.ListN.{getD}
+use Rattle.ids.specs.Refusals.{EDQUOT}
 use Rattle.laws.specs.Bytes.{numAt}
 use Rattle.laws.specs.Weights.{All}
 use Rattle.frames.specs.Frame.{opcode}
 use Rattle.quota.specs.Charges.{users}
 use Rattle.model.specs.Resources.{Resource, Resource.messages, Resource.bytes, Resource.handles, most, share}
 use Rattle.model.specs.State.{State, start}
-use Rattle.model.specs.Refusals.{EDQUOT}
 use Rattle.model.specs.Step.{Call, Result, step, run, answerOf}
 use Rattle.model.specs.Book.{Book, Fed, empty, feedAll, queued, isSend, actingPeer, goesTo, wouldLeave}
 

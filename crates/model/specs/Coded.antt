@@ -12,7 +12,8 @@ use Rattle.frames.specs.declared.Command.{Command}
 use Rattle.frames.specs.declared.Command.the-variants.{Open, Disconnect, Create, Destroy, Release, Transfer, Send, Receive, Quota, Holders}
 use Rattle.frames.specs.declared.Parsed.{Parsed}
 use Rattle.frames.specs.declared.Parsed.the-variants.{Read, Refused}
-use Rattle.frames.specs.Frame.{EINVAL, ENOTTY, EMSGSIZE, lastPeer, lastUser, peerAt, opcode, idAt, shortAt, oversized, known, sendLength, frameLength, parseSizes, parseSend, parseOpen, parseCreate, parseTransfer, parseQuota, parseRest, parseOther, parse}
+use Rattle.ids.specs.Refusals.{EINVAL, ENOTTY, EMSGSIZE}
+use Rattle.frames.specs.Frame.{lastPeer, lastUser, peerAt, opcode, idAt, shortAt, oversized, known, sendLength, frameLength, parseSizes, parseSend, parseOpen, parseCreate, parseTransfer, parseQuota, parseRest, parseOther, parse}
 use Rattle.frames.specs.Fields.{Fields, fields-command}
 
 -- The byte of each command, and its acting peer.

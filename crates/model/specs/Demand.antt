@@ -1,50 +1,46 @@
 -- The third demand, proved. Book and bus go alike (SimRun), so what the book has queued is what the bus has; the bus's charges are the sums over its queues
 -- and within the share theorem (Charged), whatever the run.
 -- Assumes nothing.
-use Prim.Native.Nat.{ℕ, _+_, _-_, _*_, _≤_, _<_}
-use mathlib.Core.Path.{_≡_, refl, sym, ap, _∙_}
-use mathlib.Core.Bool.{Bool, true, false}
+use Prim.Native.Nat.{ℕ, _+_, _*_, _≤_, _<_}
+use mathlib.Core.Path.{_≡_, refl, sym, _∙_}
 use mathlib.Core.Logic._⊎_.{inl, inr}
-use mathlib.Core.List.{List, [], _∷_, _++_, map}
+use mathlib.Core.List.{List, map}
 use native.Mathlib.Omega.{arith}
 use lib.ListN.{length, getD}
 use lib.Dec.{eqb, ltb}
-use borrow.Author.Tests.{eqb-true, ltb-true, lt-ltb}
-use Rattle.laws.specs.Tests.{pick, pick-then, Seen, Seen.is-true, Seen.is-false, look, clash}
-use Rattle.laws.specs.Weights.{load, keep, All, all-imp}
+use borrow.Author.Tests.{eqb-true, lt-ltb}
+use Rattle.ids.specs.Refusals.{EDQUOT}
+use Rattle.laws.specs.Tests.{pick, Seen, Seen.is-true, Seen.is-false, look}
+use Rattle.laws.specs.Weights.{load, keep}
 use Rattle.laws.specs.Build.{build-length}
 use Rattle.ids.specs.declared.Peer.{Peer}
-use Rattle.ids.specs.declared.User.{User}
 use Rattle.frames.specs.declared.Sizes.{Sizes}
 use Rattle.frames.specs.declared.Command.{Command}
 use Rattle.frames.specs.declared.Command.the-variants.{Open, Disconnect, Create, Destroy, Release, Transfer, Send, Receive, Quota, Holders}
 use Rattle.frames.specs.declared.Parsed.{Parsed}
 use Rattle.frames.specs.declared.Parsed.the-variants.{Read, Refused}
 use Rattle.frames.specs.Frame.{opcode, parse, sendId, payloadOf}
-use Rattle.frames.specs.Legal.{Sized, Legal, Outcome, legal, payload-length}
-use Rattle.frames.specs.Fields.{Acts, Fields, fields-command}
+use Rattle.frames.specs.Legal.{Legal, Outcome, legal, payload-length}
+use Rattle.frames.specs.Fields.{Fields, fields-command}
 use Rattle.quota.specs.Charges.{users, own}
 use Rattle.answers.specs.Answer.{answerSize, numberOf, outcomeOf}
-use Rattle.model.specs.Numbers.{nodes, mostCommands}
 use Rattle.model.specs.Resources.{Resource, Resource.messages, Resource.bytes, Resource.handles, weigh, amount, most, share}
-use Rattle.model.specs.Lists.{every}
 use Rattle.model.specs.Requests.{destinations, attached}
-use Rattle.model.specs.State.{Status, Status.unopened, Status.opened, Status.disconnected, messagesIn, State, slot, start}
-use Rattle.model.specs.Refusals.{EOVERFLOW, ENXIO, EDQUOT, present, placesAt, refusesSend, refusal}
-use Rattle.model.specs.Step.{Call, judge, carryOut, finish, step, run, answerOf}
+use Rattle.model.specs.State.{messagesIn, State, slot}
+use Rattle.model.specs.Refusals.{refusesSend, refusal}
+use Rattle.model.specs.Step.{Call, carryOut, finish, step, run, answerOf}
 use Rattle.model.specs.StepLaws.{reply-number}
-use Rattle.model.specs.Book.{Book, Fed, queued, isSend, actingPeer, sizesOf, goesTo, senderHas, wouldLeave, nodesOf, ownedBy, weight, by}
-use Rattle.model.specs.Claim.{reported, Claim, fed, bookAfter, OfBytes, ThirdDemand}
-use Rattle.model.specs.Tested.{every-all, every-split}
+use Rattle.model.specs.Book.{Book, queued, actingPeer, sizesOf, goesTo, wouldLeave, nodesOf, ownedBy, weight, by}
+use Rattle.model.specs.Claim.{reported, bookAfter, ThirdDemand}
 use Rattle.model.specs.Accepted.{Accepted, accepted-call}
 use Rattle.model.specs.Shown.{quota-reports}
 use Rattle.model.specs.Charged.{queuedBy, Charged}
 use Rattle.model.specs.ChargedProof.{always-charged, known-open}
-use Rattle.model.specs.ChargedBounds.{at-most-half-queued, share-never-refused}
-use Rattle.model.specs.Sim.{called, told, Sim}
+use Rattle.model.specs.ChargedBounds.{at-most-half-queued, refused-122, share-never-refused}
+use Rattle.model.specs.Sim.{called, Sim}
 use Rattle.model.specs.SimQueues.{load-told}
 use Rattle.model.specs.SimSend.{nodes-of-slots, places-is}
-use Rattle.model.specs.SimRun.{Alike, alike}
+use Rattle.model.specs.SimRun.{alike}
 
 -- What the book has queued is what stands in the bus's queue.
 queued-is : {N : ℕ} (name : ℕ → ℕ) (b : State) (k : Book) → Sim N name b k → (q u : ℕ) (r : Resource) → queued k q u r ≡ queuedBy r u (messagesIn (b .queue q))
@@ -53,14 +49,14 @@ queued-is name b k s q u r =
     omega (arith, s .sums q u r)
 
 -- A send that comes back with 122 was refused by the cascade of a send.
-pub record Refused122 (b : State) (f : List ℕ) : Type 0 where
-  pub peer : Peer
-  pub sizes : Sizes
-  pub read : parse f ≡ Read (Send peer sizes)
-  pub lawful : Legal f (Send peer sizes)
-  pub refused : refusesSend b (peer .0) (destinations f sizes) (attached f sizes) (length (payloadOf f)) ≡ EDQUOT
+record RefusedSend (b : State) (f : List ℕ) : Type 0 where
+  peer : Peer
+  sizes : Sizes
+  read : parse f ≡ Read (Send peer sizes)
+  lawful : Legal f (Send peer sizes)
+  refused : refusesSend b (peer .0) (destinations f sizes) (attached f sizes) (length (payloadOf f)) ≡ EDQUOT
 
-only-send : (b : State) (f : List ℕ) (c : Command) → opcode f ≡ 7 → parse f ≡ Read c → Legal f c → Fields f c → refusal b f c ≡ EDQUOT → Refused122 b f
+only-send : (b : State) (f : List ℕ) (c : Command) → opcode f ≡ 7 → parse f ≡ Read c → Legal f c → Fields f c → refusal b f c ≡ EDQUOT → RefusedSend b f
 unfolding refusal
 only-send b f (Open p u) o e l x r = absurd (omega (arith, x .0 .command))
 only-send b f (Disconnect p) o e l x r = absurd (omega (arith, x .command))
@@ -73,50 +69,31 @@ only-send b f (Receive p room) o e l x r = absurd (omega (arith, x .command))
 only-send b f (Quota p u) o e l x r = absurd (omega (arith, x .0 .command))
 only-send b f (Holders p i) o e l x r = absurd (omega (arith, x .0 .command))
 
-refused-send : (b : State) (c : Call) → opcode (c .frame) ≡ 7 → step b c .outcome .number ≡ EDQUOT → Refused122 b (c .frame)
+refused-send : (b : State) (c : Call) → opcode (c .frame) ≡ 7 → step b c .outcome .number ≡ EDQUOT → RefusedSend b (c .frame)
 unfolding step finish outcomeOf carryOut
 refused-send b c o e = go (look (ltb (length (c .buffer)) answerSize)) (parse (c .frame)) refl (legal (c .frame))
   where
     on : (d : Command) → parse (c .frame) ≡ Read d → Legal (c .frame) d → numberOf ((carryOut b (c .frame) d (refusal b (c .frame) d)) .reply .answer) ≡ EDQUOT →
-        Seen (eqb (refusal b (c .frame) d) 0) → Refused122 b (c .frame)
+        Seen (eqb (refusal b (c .frame) d) 0) → RefusedSend b (c .frame)
     on d p l n (is-true z) = absurd (omega (arith, rw z at n, reply-number b (c .frame) d))
     on d p l n (is-false z) = only-send b (c .frame) d o p l (fields-command (c .frame) d p) (rw z at n)
 
-    go : Seen (ltb (length (c .buffer)) answerSize) → (x : Parsed) → parse (c .frame) ≡ x → Outcome (c .frame) x → Refused122 b (c .frame)
+    go : Seen (ltb (length (c .buffer)) answerSize) → (x : Parsed) → parse (c .frame) ≡ x → Outcome (c .frame) x → RefusedSend b (c .frame)
     go (is-true s) x p l = absurd (omega (arith, rw s at e))
     go (is-false s) (Refused n) p (inl h) = absurd (omega (arith, rw (s, p) at e))
     go (is-false s) (Refused n) p (inr (inl h)) = absurd (omega (arith, rw (s, p) at e))
     go (is-false s) (Refused n) p (inr (inr h)) = absurd (omega (arith, rw (s, p) at e))
     go (is-false s) (Read d) p l = on d p l (rw (s, p) at e) (look (eqb (refusal b (c .frame) d) 0))
 
--- So far the sender is open and holds every ID.
-pub record Reached122 (b : State) (p : ℕ) (is : List ℕ) : Type 0 where
-  pub is-open : b .status p ≡ opened
-  pub holds : All (λ i. slot b p i < nodes) is
-
-reached-122 : (b : State) (p : ℕ) (is hs : List ℕ) (nb : ℕ) → refusesSend b p is hs nb ≡ EDQUOT → Reached122 b p is
-unfolding refusesSend
-reached-122 b p is hs nb e =
-    let c = pick-then {A = ℕ} (ltb (b .accepted) mostCommands) EOVERFLOW EDQUOT (λ z. omega arith) e in
-    let o = open-at (b .status p) _ (c .1) in
-    let k = pick-then {A = ℕ} (every (λ i. ltb (slot b p i) nodes) (is ++ hs)) ENXIO EDQUOT (λ z. omega arith) (o .1) in
-    let a = every-all (λ i. ltb (slot b p i) nodes) is (every-split (λ i. ltb (slot b p i) nodes) is hs (k .0) .0) in
-    record { is-open = o .0; holds = all-imp _ _ (λ i h. ltb-true (slot b p i) nodes h) is a }
-  where
-    open-at : (s : Status) (r : ℕ) → present s r ≡ EDQUOT → (s ≡ opened) × (r ≡ EDQUOT)
-    open-at unopened r e = absurd (omega arith)
-    open-at opened r e = (refl, e)
-    open-at disconnected r e = absurd (omega arith)
-
 -- Within the share, by the book, no send is refused for quota.
-assured : {N : ℕ} (name : ℕ → ℕ) (b : State) (k : Book) (f : List ℕ) → Sim N name b k → Charged b → Refused122 b f →
+assured : {N : ℕ} (name : ℕ → ℕ) (b : State) (k : Book) (f : List ℕ) → Sim N name b k → Charged b → RefusedSend b f →
     ((q : ℕ) (r : Resource) → 0 < goesTo k f q → wouldLeave k f q r ≤ share r) → ⊥
 unfolding goesTo wouldLeave
 assured name b k f s h x within =
     let p = x .peer .0 in
     let z = x .sizes in
     let sized = x .lawful .1 in
-    let g = reached-122 b p (destinations f z) (attached f z) (length (payloadOf f)) (x .refused) in
+    let g = refused-122 b p (destinations f z) (attached f z) (length (payloadOf f)) (x .refused) in
     let l : b .user p < users = known-open b p h (g .is-open) in
     let e : z ≡ sizesOf f = λ i. record { nd = sized .destinations i; nh = sized .attached i; nb = sized .bytes i } in
     let a : p ≡ actingPeer f = fields-command f (Send (x .peer) z) (x .read) .peer in

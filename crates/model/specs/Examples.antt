@@ -22,7 +22,7 @@ use Rattle.model.specs.Tables.{withStatus, withUser, withGiven, withHand
 use Rattle.model.specs.Changes.{pushAll, takeOut, withdraw, shown, give, forget, fell, notify, releaseNotices, notifyAll, destroyNotices, destroyAll, arriving, deliver}
 use Rattle.model.specs.Effects.{opens, creates, destroys, releases, disconnects, effect}
 use Rattle.model.specs.Replies.{showsMessage, holdersOf, reply}
-use Rattle.model.specs.Scripts.{opening, disconnect, create, destroy, release, send, receive, transfer, quota, holders, number, gives, queuedAndLeft, takes, takesFlag, destroyedAt, releasedAt, Row, Row.played, Row.ruled, computed, expected, five, two, empties, done}
+use Rattle.model.specs.Scripts.{opening, disconnect, create, destroy, release, send, receive, transfer, quota, holders, number, gives, queuedAndLeft, takes, takesFlag, destroyedAt, releasedAt, Row, Row.played, computed, expected, two, empties}
 use Rattle.model.specs.Step.{carryOut, finish, step, answersFrom}
 
 -- "When the sum of counts over all peers falls to 1 from above on a live node, a release notice is queued at the owner."

@@ -11,6 +11,7 @@ use borrow.Author.Tests.{eqb-true, eqb-false, eq-eqb, ne-eqb}
 use Rattle.laws.specs.Tests.{pick, Seen, Seen.is-true, Seen.is-false, look, Same, Same.same, Same.other, same?, clash}
 use Rattle.laws.specs.Tables.{upd-same}
 use Rattle.laws.specs.Build.{build-length}
+use Rattle.laws.specs.Loads.{all-map}
 use Rattle.laws.specs.Weights.{All, all-imp}
 use Rattle.frames.specs.declared.Command.the-variants.{Open, Disconnect, Create, Destroy, Release, Transfer, Send, Receive, Quota, Holders}
 use Rattle.frames.specs.declared.Sizes.{Sizes}
@@ -28,7 +29,7 @@ use Rattle.model.specs.Step.{Call, run}
 use Rattle.model.specs.Tested.{tested}
 use Rattle.model.specs.Accepted.{Kept, induction}
 use Rattle.model.specs.Notices.{noticeFor, Carried, Stands, Noted, mentions, Unnamed}
-use Rattle.model.specs.Occurs.{no, all-map}
+use Rattle.model.specs.Occurs.{no}
 use Rattle.model.specs.Counts.{put, total-one, total-two}
 use Rattle.model.specs.NoticesQueues.{noted-accept, noted-out, noted-first, noted-forget, Lone, lone, noted-notify, noted-notifyAll, noted-deliver}
 use Rattle.model.specs.NoticesTables.{noted-put, unreleased, noted-give, forget-needless, noted-drop, noted-born}

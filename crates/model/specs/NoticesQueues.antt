@@ -11,6 +11,7 @@ use lib.Dec.{eqb, ltb}
 use borrow.Author.Tests.{eqb-true, ltb-true, not-true}
 use Rattle.laws.specs.Tests.{pick, Seen, Seen.is-true, Seen.is-false, look, Same, Same.same, Same.other, same?, clash, pick-cases}
 use Rattle.laws.specs.Tables.{upd, upd-same, upd-other, upd-all}
+use Rattle.laws.specs.Loads.{all-map}
 use Rattle.laws.specs.Weights.{keep, All, load-append, all-append, all-imp, all-keep}
 use Rattle.model.specs.Numbers.{peers, owner}
 use Rattle.model.specs.Lists.{both}
@@ -18,7 +19,7 @@ use Rattle.model.specs.State.{isLive, Handle, held, Message, Entry, Entr
 use Rattle.model.specs.Tables.{withQueues, withQueue, withCharges, accept}
 use Rattle.model.specs.Changes.{push, pushAll, atPeers, takeOut, notReleased, withdraw, dropped, remains, forget, fell, notify, releaseNotices, notifyAll, arriving, deliver}
 use Rattle.model.specs.Notices.{times, noticeFor, noticesFor, Carried, Stands, Noted}
-use Rattle.model.specs.Occurs.{no, both-true, keep-imp, load-none, load-keep, all-map, times-all}
+use Rattle.model.specs.Occurs.{no, both-true, keep-imp, load-none, load-keep, times-all}
 use Rattle.model.specs.Rising.{owner-pass, owner-once}
 
 pub noted-accept : (b : State) → Noted b → Noted (accept b)

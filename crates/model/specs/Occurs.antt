@@ -1,11 +1,11 @@
 -- How often a list has a number, what is kept of a list, and sums with one place apart.
 -- Assumes nothing.
 use Prim.Native.Nat.{ℕ, zero, suc, _+_, _≤_, _<_}
-use mathlib.Core.Path.{_≡_, refl, sym, ap, _∙_}
+use mathlib.Core.Path.{_≡_, refl, sym, _∙_}
 use mathlib.Core.Bool.{Bool, true, false}
 use mathlib.Core.Logic.{_⊎_}
 use mathlib.Core.Logic._⊎_.{inl, inr}
-use mathlib.Core.List.{List, [], _∷_, map}
+use mathlib.Core.List.{List, [], _∷_}
 use native.Mathlib.Omega.{arith}
 use lib.Dec.{eqb}
 use borrow.Author.Tests.{eqb-true, eqb-false, eq-eqb, ne-eqb}
@@ -57,10 +57,6 @@ module _ {A : Type 0} where
 
   pub load-keep : (t : A → Bool) (w : A → ℕ) (d : A → Bool) (xs : List A) → load t w (keep d xs) ≤ load t w xs
   load-keep t w d xs = omega (arith, load-split t w d xs)
-
-pub all-map : {A B : Type 0} (P : B → Type 0) (f : A → B) (xs : List A) → All (λ x. P (f x)) xs → All P (map f xs)
-all-map P f [] a = tt
-all-map P f (x ∷ xs) a = (a .0, all-map P f xs (a .1))
 
 -- a number is not in the list, or has what every element has
 pub times-all : (P : ℕ → Type 0) (s : ℕ) (xs : List ℕ) → All P xs → (times s xs ≡ 0) ⊎ P s

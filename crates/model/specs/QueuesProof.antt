@@ -28,7 +28,7 @@ use Rattle.model.specs.Queues.{Later, Later.behind, Lapsed, Next, front,
 use Rattle.model.specs.QueuesLaws.{later-refl, later-keep, later-empty, later-trans, later-front, Each, map-new, map-all-of, each-push, each-pushAll, each-atPeers, each-takeOut, each-withdraw, total-set}
 use Rattle.model.specs.Unchanged.{notify-apart}
 use Rattle.model.specs.Counts.{total-other, count-handle}
-use Rattle.model.specs.Occurs.{all-map}
+use Rattle.laws.specs.Loads.{all-map}
 
 -- A handle is given: the sum rises, and with it the release notice goes.
 pub give-handle : (x : State) (p s : ℕ) → isLive (x .life s) ≡ true →

@@ -9,6 +9,7 @@ use lib.ListN.{length}
 use lib.Dec.{eqb, ltb, leb}
 use Rattle.laws.specs.Tests.{pick}
 use Rattle.laws.specs.Weights.{keep}
+use Rattle.ids.specs.Refusals.{EOVERFLOW, EBADF, ESHUTDOWN, EEXIST, ENXIO, EPERM, EHOSTUNREACH, ENOSPC, EDQUOT, EAGAIN, ERANGE}
 use Rattle.frames.specs.declared.Command.{Command}
 use Rattle.frames.specs.declared.Command.the-variants.{Open, Disconnect, Create, Destroy, Release, Transfer, Send, Receive, Quota, Holders}
 use Rattle.frames.specs.Frame.{payloadOf}
@@ -18,39 +19,6 @@ use Rattle.model.specs.Numbers.{slots, nodes, owner, mostCommands}
 use Rattle.model.specs.Lists.{both, every}
 use Rattle.model.specs.State.{Status, Status.unopened, Status.opened, Status.disconnected, isLive, count, Entry, Entry.message, Entry.destroyed, Entry.released, State, slot, freePlace}
 use Rattle.model.specs.Requests.{destinations, attached}
-
-abbrev pub EOVERFLOW : ℕ
-EOVERFLOW = 75
-
-abbrev pub EBADF : ℕ
-EBADF = 9
-
-abbrev pub ESHUTDOWN : ℕ
-ESHUTDOWN = 108
-
-abbrev pub EEXIST : ℕ
-EEXIST = 17
-
-abbrev pub ENXIO : ℕ
-ENXIO = 6
-
-abbrev pub EPERM : ℕ
-EPERM = 1
-
-abbrev pub EHOSTUNREACH : ℕ
-EHOSTUNREACH = 113
-
-abbrev pub ENOSPC : ℕ
-ENOSPC = 28
-
-abbrev pub EDQUOT : ℕ
-EDQUOT = 122
-
-abbrev pub EAGAIN : ℕ
-EAGAIN = 11
-
-abbrev pub ERANGE : ℕ
-ERANGE = 34
 
 -- Each row takes the rest of the cascade, r.
 

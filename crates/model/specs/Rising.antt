@@ -8,12 +8,13 @@ use native.Mathlib.Omega.{arith}
 use lib.Dec.{eqb, ltb}
 use borrow.Author.Tests.{ltb-true, eqb-true}
 use Rattle.laws.specs.Tests.{pick, Seen, Seen.is-true, Seen.is-false, look}
+use Rattle.laws.specs.Loads.{all-map}
 use Rattle.laws.specs.Weights.{All, all-imp}
 use Rattle.model.specs.Numbers.{slots, owner}
 use Rattle.model.specs.Lists.{both, Found, Found.nowhere, Found.at, lower, least, follow, rising}
 use Rattle.model.specs.State.{Handle, ownerId, byOwnerId}
 use Rattle.model.specs.Notices.{times}
-use Rattle.model.specs.Occurs.{both-true, all-map, load-none}
+use Rattle.model.specs.Occurs.{both-true, load-none}
 
 -- the least place found passes and is below n
 abbrev Inside : (ℕ → Bool) → ℕ → Found → Type 0

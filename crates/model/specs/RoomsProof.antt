@@ -13,6 +13,7 @@ use Rattle.model.specs.Step.{Call, run}
 use Rattle.model.specs.Notices.{noticesFor, Stands, Noted}
 use Rattle.model.specs.Occurs.{sum-ones, sum-zero, sum-next}
 use Rattle.model.specs.NoticesProof.{noted}
+use Rattle.model.specs.ChargedBounds.{at-most-60-messages}
 use Rattle.model.specs.Rooms.{notices, mostMessages, mostEntries}
 
 -- A queue is its messages and its notices.
@@ -53,3 +54,7 @@ queue-few b q n l = omega (arith, queue-split (b .queue q), notices-few b q n)
 -- Every run.
 pub queue-bound : (cs : List Call) (q : ℕ) → length (messagesIn (run cs .queue q)) ≤ mostMessages → length (run cs .queue q) ≤ mostEntries
 queue-bound cs q l = queue-few (run cs) q (noted cs) l
+
+-- At most 188 entries stand in a queue of a run: 60 messages, and a notice for each node.
+pub at-most-188-entries : (cs : List Call) (q : ℕ) → length (run cs .queue q) ≤ 188
+at-most-188-entries cs q = queue-bound cs q (at-most-60-messages cs q)

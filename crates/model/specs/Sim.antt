@@ -3,13 +3,13 @@
 -- Assumes nothing.
 use Prim.Native.Nat.{ℕ, _+_, _<_}
 use mathlib.Core.Path.{_≡_}
-use mathlib.Core.List.{List, map}
+use mathlib.Core.List.{map}
 use lib.ListN.{length}
 use Rattle.laws.specs.Weights.{load}
 use Rattle.model.specs.Numbers.{nodes, owner}
 use Rattle.model.specs.Resources.{Resource}
-use Rattle.model.specs.State.{Handle, Handle.none, Handle.some, Message, Entry, messagesIn, State}
-use Rattle.model.specs.Book.{Node, Noted, Noted.blank, Noted.noted, BookMessage, Book, weight, by}
+use Rattle.model.specs.State.{Handle, Handle.some, Message, messagesIn, State}
+use Rattle.model.specs.Book.{Node, Noted, Noted.noted, BookMessage, Book, weight, by}
 
 -- The book's node of a slot.
 abbrev pub called : (ℕ → ℕ) → ℕ → Node

@@ -1,22 +1,22 @@
 -- Create, alike on the bus and in the book: a slot that nothing names gets the book's next number for its name.
 -- Assumes nothing.
 use Prim.Native.Nat.{ℕ, suc, _+_, _*_, _≤_, _<_}
-use mathlib.Core.Path.{_≡_, refl, sym, ap, _∙_}
-use mathlib.Core.Bool.{Bool, true, false}
-use mathlib.Core.List.{List, [], _∷_, map}
+use mathlib.Core.Path.{_≡_, refl, sym, _∙_}
+use mathlib.Core.Bool.{true, false}
+use mathlib.Core.List.{List, [], _∷_}
 use native.Mathlib.Omega.{arith}
 use lib.Dec.{eqb}
 use borrow.Author.Tests.{eqb-true, eqb-false}
 use Rattle.laws.specs.Tests.{Seen, Seen.is-true, Seen.is-false, look, Same, Same.same, Same.other, same?, clash, pick-else}
 use Rattle.laws.specs.Tables.{upd, upd-same, upd-other, upd-rel}
 use Rattle.laws.specs.Weights.{All, all-imp, map-all}
-use Rattle.laws.specs.Search.{first, first-before}
+use Rattle.laws.specs.Search.{first-before}
 use Rattle.model.specs.Numbers.{slots, nodes, owner}
-use Rattle.model.specs.Lists.{either, any}
-use Rattle.model.specs.State.{Life.live, Handle, Handle.none, Handle.some, handleOf, held, hasId, Message, Entry, Entry.message, Entry.destroyed, Entry.released, messagesIn, State, slotOf, slot, names, freePlace}
-use Rattle.model.specs.Tables.{withHandles, withHandle, withLives}
+use Rattle.model.specs.Lists.{any}
+use Rattle.model.specs.State.{Handle, Handle.none, Handle.some, handleOf, held, hasId, Message, Entry, Entry.message, Entry.destroyed, Entry.released, messagesIn, State, slotOf, slot, names, freePlace}
+use Rattle.model.specs.Tables.{withHandles, withLives}
 use Rattle.model.specs.Effects.{creates}
-use Rattle.model.specs.Book.{Node, Noted, notedOf, Book, noteCreate}
+use Rattle.model.specs.Book.{Noted, notedOf, Book, noteCreate}
 use Rattle.model.specs.Notices.{mentions, Unnamed}
 use Rattle.model.specs.Sim.{called, told, Handles, Sim}
 use Rattle.model.specs.SimHandles.{some-none, handles-set}

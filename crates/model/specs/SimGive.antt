@@ -1,21 +1,21 @@
 -- A handle that is given, by a transfer or a receive, alike on the bus and in the book.
 -- Assumes nothing.
 use Prim.Native.Nat.{ℕ, zero, suc, _+_, _*_, _≤_, _<_}
-use mathlib.Core.Path.{_≡_, refl, sym, ap, _∙_}
-use mathlib.Core.Bool.{Bool, true, false}
+use mathlib.Core.Path.{_≡_, refl, sym, _∙_}
+use mathlib.Core.Bool.{true}
 use mathlib.Core.List.{List, [], _∷_, map}
 use native.Mathlib.Omega.{arith}
 use lib.ListN.{length}
 use lib.Dec.{eqb}
-use borrow.Author.Tests.{eq-eqb, ne-eqb}
+use borrow.Author.Tests.{ne-eqb}
 use Rattle.laws.specs.Tests.{pick, Seen, Seen.is-true, Seen.is-false, look, Same, Same.same, Same.other, same?}
 use Rattle.laws.specs.Tables.{upd, upd-same, upd-other, upd-rel, upd-all}
-use Rattle.laws.specs.Weights.{All, keep}
+use Rattle.laws.specs.Weights.{All}
 use Rattle.model.specs.Numbers.{nodes, owner, invalid, nextId}
-use Rattle.model.specs.State.{isLive, Handle, Handle.none, Handle.some, handleOf, count, idOr, Entry, messagesIn, State}
+use Rattle.model.specs.State.{isLive, Handle, Handle.none, Handle.some, handleOf, count, idOr, messagesIn, State}
 use Rattle.model.specs.Tables.{withGiven, withHandles, withQueues}
 use Rattle.model.specs.Changes.{notReleased, withdraw, shown, givenAfter, give, giveAll, shownAll}
-use Rattle.model.specs.Book.{Node, Noted, Noted.blank, Noted.noted, countOf, Book, putHandle, raise, learn}
+use Rattle.model.specs.Book.{Noted, Noted.blank, Noted.noted, countOf, Book, putHandle, raise, learn}
 use Rattle.model.specs.Sim.{called, told, Handles, Sim}
 use Rattle.model.specs.SimHandles.{some-none, handles-set, one-slot}
 use Rattle.model.specs.SimQueues.{messages-kept}

@@ -1,7 +1,7 @@
 -- Handles that change alike on the bus and in the book.
 -- Assumes nothing.
 use Prim.Native.Nat.{ℕ, zero, suc, _<_}
-use mathlib.Core.Path.{_≡_, refl, sym, ap, _∙_}
+use mathlib.Core.Path.{_≡_, sym, ap, _∙_}
 use native.Mathlib.Omega.{arith}
 use Rattle.laws.specs.Tests.{Same, Same.same, Same.other, same?}
 use Rattle.laws.specs.Tables.{upd, upd-same, upd-other}

@@ -1,22 +1,21 @@
 -- The IDs of every peer stay below what it has been given, and every ID has 8 bytes, if frames are bytes.
 -- Assumes nothing.
-use Prim.Native.Nat.{ℕ, zero, suc, _+_, _-_, _*_, _%_, _^_, _≤_, _<_}
-use mathlib.Core.Path.{_≡_, refl, sym, ap, _∙_}
-use mathlib.Core.Bool.{Bool, true, false}
-use mathlib.Core.List.{List, [], _∷_, map}
+use Prim.Native.Nat.{ℕ, _+_, _-_, _*_, _^_, _≤_, _<_}
+use mathlib.Core.Path.{_≡_, refl, sym}
+use mathlib.Core.List.{List, [], _∷_}
 use native.Mathlib.Omega.{arith}
 use lib.Dec.{eqb}
 use Rattle.laws.specs.Tests.{pick, pick-all}
-use Rattle.laws.specs.Tables.{upd, upd-all}
+use Rattle.laws.specs.Tables.{upd-all}
 use Rattle.laws.specs.Weights.{All}
 use Rattle.frames.specs.declared.Command.{Command}
 use Rattle.frames.specs.declared.Command.the-variants.{Open, Disconnect, Create, Destroy, Release, Transfer, Send, Receive, Quota, Holders}
 use Rattle.frames.specs.Legal.{Legal}
-use Rattle.model.specs.Numbers.{slots, nodes, owner}
-use Rattle.model.specs.State.{isLive, Handle, Handle.none, Handle.some, handleOf, Message, Entry, Entry.message, Entry.destroyed, Entry.released, messagesIn, State, slot, freePlace}
-use Rattle.model.specs.Tables.{accept, withStatus, withUser, withGiven, withHandles, withHandle, withQueues, withCharges, withLives}
-use Rattle.model.specs.Changes.{pushAll, takeOut, withdraw, give, giveAll, forget, fell, notify, notifyAll, destroyAll, deliver}
-use Rattle.model.specs.Effects.{opens, creates, destroys, releases, releasesHandle, disconnects, receives, effect}
+use Rattle.model.specs.Numbers.{slots}
+use Rattle.model.specs.State.{Handle.some, handleOf, Entry, Entry.message, Entry.destroyed, Entry.released, messagesIn, State, slot, freePlace}
+use Rattle.model.specs.Tables.{accept, withStatus, withUser, withHandles, withHandle, withQueues, withCharges, withLives}
+use Rattle.model.specs.Changes.{pushAll, takeOut, withdraw, forget, fell, notify, notifyAll, destroyAll, deliver}
+use Rattle.model.specs.Effects.{opens, creates, destroys, releases, disconnects, receives, effect}
 use Rattle.model.specs.Tested.{Tested}
 use Rattle.model.specs.Notices.{Carried}
 use Rattle.model.specs.SimHandles.{some-none}

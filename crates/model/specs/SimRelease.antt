@@ -1,68 +1,39 @@
 -- Release, destroy, disconnect, open and notices, alike on the bus and in the book.
 -- Assumes nothing.
-use Prim.Native.Nat.{ℕ, zero, suc, _+_, _-_, _*_, _≤_, _<_}
-use mathlib.Core.Path.{_≡_, refl, sym, ap, _∙_}
-use mathlib.Core.Bool.{Bool, true, false, not}
-use mathlib.Core.List.{List, [], _∷_, _++_, map, append-nil}
+use Prim.Native.Nat.{ℕ, _-_, _<_}
+use mathlib.Core.Path.{_≡_, refl, ap}
+use mathlib.Core.Bool.{Bool, not}
+use mathlib.Core.List.{[], map}
 use native.Mathlib.Omega.{arith}
-use lib.Dec.{eqb, ltb}
+use lib.Dec.{eqb}
 use borrow.Author.Tests.{eqb-true, eqb-false, eq-eqb, ne-eqb}
 use Rattle.laws.specs.Tests.{pick, pick-all, Seen, Seen.is-true, Seen.is-false, look}
-use Rattle.laws.specs.Tables.{upd, upd-rel, upd-all}
-use Rattle.laws.specs.Weights.{load, load-split, keep, keep-map}
-use Rattle.model.specs.Numbers.{peers, nodes, owner}
-use Rattle.model.specs.Resources.{Resource}
-use Rattle.model.specs.State.{Life.dead, isLive, Status, Status.opened, Status.disconnected, Handle, Handle.none, Handle.some, handleOf, held, Message, Entry, Entry.message, Entry.destroyed, Entry.released, messagesIn, State, byOwnerId}
-use Rattle.model.specs.Tables.{withStatus, withUser, withHandles, withHandle, withQueues, withCharges, withLives, accept}
-use Rattle.model.specs.Changes.{pushAll, atPeers, takeOut, notReleased, withdraw, dropped, remains, forget, fell, notify, releaseNotices, notifyAll, destroyNotices, destroyAll}
-use Rattle.model.specs.Effects.{opens, destroys, releases, releasesHandle, disconnects}
-use Rattle.model.specs.Book.{Node, Noted, Noted.blank, Noted.noted, notedOf, BookMessage, Book, weight, by, putHandle, toDropped, noteOpen, drops, dropFor, noteRelease, dropHandles, noteDisconnect}
+use Rattle.laws.specs.Tables.{upd-rel}
+use Rattle.laws.specs.Weights.{load-split, keep, keep-map}
+use Rattle.model.specs.Numbers.{nodes}
+use Rattle.model.specs.State.{isLive, Status.disconnected, Handle.none, Handle.some, handleOf, Message, messagesIn, State}
+use Rattle.model.specs.Tables.{withStatus, withUser, withHandles, withHandle, withQueues, withLives, accept}
+use Rattle.model.specs.Changes.{pushAll, takeOut, withdraw, dropped, remains, forget, fell, notify, notifyAll, destroyAll}
+use Rattle.model.specs.Effects.{opens, destroys, releases, disconnects}
+use Rattle.model.specs.Book.{notedOf, Book, weight, by, putHandle, toDropped, noteOpen, drops, dropFor, noteRelease, dropHandles, noteDisconnect}
 use Rattle.model.specs.Sim.{called, told, Handles, Sim}
-use Rattle.model.specs.SimHandles.{some-none, handles-set, one-slot, handles-none}
-use Rattle.model.specs.SimQueues.{messages-append, messages-keep, messages-kept, notices-none, Quiet, sim-quiet, sim-dropped}
+use Rattle.model.specs.SimHandles.{handles-set, one-slot, handles-none}
+use Rattle.model.specs.Quiet.{messages-keep, quiet-accept, quiet-notify, quiet-notifyAll, quiet-destroyAll}
+use Rattle.model.specs.SimQueues.{sim-quiet, sim-dropped}
 
 -- One more command is accepted.
 pub sim-accept : {N : ℕ} {name : ℕ → ℕ} {k : Book} (b : State) → Sim N name b k → Sim N name (accept b) k
 unfolding accept
-sim-accept b s = sim-quiet b (accept b) s (record { users = refl; handles = refl; messages = λ p. refl })
+sim-accept b s = sim-quiet b (accept b) s (quiet-accept b) refl
 
--- Notices queued at the peers.
-quiet-push : (b : State) (new : ℕ → List Entry) → ((q : ℕ) → messagesIn (new q) ≡ []) → Quiet b (pushAll b (atPeers new))
-unfolding pushAll withQueues
-quiet-push b new h =
-    record {
-      users = refl;
-      handles = refl;
-      messages = λ q. messages-append (b .queue q) (atPeers new q)
-          ∙ ap (λ (x : List Message). messagesIn (b .queue q) ++ x) (pick-all (λ (x : List Entry). messagesIn x ≡ []) (ltb q peers) (new q) [] (h q) refl)
-          ∙ append-nil (messagesIn (b .queue q));
-    }
-
-quiet-notify : (a b : State) (s : ℕ) → Quiet b (notify a b s)
+-- Notices are queued; the handles stay.
+notify-handles : (a b : State) (s : ℕ) → notify a b s .handle ≡ b .handle
 unfolding notify withQueues
-quiet-notify a b s = pick-all (Quiet b) (fell a b s) _ b pushed (record { users = refl; handles = refl; messages = λ p. refl })
-  where
-    pushed : Quiet b (withQueues b (upd (b .queue) (owner s) (b .queue (owner s) ++ (released (b .accepted) s ∷ []))))
-    pushed =
-        record {
-          users = refl;
-          handles = refl;
-          messages =
-              upd-all (λ p x. messagesIn x ≡ messagesIn (b .queue p)) (b .queue) (owner s) _ (λ p. refl)
-              (messages-append (b .queue (owner s)) (released (b .accepted) s ∷ []) ∙ append-nil (messagesIn (b .queue (owner s))));
-        }
+notify-handles a b s = pick-all (λ (x : State). x .handle ≡ b .handle) (fell a b s) _ b refl refl
 
-quiet-destroy : (b : State) (p : ℕ) (t : ℕ → Bool) → Quiet b (destroyAll b p t)
-unfolding destroyAll destroyNotices withdraw withLives withQueues pushAll
-quiet-destroy b p t =
-    let c = withLives (withdraw b p t) (λ s. pick (pick (eqb (owner s) p) (t s) false) (dead (b .accepted)) (b .life s)) in
-    let q = quiet-push c (destroyNotices b p t) (λ q. notices-none (destroyed (b .accepted)) (λ s. refl) (byOwnerId (b .handle) p (λ s. pick (t s) (held (b .handle q s)) false))) in
-    record {
-      users = refl;
-      handles = refl;
-      messages = λ q′. q .messages q′
-          ∙ upd-all (λ p x. messagesIn x ≡ messagesIn (b .queue p)) (b .queue) p _ (λ p. refl) (messages-kept (notReleased t) (λ n m. refl) (b .queue p)) q′;
-    }
+destroy-handles : (b : State) (p : ℕ) (t : ℕ → Bool) → destroyAll b p t .handle ≡ b .handle
+unfolding destroyAll pushAll withdraw withLives withQueues
+destroy-handles b p t = refl
 
 -- A handle of p set, alike in the book.
 pub sim-put : {N : ℕ} (name : ℕ → ℕ) (b : State) (k : Book) (p s i c : ℕ) → Sim N name b k → s < nodes →
@@ -109,8 +80,9 @@ pub sim-release : {N : ℕ} (name : ℕ → ℕ) (b : State) (k : Book) (p s i c
     Sim N name (releases b p s i c) (noteRelease k p i (k .handle p i))
 unfolding releases
 sim-release {N} name b k p s i c r l e =
+    let less = pick (eqb c 1) (forget (withHandle b p s (handleOf i (c - 1))) p s) (withHandle b p s (handleOf i (c - 1))) in
     rw (r .handles p .noted-at s i c e)
-    (sim-quiet _ _ (go (look (eqb c 1))) (quiet-notify b (pick (eqb c 1) (forget (withHandle b p s (handleOf i (c - 1))) p s) (withHandle b p s (handleOf i (c - 1)))) s))
+    (sim-quiet _ _ (go (look (eqb c 1))) (quiet-notify b less s) (notify-handles b less s))
   where
     put : Sim N name (withHandle b p s (handleOf i (c - 1))) (putHandle k p i (notedOf (called name s) (c - 1)))
     put = sim-put name b k p s i (c - 1) r l (λ j d f. cc) (λ t d f. one-slot name (r .apart) (b .handle p) (k .handle p) (r .handles p) s t i c d e f)
@@ -124,7 +96,7 @@ sim-release {N} name b k p s i c r l e =
 -- Destroy: the book sees nothing.
 pub sim-destroy : {N : ℕ} {name : ℕ → ℕ} {k : Book} (b : State) (p s : ℕ) → Sim N name b k → Sim N name (destroys b p s) k
 unfolding destroys
-sim-destroy b p s r = sim-quiet b _ r (quiet-destroy b p (eqb s))
+sim-destroy b p s r = sim-quiet b _ r (quiet-destroyAll b p (eqb s)) (destroy-handles b p (eqb s))
 
 -- Open notes the user.
 pub sim-open : {N : ℕ} (name : ℕ → ℕ) (b : State) (k : Book) (p u : ℕ) → Sim N name b k → Sim N name (opens b p u) (noteOpen k p u)
@@ -152,24 +124,22 @@ sim-no-handles name b k p r =
       handles = upd-rel (λ _ h g. Handles name h g) (b .handle) (k .handle) p _ _ (r .handles) (handles-none name);
     }
 
-quiet-status : (b : State) (p : ℕ) → Quiet b (withStatus b p disconnected)
+sim-status : {N : ℕ} {name : ℕ → ℕ} {k : Book} (b : State) (p : ℕ) → Sim N name b k → Sim N name (withStatus b p disconnected) k
 unfolding withStatus
-quiet-status b p = record { users = refl; handles = refl; messages = λ q. refl }
+sim-status b p r = record { apart = r .apart; known = r .known; users = r .users; sums = r .sums; queues = r .queues; handles = r .handles }
 
-quiet-released : (a b : State) (q : ℕ) → messagesIn (releaseNotices a b q) ≡ []
-unfolding releaseNotices
-quiet-released a b q = notices-none (released (b .accepted)) (λ s. refl) (byOwnerId (b .handle) q (fell a b))
+notify-all-handles : (a b : State) → notifyAll a b .handle ≡ b .handle
+unfolding notifyAll pushAll withQueues
+notify-all-handles a b = refl
 
 pub sim-disconnect : {N : ℕ} (name : ℕ → ℕ) (b : State) (k : Book) (p : ℕ) → Sim N name b k → Sim N name (disconnects b p) (noteDisconnect k p)
-unfolding disconnects notifyAll
+unfolding disconnects
 sim-disconnect {N} name b k p r =
     let died = destroyAll b p (λ s. isLive (b .life s)) in
-    let q = quiet-destroy b p (λ s. isLive (b .life s)) in
-    let d = sim-quiet b died r q in
+    let d = sim-quiet b died r (quiet-destroyAll b p (λ s. isLive (b .life s))) (destroy-handles b p (λ s. isLive (b .life s))) in
     let emptied = takeOut died p (messagesIn (b .queue p)) [] in
     let e : Sim N name emptied (toDropped k p (k .queue p) [])
     = rw (r .queues p) (sim-dropped name died k p (messagesIn (b .queue p)) [] d (λ u w. rw (← r .queues p) (omega arith))) in
     let n = sim-no-handles name emptied (toDropped k p (k .queue p) []) p e in
     let c = withStatus (withHandles emptied p (λ s. none)) p disconnected in
-    let t : Sim N name c (noteDisconnect k p) = sim-quiet _ c n (quiet-status (withHandles emptied p (λ s. none)) p) in
-    sim-quiet c _ t (quiet-push c (releaseNotices b c) (quiet-released b c))
+    sim-quiet c _ (sim-status (withHandles emptied p (λ s. none)) p n) (quiet-notifyAll b c) (notify-all-handles b c)

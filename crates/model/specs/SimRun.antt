@@ -1,39 +1,34 @@
 -- Book and bus go alike through every run of calls with frames of bytes.
 -- Assumes nothing.
-use Prim.Native.Nat.{ℕ, zero, suc, _+_, _*_, _^_, _≤_, _<_}
-use mathlib.Core.Path.{_≡_, refl, sym, ap, _∙_}
-use mathlib.Core.Bool.{Bool, true, false}
-use mathlib.Core.List.{List, [], _∷_, _++_, append-assoc}
+use Prim.Native.Nat.{ℕ, zero, suc, _+_, _≤_, _<_}
+use mathlib.Core.Path.{_≡_, refl, sym, _∙_}
+use mathlib.Core.List.{List, [], _∷_, _++_}
 use native.Mathlib.Omega.{arith}
 use lib.ListN.{length, getD}
 use lib.Dec.{eqb}
 use borrow.Author.Tests.{ne-eqb}
-use Rattle.laws.specs.Tests.{pick, pick-all, Seen, Seen.is-true, Seen.is-false, look}
-use Rattle.laws.specs.Weights.{All, all-imp}
-use Rattle.laws.specs.Bytes.{numAt, num-below}
+use Rattle.laws.specs.Tests.{pick, pick-all}
+use Rattle.laws.specs.Weights.{All}
+use Rattle.laws.specs.Bytes.{num-below}
 use Rattle.frames.specs.declared.Command.{Command}
 use Rattle.frames.specs.declared.Command.the-variants.{Open, Disconnect, Create, Destroy, Release, Transfer, Send, Receive, Quota, Holders}
-use Rattle.frames.specs.declared.Parsed.the-variants.{Read, Refused}
-use Rattle.frames.specs.Frame.{parse, idAt}
+use Rattle.frames.specs.Frame.{idAt}
 use Rattle.frames.specs.Fields.{Fields, fields-command}
-use Rattle.model.specs.Numbers.{nodes}
-use Rattle.model.specs.State.{isLive, Message, Entry, Entry.message, Entry.destroyed, Entry.released, messagesIn, State, start}
+use Rattle.model.specs.State.{Entry, Entry.message, Entry.destroyed, Entry.released, messagesIn, State, start}
 use Rattle.model.specs.Tables.{withQueues, withCharges}
 use Rattle.model.specs.Changes.{takeOut}
-use Rattle.model.specs.Effects.{effect}
 use Rattle.model.specs.Step.{Call, step, runFrom, run, answerOf}
-use Rattle.model.specs.Book.{Node, Noted, Noted.blank, Noted.noted, BookMessage, Book, Fed, empty, putHandle, raise, toReceived, toDropped, noteOpen, noteCreate, noteTransfer, noteSend, learn, noteReceive, dropFor, noteRelease, dropHandles, noteDisconnect, answeredId, answersMessage, shownIds, note, feed, feedAll}
+use Rattle.model.specs.Book.{Node, Noted, Noted.blank, Noted.noted, BookMessage, Book, empty, putHandle, raise, toReceived, toDropped, noteOpen, noteCreate, noteTransfer, noteSend, learn, noteReceive, dropFor, noteRelease, dropHandles, answeredId, answersMessage, shownIds, note, feed, feedAll}
 use Rattle.model.specs.Claim.{fed, historyFrom, bookAfter, OfBytes}
-use Rattle.model.specs.Tested.{Tested, tested}
+use Rattle.model.specs.Tested.{tested}
 use Rattle.model.specs.Accepted.{Accepted, Came, Came.left, Came.done, came, run-append}
 use Rattle.model.specs.Notices.{Carried, Stands}
 use Rattle.model.specs.NoticesFree.{free-unnamed}
 use Rattle.model.specs.NoticesProof.{noted as always-noted}
 use Rattle.model.specs.BoundsProof.{given-bound}
 use Rattle.model.specs.Shown.{transfer-answers, receive-message, receive-shows, receive-destroyed, receive-released}
-use Rattle.model.specs.Sim.{Handles, Sim}
 use Rattle.model.specs.SimHandles.{handles-none, some-none}
-use Rattle.model.specs.SimGive.{IdsAt, Ids, enough, shown-small, shown-all-small}
+use Rattle.model.specs.SimGive.{Ids, shown-small, shown-all-small}
 use Rattle.model.specs.SimStep.{ReceiveShows, Shows, Ready, World, sim-command}
 use Rattle.model.specs.SimIds.{Small, ids-command}
 

@@ -1,8 +1,8 @@
 -- Send, alike on the bus and in the book; and what a send would leave, in the bus's numbers.
 -- Assumes nothing.
-use Prim.Native.Nat.{ℕ, _+_, _*_, _≤_, _<_}
+use Prim.Native.Nat.{ℕ, _<_}
 use mathlib.Core.Path.{_≡_, refl, sym, ap, ap₂, _∙_}
-use mathlib.Core.Bool.{Bool, true, false}
+use mathlib.Core.Bool.{true}
 use mathlib.Core.List.{List, [], _∷_, _++_, map, map-map, map-append}
 use native.Mathlib.Omega.{arith}
 use lib.ListN.{length, length-map}
@@ -13,14 +13,13 @@ use Rattle.laws.specs.Weights.{All, load-append, keep, keep-map}
 use Rattle.laws.specs.Search.{first, first-found}
 use Rattle.frames.specs.declared.Sizes.{Sizes}
 use Rattle.model.specs.Numbers.{nodes, owner}
-use Rattle.model.specs.Resources.{Resource}
-use Rattle.model.specs.State.{Handle, Handle.none, Handle.some, hasId, Message, Entry, Entry.message, messagesIn, State, slotOf, slot}
+use Rattle.model.specs.State.{Handle, Handle.none, Handle.some, hasId, Message, Entry.message, messagesIn, State, slotOf, slot}
 use Rattle.model.specs.Tables.{withQueues, withCharges}
 use Rattle.model.specs.Refusals.{placesAt}
 use Rattle.model.specs.Changes.{pushAll, arriving, deliver}
-use Rattle.model.specs.Book.{Node, Noted, Noted.noted, BookMessage, Book, weight, by, nodeIn, nodesOf, ownedBy, incoming, noteSend}
-use Rattle.model.specs.Sim.{called, told, Handles, Sim}
-use Rattle.model.specs.SimQueues.{messages-append}
+use Rattle.model.specs.Book.{Noted.noted, Book, nodesOf, ownedBy, incoming, noteSend}
+use Rattle.model.specs.Sim.{called, told, Sim}
+use Rattle.model.specs.Quiet.{messages-append}
 
 has-id-inv : (x : Handle) (i : ℕ) → hasId i x ≡ true → (c : ℕ) × (x ≡ some i c)
 has-id-inv none i e = clash (sym e)

@@ -1,35 +1,32 @@
 -- Every accepted command, alike on the bus and in the book.
 -- Assumes nothing.
-use Prim.Native.Nat.{ℕ, zero, suc, _+_, _-_, _*_, _%_, _≤_, _<_}
-use mathlib.Core.Path.{_≡_, refl, sym, ap, _∙_}
-use mathlib.Core.Bool.{Bool, true, false, not}
+use Prim.Native.Nat.{ℕ, _+_, _*_, _<_}
+use mathlib.Core.Path.{_≡_, refl, ap, _∙_}
+use mathlib.Core.Bool.{true, false, not}
 use mathlib.Core.List.{List, [], _∷_, map}
 use native.Mathlib.Omega.{arith}
-use lib.ListN.{length}
-use lib.Dec.{eqb}
 use borrow.Author.Tests.{ne-eqb, not-true}
-use Rattle.laws.specs.Tests.{pick, pick-all, Seen, Seen.is-true, Seen.is-false, look}
-use Rattle.laws.specs.Tables.{upd, upd-rel, upd-all}
-use Rattle.laws.specs.Weights.{All, all-imp}
-use Rattle.laws.specs.Build.{build, build-length}
-use Rattle.laws.specs.Search.{first, first-found}
+use Rattle.laws.specs.Tests.{pick, Seen, Seen.is-true, Seen.is-false, look}
+use Rattle.laws.specs.Tables.{upd, upd-all}
+use Rattle.laws.specs.Weights.{All}
+use Rattle.laws.specs.Build.{build-length}
+use Rattle.laws.specs.Search.{first-found}
 use Rattle.frames.specs.declared.Command.{Command}
 use Rattle.frames.specs.declared.Command.the-variants.{Open, Disconnect, Create, Destroy, Release, Transfer, Send, Receive, Quota, Holders}
 use Rattle.frames.specs.Frame.{sendId, payloadOf}
-use Rattle.frames.specs.Legal.{Sized, Legal, payload-length}
-use Rattle.model.specs.Numbers.{peers, slots, nodes, owner, invalid}
+use Rattle.frames.specs.Legal.{Legal, payload-length}
+use Rattle.model.specs.Numbers.{slots, invalid}
 use Rattle.model.specs.Requests.{destinations, attached}
-use Rattle.model.specs.State.{isLive, Handle, Handle.none, Handle.some, handleOf, Message, Entry, Entry.message, Entry.destroyed, Entry.released, messagesIn, State, slot, freePlace, counts, start}
-use Rattle.model.specs.Tables.{accept, withStatus, withUser, withGiven, withHandles, withHandle, withQueues, withCharges, withLives}
-use Rattle.model.specs.Changes.{pushAll, takeOut, withdraw, shown, shownAll, give, giveAll, forget, notify, notifyAll, destroyAll, deliver}
-use Rattle.model.specs.Effects.{opens, creates, destroys, releases, releasesHandle, disconnects, receives, effect}
-use Rattle.model.specs.Book.{Book, answeredId, answersMessage, shownIds, note, noteTransfer, noteReceive, raise, by, weight}
+use Rattle.model.specs.State.{isLive, Message, Entry, Entry.message, Entry.destroyed, Entry.released, messagesIn, State, slot, freePlace, counts}
+use Rattle.model.specs.Tables.{accept, withGiven, withHandles, withQueues, withCharges}
+use Rattle.model.specs.Changes.{takeOut, withdraw, shown, shownAll, give, giveAll}
+use Rattle.model.specs.Effects.{receives, effect}
+use Rattle.model.specs.Book.{Book, answeredId, answersMessage, shownIds, note, noteReceive}
 use Rattle.model.specs.Tested.{Tested}
-use Rattle.model.specs.Notices.{Carried, Stands, Unnamed}
-use Rattle.model.specs.Sim.{called, told, Handles, Sim}
-use Rattle.model.specs.SimHandles.{some-none}
-use Rattle.model.specs.SimQueues.{Quiet, sim-quiet, sim-received}
-use Rattle.model.specs.SimGive.{IdsAt, Ids, enough, ids-set, sim-give, shown-valid, sim-gives, ids-give, ids-gives}
+use Rattle.model.specs.Notices.{Carried, Unnamed}
+use Rattle.model.specs.Sim.{told, Sim}
+use Rattle.model.specs.SimQueues.{sim-received}
+use Rattle.model.specs.SimGive.{Ids, enough, sim-give, shown-valid, sim-gives}
 use Rattle.model.specs.SimRelease.{sim-accept, sim-release, sim-destroy, sim-open, sim-disconnect}
 use Rattle.model.specs.SimCreate.{sim-create}
 use Rattle.model.specs.SimSend.{held-at-slot, noted-at-slot, sim-send}
@@ -96,10 +93,18 @@ sim-receive {N} name b k p n m q a r ready e c f =
 received-first : (b : State) (p : ℕ) (q : List Entry) → b .queue p ≡ q → All (λ m. Carried (m .carried)) (messagesIn (b .queue p)) → All (λ m. Carried (m .carried)) (messagesIn q)
 received-first b p q e a = rw e at a
 
-quiet-out : (b : State) (p : ℕ) (q : List Entry) → messagesIn q ≡ messagesIn (b .queue p) → Quiet b (takeOut b p [] q)
+-- A notice is taken out.
+sim-notice : {N : ℕ} {name : ℕ → ℕ} {k : Book} (b : State) (p : ℕ) (q : List Entry) → Sim N name b k → messagesIn q ≡ messagesIn (b .queue p) → Sim N name (takeOut b p [] q) k
 unfolding takeOut withCharges withQueues
-quiet-out b p q e =
-    record { users = refl; handles = refl; messages = upd-all (λ p x. messagesIn x ≡ messagesIn (b .queue p)) (b .queue) p q (λ p. refl) e }
+sim-notice {name = name} {k = k} b p q r e =
+    record {
+      apart = r .apart;
+      known = r .known;
+      users = r .users;
+      sums = r .sums;
+      handles = r .handles;
+      queues = upd-all (λ p x. k .queue p ≡ map (told name) (messagesIn x)) (b .queue) p q (r .queues) (rw e (r .queues p));
+    }
 
 sim-receives : {N : ℕ} (name : ℕ → ℕ) (b : State) (k : Book) (p : ℕ) (q : List Entry) (a : List ℕ) → Sim N name b k → Ready b → b .queue p ≡ q → ReceiveShows b p q a →
     Sim N name (receives (accept b) p q) (pick (answersMessage a) (noteReceive k p (shownIds a) (k .queue p)) k)
@@ -107,9 +112,9 @@ sim-receives name b k p [] a r ready e s = rw s (sim-accept b r)
 sim-receives name b k p (message n m ∷ q) a r ready e s =
     rw (s .0) (sim-receive name b k p n m q a r ready e (received-first b p (message n m ∷ q) e (ready .carried p) .0) (s .1))
 sim-receives name b k p (destroyed n t ∷ q) a r ready e s =
-    rw (s, out-accept b p [] q) (sim-accept _ (sim-quiet b _ r (quiet-out b p q (rw e))))
+    rw (s, out-accept b p [] q) (sim-accept _ (sim-notice b p q r (rw e)))
 sim-receives name b k p (released n t ∷ q) a r ready e s =
-    rw (s, out-accept b p [] q) (sim-accept _ (sim-quiet b _ r (quiet-out b p q (rw e))))
+    rw (s, out-accept b p [] q) (sim-accept _ (sim-notice b p q r (rw e)))
 
 -- Create takes a slot that does not count.
 place-free : (b : State) (p : ℕ) → freePlace b p < slots → counts b (p * slots + freePlace b p) ≡ false

@@ -1,12 +1,12 @@
--- Document 01: "A refusal writes its one byte, nothing after it, and leaves the bus alone."
+-- Document 01: "A refusal writes its one byte, nothing after it". That it leaves the bus alone is in Accepted.antt.
 -- Assumes nothing.
 use Prim.Native.Nat.{ℕ}
 use mathlib.Core.Path.{_≡_, refl}
-use mathlib.Core.Bool.{Bool, true, false}
+use mathlib.Core.Bool.{false}
 use mathlib.Core.List.{List, [], _∷_}
 use lib.ListN.{length}
 use lib.Dec.{eqb, ltb}
-use Rattle.laws.specs.Tests.{pick, Seen, Seen.is-true, Seen.is-false, look}
+use Rattle.laws.specs.Tests.{Seen, Seen.is-true, Seen.is-false, look}
 use Rattle.frames.specs.declared.Command.{Command}
 use Rattle.frames.specs.declared.Command.the-variants.{Open, Disconnect, Create, Destroy, Release, Transfer, Send, Receive, Quota, Holders}
 use Rattle.frames.specs.declared.Parsed.{Parsed}
@@ -39,22 +39,7 @@ reply-number b f (Receive p room) = shows-number b (p .0) (b .queue (p .0))
 reply-number b f (Quota p u) = refl
 reply-number b f (Holders p i) = refl
 
--- A command that is refused, its number written or only returned, leaves the state as it was.
-pub refused-alone : (b : State) (c : Call) → (step b c .outcome .number ≡ 0 → ⊥) → step b c .state ≡ b
-unfolding step finish outcomeOf carryOut
-refused-alone b c h = go (look (ltb (length (c .buffer)) answerSize)) (parse (c .frame)) h
-  where
-    go : Seen (ltb (length (c .buffer)) answerSize) → (r : Parsed) → (finish b (c .buffer) (judge b (c .frame) r) .outcome .number ≡ 0 → ⊥) →
-        finish b (c .buffer) (judge b (c .frame) r) .state ≡ b
-    go (is-true e) r k = rw e
-    go (is-false e) (Refused n) k = rw e
-    go (is-false e) (Read d) k = on (look (eqb (refusal b (c .frame) d) 0))
-      where
-        on : Seen (eqb (refusal b (c .frame) d) 0) → finish b (c .buffer) (judge b (c .frame) (Read d)) .state ≡ b
-        on (is-true z) = absurd (k (rw (e, z) (reply-number b (c .frame) d)))
-        on (is-false z) = rw (e, z)
-
--- It writes its one byte and nothing after it.
+-- A command that is refused writes its one byte and nothing after it, where the answer buffer is long enough.
 pub refused-byte : (b : State) (c : Call) → ltb (length (c .buffer)) answerSize ≡ false → (step b c .outcome .number ≡ 0 → ⊥) →
     answerOf (step b c) ≡ step b c .outcome .number ∷ []
 unfolding step finish outcomeOf carryOut answerAfter answerBytes contentsOf

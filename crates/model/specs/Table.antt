@@ -1,6 +1,6 @@
 -- Document 01, "Lines an engineer can check by hand": M1 to M10, and S, as one computed table.
 -- Assumes nothing.
-use Prim.Native.Nat.{ℕ, _-_}
+use Prim.Native.Nat.{_-_}
 use mathlib.Core.Path.{_≡_, refl}
 use mathlib.Core.List.{List, [], _∷_, _++_, map}
 use lib.ListN.{replicate}

@@ -8,6 +8,7 @@ use native.Mathlib.Omega.{arith}
 use lib.ListN.{length}
 use lib.Dec.{eqb, ltb}
 use borrow.Author.Tests.{ltb-true, ltb-false, eqb-true}
+use Rattle.ids.specs.Refusals.{EDQUOT, EEXIST, EHOSTUNREACH, ENOSPC, ENXIO, EOVERFLOW, EPERM}
 use Rattle.laws.specs.Tests.{pick, pick-then, pick-else, clash}
 use Rattle.laws.specs.Weights.{All}
 use Rattle.frames.specs.declared.Command.{Command}
@@ -17,7 +18,7 @@ use Rattle.model.specs.Numbers.{slots, nodes, owner, mostCommands}
 use Rattle.model.specs.Lists.{every}
 use Rattle.model.specs.State.{Status, Status.unopened, Status.opened, Status.disconnected, isLive, State, slot, freePlace}
 use Rattle.model.specs.Requests.{destinations, attached}
-use Rattle.model.specs.Refusals.{EOVERFLOW, EEXIST, ENXIO, EPERM, EHOSTUNREACH, ENOSPC, EDQUOT, countable, present, openable, holding, living, pinned, fits, takeable, refusesOpen, refusesDisconnect, refusesCreate, refusesDestroy, refusesRelease, refusesTransfer, refusesSend, refusesReceive, refusesQuota, refusesHolders, refusal}
+use Rattle.model.specs.Refusals.{countable, present, openable, holding, living, pinned, fits, takeable, refusesOpen, refusesDisconnect, refusesCreate, refusesDestroy, refusesRelease, refusesTransfer, refusesSend, refusesReceive, refusesQuota, refusesHolders, refusal}
 
 -- The peer acts: it is open, and the bus may accept one more command.
 pub record Acting (b : State) (p : ℕ) : Type 0 where
