@@ -27,7 +27,7 @@ use Rattle.model.specs.Queues.{Later, Later.behind, Later.stays, Later.l
 use Rattle.model.specs.QueuesLaws.{later-refl, later-trans, later-front, later-imp}
 use Rattle.model.specs.QueuesProof.{moved}
 use Rattle.model.specs.Coded.{code, actor, coded}
-use Rattle.model.specs.Progress.{isReceive, receivesOf, takenOut, Lost, Newer, Followed, OneEach, Fate, Fate.came-out, Fate.lost, Fate.waits, Progress, InTime}
+use Rattle.model.specs.Progress.{isReceive, receivesOf, takenOut, Lost, Newer, Followed, OneEach, Became, Became.came-out, Became.lost, Became.waits, Progress, InTime}
 
 -- A receive as its frame says it, and as a command.
 taken-coded : (b : State) (p : ℕ) (f : List ℕ) (k : Command) → opcode f ≡ code k → getD f 1 0 ≡ actor k →
@@ -155,14 +155,14 @@ progress before cs p k e l h = go (placed (followed before cs p) k e l h)
     rest : List Entry
     rest = runFrom (run before) cs .queue p
 
-    go : Placed (Lost (run before) cs p) k e (out ++ rest) → Fate (run before) cs p k e
+    go : Placed (Lost (run before) cs p) k e (out ++ rest) → Became (run before) cs p k e
     go (away g) = lost g
     go (found j le lt f) = on (look (ltb j (length out)))
       where
         n : length out ≡ receivesOf (run before) p cs
         n = one-each before cs p
 
-        on : Seen (ltb j (length out)) → Fate (run before) cs p k e
+        on : Seen (ltb j (length out)) → Became (run before) cs p k e
         on (is-true z) =
             let m : j < length out = ltb-true j (length out) z in
             came-out j le (omega (arith, n)) (sym (List·getD-append out rest e j m) ∙ f)
@@ -175,7 +175,7 @@ progress before cs p k e l h = go (placed (followed before cs p) k e l h)
 pub in-time : InTime
 in-time before cs p k e l h enough = go (progress before cs p k e l h)
   where
-    go : Fate (run before) cs p k e → ((i : ℕ) × (i ≤ k) × (i < receivesOf (run before) p cs) × (getD (takenOut (run before) p cs) i e ≡ e)) ⊎ Lost (run before) cs p e
+    go : Became (run before) cs p k e → ((i : ℕ) × (i ≤ k) × (i < receivesOf (run before) p cs) × (getD (takenOut (run before) p cs) i e ≡ e)) ⊎ Lost (run before) cs p e
     go (came-out i le lt f) = inl (i, le, lt, f)
     go (lost g) = inr g
     go (waits j le lt f) = absurd (omega arith)

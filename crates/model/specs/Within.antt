@@ -4,7 +4,7 @@
 use Prim.Native.Nat.{ℕ, suc, _<_}
 use mathlib.Core.Path.{_≡_}
 use mathlib.Core.Bool.{Bool, true, false}
-use mathlib.Core.List.{List, _++_, map}
+use mathlib.Core.List.{List, [], _++_, map}
 use lib.Dec.{eqb}
 use Rattle.laws.specs.Weights.{keep, All}
 use Rattle.ids.specs.declared.Peer.{Peer}
@@ -37,20 +37,24 @@ SendOrder =
     step (run cs) c .state .queue q ≡ run cs .queue q ++ keep (isAt q) (sentBy (run cs) (c .frame) (Send p z))
 
 -- A disconnect of p, from b to a, at another peer q: notices of the nodes of p that lived and that q holds; then of the nodes of q that fell to the sum 1.
-abbrev pub Died : State → ℕ → ℕ → ℕ → Type 0
-Died b p q s = (owner s ≡ p) × Lives b s × (held (b .handle q s) ≡ true)
+abbrev pub DestroyNoticed : State → ℕ → ℕ → ℕ → Type 0
+DestroyNoticed b p q s = (owner s ≡ p) × Lives b s × (held (b .handle q s) ≡ true)
 
-abbrev pub Fell : State → State → ℕ → ℕ → Type 0
-Fell b a q s = (owner s ≡ q) × Lives a s × (1 < total (b .handle) s) × (total (a .handle) s ≡ 1)
+abbrev pub ReleaseNoticed : State → State → ℕ → ℕ → Type 0
+ReleaseNoticed b a q s = (owner s ≡ q) × Lives a s × (1 < total (b .handle) s) × (total (a .handle) s ≡ 1)
 
-pub record Parted (b a : State) (p q : ℕ) : Type 0 where
-  pub died : List ℕ
-  pub fell : List ℕ
-  pub queue : a .queue q ≡ b .queue q ++ (map (destroyed (suc (b .accepted))) died ++ map (released (suc (b .accepted))) fell)
-  pub died-by-id : ById (b .handle) (Died b p q) died
-  pub fell-by-id : ById (a .handle) (Fell b a q) fell
+pub record AtDisconnect (b a : State) (p q : ℕ) : Type 0 where
+  pub destroyed-slots : List ℕ
+  pub released-slots : List ℕ
+  pub queue : a .queue q ≡ b .queue q ++ (map (destroyed (suc (b .accepted))) destroyed-slots ++ map (released (suc (b .accepted))) released-slots)
+  pub destroyed-by-id : ById (b .handle) (DestroyNoticed b p q) destroyed-slots
+  pub released-by-id : ById (a .handle) (ReleaseNoticed b a q) released-slots
 
 abbrev pub DisconnectOrder : Type 0
 DisconnectOrder =
     (cs : List Call) (c : Call) (p : Peer) → Accepted (run cs) c (Disconnect p) → (q : ℕ) → q < peers → (p .0 ≡ q → ⊥) →
-    Parted (run cs) (step (run cs) c .state) (p .0) q
+    AtDisconnect (run cs) (step (run cs) c .state) (p .0) q
+
+-- "Disconnect: drop the queue": nothing is left in the queue of p itself, and none of its own notices stands there.
+abbrev pub DisconnectEmpties : Type 0
+DisconnectEmpties = (cs : List Call) (c : Call) (p : Peer) → Accepted (run cs) c (Disconnect p) → step (run cs) c .state .queue (p .0) ≡ []

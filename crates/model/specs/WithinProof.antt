@@ -3,12 +3,12 @@
 use Prim.Native.Nat.{ℕ, suc, _<_}
 use mathlib.Core.Path.{_≡_, refl, sym, ap, _∙_}
 use mathlib.Core.Bool.{Bool, true}
-use mathlib.Core.List.{List, [], _++_, map, append-assoc}
+use mathlib.Core.List.{List, [], _∷_, _++_, map, append-assoc}
 use lib.Dec.{eqb, ltb}
 use borrow.Author.Tests.{eqb-true, eq-eqb, ltb-true, lt-ltb}
-use Rattle.laws.specs.Tests.{clash}
-use Rattle.laws.specs.Tables.{upd-other}
-use Rattle.laws.specs.Weights.{keep, all-imp, keep-map}
+use Rattle.laws.specs.Tests.{pick-all, Seen, Seen.is-true, Seen.is-false, look, clash}
+use Rattle.laws.specs.Tables.{upd-same, upd-other}
+use Rattle.laws.specs.Weights.{All, keep, all-imp, keep-map}
 use Rattle.frames.specs.declared.Command.the-variants.{Disconnect}
 use Rattle.frames.specs.Frame.{payloadOf}
 use Rattle.model.specs.Numbers.{peers, owner}
@@ -23,10 +23,11 @@ use Rattle.model.specs.Tested.{Lives}
 use Rattle.model.specs.Occurs.{both-true}
 use Rattle.model.specs.Rising.{owner-sorted, owner-pass}
 use Rattle.model.specs.RisingAll.{owner-all}
+use Rattle.model.specs.NoticesQueues.{fell-facts}
 use Rattle.model.specs.NoticesProof.{noted, noted-kept}
 use Rattle.model.specs.IdsLaws.{Holding}
 use Rattle.model.specs.IdsProof.{ids-kept, holding}
-use Rattle.model.specs.Within.{ById, isAt, SendOrder, Died, Fell, Parted, DisconnectOrder}
+use Rattle.model.specs.Within.{ById, isAt, SendOrder, DestroyNoticed, ReleaseNoticed, AtDisconnect, DisconnectOrder, DisconnectEmpties}
 
 -- Send.
 send-order-at : (b : State) (u : ℕ) (ds hs bytes : List ℕ) (q : ℕ) →
@@ -70,32 +71,32 @@ by-id b p t P v into out live =
     }
 
 -- Disconnect: the state before its release notices.
-abbrev quiet : State → ℕ → State
-quiet b p =
+abbrev before-release : State → ℕ → State
+before-release b p =
     withStatus
     (withHandles (takeOut (destroyAll (accept b) p (λ s. isLive (b .life s))) p (messagesIn (b .queue p)) []) p (λ s. none))
     p disconnected
 
-parted-queue : (b : State) (p q : ℕ) → q < peers → (p ≡ q → ⊥) →
+disconnect-queue : (b : State) (p q : ℕ) → q < peers → (p ≡ q → ⊥) →
     disconnects (accept b) p .queue q
-    ≡ b .queue q ++ (destroyNotices (accept b) p (λ s. isLive (b .life s)) q ++ releaseNotices (accept b) (quiet b p) q)
+    ≡ b .queue q ++ (destroyNotices (accept b) p (λ s. isLive (b .life s)) q ++ releaseNotices (accept b) (before-release b p) q)
 unfolding disconnects notifyAll withStatus withHandles takeOut withCharges destroyAll withLives withdraw pushAll withQueues accept
-parted-queue b p q l n =
-    let died : List Entry = destroyNotices (accept b) p (λ s. isLive (b .life s)) q in
+disconnect-queue b p q l n =
+    let new : List Entry = destroyNotices (accept b) p (λ s. isLive (b .life s)) q in
     rw (upd-other, lt-ltb q peers l, upd-other)
-    (append-assoc (b .queue q) died (releaseNotices (accept b) (quiet b p) q))
+    (append-assoc (b .queue q) new (releaseNotices (accept b) (before-release b p) q))
 
-parted : (b : State) (p q : ℕ) → Holding b → Holding (disconnects (accept b) p) → q < peers → (p ≡ q → ⊥) → Parted b (disconnects (accept b) p) p q
+at-disconnect : (b : State) (p q : ℕ) → Holding b → Holding (disconnects (accept b) p) → q < peers → (p ≡ q → ⊥) → AtDisconnect b (disconnects (accept b) p) p q
 unfolding disconnects notifyAll withStatus withHandles pushAll withQueues
-parted b p q v w l n =
+at-disconnect b p q v w l n =
     record {
-      died = byOwnerId (b .handle) p dies;
-      fell = byOwnerId (a .handle) q falls;
-      queue = parted-queue b p q l n ∙ ap (λ (x : List Entry). b .queue q ++ x) notices;
-      died-by-id =
-          by-id b p dies (Died b p q) v (λ s e o. let x = both-true (isLive (b .life s)) (held (b .handle q s)) e in (o, x .0, x .1))
+      destroyed-slots = byOwnerId (b .handle) p dies;
+      released-slots = byOwnerId (a .handle) q falls;
+      queue = disconnect-queue b p q l n ∙ ap (λ (x : List Entry). b .queue q ++ x) notices;
+      destroyed-by-id =
+          by-id b p dies (DestroyNoticed b p q) v (λ s e o. let x = both-true (isLive (b .life s)) (held (b .handle q s)) e in (o, x .0, x .1))
           (λ s z. (rw (z .1, z .2) refl, z .0)) (λ s e. both-true (isLive (b .life s)) (held (b .handle q s)) e .0);
-      fell-by-id = by-id a q falls (Fell b a q) w into out (λ s e. both-true (isLive (a .life s)) _ e .0);
+      released-by-id = by-id a q falls (ReleaseNoticed b a q) w into out (λ s e. both-true (isLive (a .life s)) _ e .0);
     }
   where
     a : State
@@ -107,17 +108,17 @@ parted b p q v w l n =
     falls : ℕ → Bool
     falls s = both (isLive (a .life s)) (both (ltb 1 (total (b .handle) s)) (eqb (total (a .handle) s) 1))
 
-    notices : destroyNotices (accept b) p (λ s. isLive (b .life s)) q ++ releaseNotices (accept b) (quiet b p) q
+    notices : destroyNotices (accept b) p (λ s. isLive (b .life s)) q ++ releaseNotices (accept b) (before-release b p) q
         ≡ map (destroyed (suc (b .accepted))) (byOwnerId (b .handle) p dies) ++ map (released (suc (b .accepted))) (byOwnerId (a .handle) q falls)
     notices = unfold destroyNotices releaseNotices fell takeOut withCharges destroyAll withLives withdraw accept in refl
 
-    into : (s : ℕ) → falls s ≡ true → owner s ≡ q → Fell b a q s
+    into : (s : ℕ) → falls s ≡ true → owner s ≡ q → ReleaseNoticed b a q s
     into s e o =
         let x = both-true (isLive (a .life s)) (both (ltb 1 (total (b .handle) s)) (eqb (total (a .handle) s) 1)) e in
         let y = both-true (ltb 1 (total (b .handle) s)) (eqb (total (a .handle) s) 1) (x .1) in
         (o, x .0, ltb-true 1 (total (b .handle) s) (y .0), eqb-true (total (a .handle) s) 1 (y .1))
 
-    out : (s : ℕ) → Fell b a q s → (falls s ≡ true) × (owner s ≡ q)
+    out : (s : ℕ) → ReleaseNoticed b a q s → (falls s ≡ true) × (owner s ≡ q)
     out s z = (rw (z .1, lt-ltb 1 (total (b .handle) s) (z .2), eq-eqb (total (a .handle) s) 1 (z .3)) refl, z .0)
 
 pub disconnect-order : DisconnectOrder
@@ -129,4 +130,31 @@ disconnect-order cs c p a q l n =
       handles = ids-kept (run cs) (c .frame) (Disconnect p) v (noted cs) (a .legal) (a .unrefused);
       owned = noted-kept (run cs) (c .frame) (Disconnect p) (noted cs) (a .legal) (a .unrefused) .owned;
     } in
-    rw (a .after) (parted (run cs) (p .0) q v w l n)
+    rw (a .after) (at-disconnect (run cs) (p .0) q v w l n)
+
+-- At the peer itself: none of its nodes lives, so no release notice is queued.
+none-left : (xs : List ℕ) → All (λ s. ⊥) xs → xs ≡ []
+none-left [] a = refl
+none-left (x ∷ xs) a = absurd (a .0)
+
+none-lives : (b : State) (p s : ℕ) → owner s ≡ p → Lives (before-release b p) s → ⊥
+unfolding withStatus withHandles takeOut withCharges destroyAll withLives withdraw pushAll withQueues accept
+none-lives b p s o e = go (look (isLive (b .life s)))
+  where
+    go : Seen (isLive (b .life s)) → ⊥
+    go (is-true z) = clash (sym (rw (eq-eqb (owner s) p o, z) at e))
+    go (is-false z) = clash (sym (rw (eq-eqb (owner s) p o, z) at e) ∙ z)
+
+empties : (b : State) (p : ℕ) → disconnects (accept b) p .queue p ≡ []
+unfolding disconnects notifyAll withStatus withHandles takeOut withCharges pushAll withQueues releaseNotices accept
+empties b p =
+    let x = before-release b p in
+    let e : byOwnerId (x .handle) p (fell (accept b) x) ≡ [] =
+    none-left (byOwnerId (x .handle) p (fell (accept b) x))
+    (all-imp (λ s. (fell (accept b) x s ≡ true) × (owner s ≡ p)) (λ s. ⊥) (λ s z. none-lives b p s (z .1) (fell-facts (accept b) x s (z .0) .0))
+    (byOwnerId (x .handle) p (fell (accept b) x)) (owner-pass (x .handle) p (fell (accept b) x))) in
+    rw (upd-same, e) (pick-all (λ l. l ≡ []) (ltb p peers) [] [] refl refl)
+
+pub disconnect-empties : DisconnectEmpties
+unfolding effect
+disconnect-empties cs c p a = rw (a .after) (empties (run cs) (p .0))
