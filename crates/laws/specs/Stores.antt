@@ -1,13 +1,13 @@
 -- Runs of stores in a list, one after another, and the front of a list.
 -- Assumes nothing.
-use Prim.Native.Nat.{ℕ, suc, _+_, _-_, _≤_, _<_, min}
-use mathlib.Core.Path.{_≡_, sym, ap, _∙_}
+use Prim.Native.Nat.{ℕ, suc, _+_, _≤_, _<_, min}
+use mathlib.Core.Path.{_≡_, refl, sym, ap, _∙_}
 use mathlib.Core.List.{List, [], _∷_, _++_}
 use native.Mathlib.Omega.{arith}
 use native.Mathlib.Nat.{zero-add}
 use native.Mathlib.Numerals.{add-one}
-use lib.ListN.{length, getD, take, drop, set}
-use lib.Seq.{getD-append-add, getD-drop, sets, sets-eq, take-suc, take-all, take-length, length-take-le}
+use lib.ListN.{length, getD, take, drop, set, length-drop}
+use lib.Seq.{getD-set-other, getD-drop, sets, sets-eq, take-suc, take-all, take-length, length-take-le}
 use lib.Dec.{leb}
 use borrow.Author.Tests.{leb-true, leb-false}
 use Rattle.laws.specs.Tests.{Seen, Seen.is-true, Seen.is-false, look}
@@ -47,9 +47,16 @@ module _ {A : Type 0} where
       let e : take (k + 1) xs ≡ take k xs ++ (getD xs k d ∷ []) = rw add-one (take-suc xs k d h) in
       sym (ap (sets l i) e ∙ (sets-append l i (take k xs) (getD xs k d ∷ [])) ∙ rw n)
 
-  -- behind a front that was written anew stands what stood there before
-  pub getD-past : (xs b : List A) (i j : ℕ) (d : A) → length xs ≡ i → i ≤ j → getD (xs ++ drop i b) j d ≡ getD b j d
-  getD-past xs b i j d e h =
-      let k : j ≡ length xs + (j - i) = omega arith in
-      let m : i + (j - i) ≡ j = omega arith in
-      ap (λ (n : ℕ). getD (xs ++ drop i b) n d) k ∙ getD-append-add xs (drop i b) (j - i) d ∙ getD-drop i b (j - i) d ∙ ap (λ (n : ℕ). getD b n d) m
+  -- behind a run of stores stands what stood there before
+  pub sets-past : (l vs : List A) (i j : ℕ) (d : A) → i + length vs ≤ j → getD (sets l i vs) j d ≡ getD l j d
+  sets-past l [] i j d h = refl
+  sets-past l (v ∷ vs) i j d h = sets-past (set l i v) vs (suc i) j d (omega arith) ∙ getD-set-other l i j v d (λ e. omega arith)
+
+  -- a loop that moves elements down within a list: the next turn
+  pub sets-down : (l m : List A) (to from i : ℕ) (d : A) → to ≤ from → from + i < length l → m ≡ sets l to (take i (drop from l)) →
+      set m (to + i) (getD m (from + i) d) ≡ sets l to (take (i + 1) (drop from l))
+  sets-down l m to from i d h k e =
+      let n : length (take i (drop from l)) ≡ i = length-take-le i (drop from l) (rw length-drop (omega arith)) in
+      let p : getD m (from + i) d ≡ getD (drop from l) i d = rw e (sets-past l (take i (drop from l)) to (from + i) d (rw n (omega arith)) ∙ sym (getD-drop from l i d)) in
+      let b : i < length (drop from l) = rw length-drop (omega arith) in
+      rw (p, e) (sets-next l (drop from l) to i d b)

@@ -1,13 +1,13 @@
--- `answers::put_bytes` meets its contract: each turn stores one byte behind those before it. Assumes nothing.
+-- `copies::put` meets its contract: each turn stores one byte behind those before it. Assumes nothing.
 use native.Mathlib.Omega.{arith}
 use Prim.Native.Nat.{_+_, _-_, _≤_}
 use mathlib.Core.Path.{_≡_, refl, ap, _∙_}
-use lib.ListN.{length, getD, take, set, length-set}
+use lib.ListN.{length, getD, set, take, length-set}
 use lib.Seq.{sets, take-length}
 use Rattle.laws.specs.Stores.{sets-next}
 use borrow.Author.Needs.{needs}
-use Rattle.answers.proofs.put_bytes.Statement.{statement}
-use Rattle.answers.proofs.put_bytes.Tie as tie
+use Rattle.copies.proofs.put.Statement.{statement}
+use Rattle.copies.proofs.put.Tie as tie
 
 abbrev Inv-loop : tie.InvT-loop
 Inv-loop out₀ at bytes k₀ out k = (k ≤ length bytes) × (out ≡ sets out₀ at (take k bytes)) × (length out ≡ length out₀)
@@ -55,8 +55,8 @@ returns c =
     let e : l .k ≡ length (a .bytes .now) = omega (arith, l .inv .0) in
     (omega arith, l .inv .1 ∙ ap (λ n. sets (a .out .now) (a .at) (take n (a .bytes .now))) e ∙ ap (sets (a .out .now) (a .at)) (take-length (a .bytes .now)))
 
-pub put-bytes-spec : {M : Type 1} → statement M
-put-bytes-spec =
+pub put-spec : {M : Type 1} → statement M
+put-spec =
     tie.close
     (tie.spec
     Inv-loop
