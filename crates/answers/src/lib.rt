@@ -125,7 +125,8 @@ fn put_message(out: &mut [u8], h: Header, ids: &[u64], payload: &[u8]) -> usize
     let n = least(ids.len(), MOST_IDS);
     let end = put_ids(out, at, &ids[..n]);
     let m = least(payload.len(), MOST_BYTES);
-    copies::put(out, end, &payload[..m])
+    copies::put(out, end, &payload[..m]);
+    end + m
 }
 
 fn put_notice(out: &mut [u8], kind: u8, id: HandleId) -> usize

@@ -223,11 +223,14 @@ carry-none b at end q h =
     let z : drop at (take end b) ≡ [] = drop-of-length-le (take end b) n in
     (rw z, rw z)
 
-pub carry-some : (b l : List ℕ) (at end : ℕ) {e n : ℕ} → e ≡ min end (length b) → at < e → n ≡ min mostCarried (e - at) → l ≡ sets b 0 (take n (drop at b)) →
+pub carry-some : (b l : List ℕ) (at end : ℕ) {e n : ℕ} → e ≡ min end (length b) → at < e → n ≡ min mostCarried (e - at) → l ≡ pick (leb 0 at) (sets b 0 (take n (drop at b))) b →
     (n ≡ length (carriedOf b at end)) × (l ≡ carriedOf b at end ++ drop (length (carriedOf b at end)) b)
 unfolding carriedOf
-carry-some b l at end {e} {n} q h m k = (sym size, rw (size, same) (k ∙ moved-front b at n (omega arith)))
+carry-some b l at end {e} {n} q h m k = (sym size, rw (size, same) (k ∙ below ∙ moved-front b at n (omega arith)))
   where
+    below : pick (leb 0 at) (sets b 0 (take n (drop at b))) b ≡ sets b 0 (take n (drop at b))
+    below = rw (le-leb 0 at (omega arith))
+
     size : length (take mostCarried (drop at (take end b))) ≡ n
     size = simp (length-take, length-drop) (omega arith)
 
