@@ -103,10 +103,9 @@ module _ (h : Header) (is bs : List ℕ) where
       (sets-then o₁ o₂ o₃ at end (idBytes (take mostIds is)) (take mostBytes bs) (rw t at g) (rw (ids-length (take mostIds is)) (rw t at j)) (rw s at l))
 
   pub message-end : (at end n m r : ℕ) → at ≡ 15 → n ≡ min (length is) mostIds → end ≡ at + 8 * length (take n is) → m ≡ min (length bs) mostBytes →
-      r ≡ end + length (take m bs) → r ≡ 1 + length (messageBytes h is bs)
+      r ≡ end + m → r ≡ 1 + length (messageBytes h is bs)
   message-end at end n m r f i j k l =
       let a : length (take n is) ≡ min n (length is) = length-take n is in
-      let b : length (take m bs) ≡ min m (length bs) = length-take m bs in
       omega (arith, message-length h is bs)
 
 -- an answer, written or refused for want of room

@@ -86,18 +86,6 @@ fn put_ids(out: &mut [u8], at: usize, ids: &[u64]) -> usize
     end
 }
 
-fn put_bytes(out: &mut [u8], at: usize, bytes: &[u8]) -> usize
-    requires { ⌜ at + length (now bytes) ≤ length (now out) ⌝ }
-    ensures { λ r. ⌜ (r ≡ at + length (now (bytes .entry))) × (now (out .exit) ≡ sets (now (out .entry)) at (now (bytes .entry))) ⌝ }
-{
-    let mut k = 0;
-    while k < bytes.len() {
-        out[at + k] = bytes[k];
-        k += 1;
-    }
-    at + k
-}
-
 fn put_charge(out: &mut [u8], at: usize, c: Charge) -> usize
     requires { ⌜ at + 6 ≤ length (now out) ⌝ }
     ensures { λ r. ⌜ (r ≡ at + 6) × (now (out .exit) ≡ sets (now (out .entry)) at (chargeBytes c)) ⌝ }
@@ -137,7 +125,8 @@ fn put_message(out: &mut [u8], h: Header, ids: &[u64], payload: &[u8]) -> usize
     let n = least(ids.len(), MOST_IDS);
     let end = put_ids(out, at, &ids[..n]);
     let m = least(payload.len(), MOST_BYTES);
-    put_bytes(out, end, &payload[..m])
+    copies::put(out, end, &payload[..m]);
+    end + m
 }
 
 fn put_notice(out: &mut [u8], kind: u8, id: HandleId) -> usize

@@ -1,12 +1,12 @@
 -- A list made place by place, as one that is read from tables or written by a loop.
 -- Assumes nothing.
-use Prim.Native.Nat.{ℕ, zero, suc, _+_, _≤_, _<_}
+use Prim.Native.Nat.{ℕ, zero, suc, _<_}
 use mathlib.Core.Path.{_≡_, refl, sym, ap, ap₂, _∙_}
 use mathlib.Core.List.{List, [], _∷_, _++_}
 use native.Mathlib.Omega.{arith}
 use native.Mathlib.Nat.{not-suc-le-zero, le-of-suc-le-suc}
-use lib.ListN.{length, getD, set, take, drop, length-take, length-drop}
-use lib.Seq.{drop-cons, set-at, append-snoc, getD-take, getD-drop}
+use lib.ListN.{length, getD, set, drop}
+use lib.Seq.{drop-cons, set-at, append-snoc}
 
 module _ {A : Type 0} where
   -- f 0, f 1, .., f (n - 1)
@@ -48,11 +48,3 @@ module _ {A : Type 0} where
   unfolding build
   build-list d [] = refl
   build-list d (x ∷ l) = ap (_∷_ x) (build-list d l)
-
-  pub build-part : (d : A) (l : List A) (at n : ℕ) → at + n ≤ length l → build (λ j. getD l (at + j) d) n ≡ take n (drop at l)
-  build-part d l at n h =
-      let e : length (take n (drop at l)) ≡ n = simp (length-take, length-drop) (omega arith) in
-      build-ext (λ j. getD l (at + j) d) (λ j. getD (take n (drop at l)) j d) n
-      (λ j m. sym (getD-take n (drop at l) j d m ∙ getD-drop at l j d))
-      ∙ ap (build (λ j. getD (take n (drop at l)) j d)) (sym e)
-      ∙ build-list d (take n (drop at l))

@@ -1,13 +1,13 @@
 -- Runs of stores in a list, one after another, and the front of a list.
 -- Assumes nothing.
 use Prim.Native.Nat.{ℕ, suc, _+_, _-_, _≤_, _<_, min}
-use mathlib.Core.Path.{_≡_, sym, ap, _∙_}
+use mathlib.Core.Path.{_≡_, refl, sym, ap, _∙_}
 use mathlib.Core.List.{List, [], _∷_, _++_}
 use native.Mathlib.Omega.{arith}
 use native.Mathlib.Nat.{zero-add}
 use native.Mathlib.Numerals.{add-one}
-use lib.ListN.{length, getD, take, drop, set}
-use lib.Seq.{getD-append-add, getD-drop, sets, sets-eq, take-suc, take-all, take-length, length-take-le}
+use lib.ListN.{length, getD, take, drop, set, length-drop, take-append-drop}
+use lib.Seq.{set-out, length-sets, getD-set-other, getD-drop, sets, sets-eq, take-suc, take-all, take-length, length-take-le}
 use lib.Dec.{leb}
 use borrow.Author.Tests.{leb-true, leb-false}
 use Rattle.laws.specs.Tests.{Seen, Seen.is-true, Seen.is-false, look}
@@ -47,9 +47,35 @@ module _ {A : Type 0} where
       let e : take (k + 1) xs ≡ take k xs ++ (getD xs k d ∷ []) = rw add-one (take-suc xs k d h) in
       sym (ap (sets l i) e ∙ (sets-append l i (take k xs) (getD xs k d ∷ [])) ∙ rw n)
 
-  -- behind a front that was written anew stands what stood there before
-  pub getD-past : (xs b : List A) (i j : ℕ) (d : A) → length xs ≡ i → i ≤ j → getD (xs ++ drop i b) j d ≡ getD b j d
-  getD-past xs b i j d e h =
-      let k : j ≡ length xs + (j - i) = omega arith in
-      let m : i + (j - i) ≡ j = omega arith in
-      ap (λ (n : ℕ). getD (xs ++ drop i b) n d) k ∙ getD-append-add xs (drop i b) (j - i) d ∙ getD-drop i b (j - i) d ∙ ap (λ (n : ℕ). getD b n d) m
+  -- behind a run of stores stands what stood there before
+  pub sets-past : (l vs : List A) (i j : ℕ) (d : A) → i + length vs ≤ j → getD (sets l i vs) j d ≡ getD l j d
+  sets-past l [] i j d h = refl
+  sets-past l (v ∷ vs) i j d h = sets-past (set l i v) vs (suc i) j d (omega arith) ∙ getD-set-other l i j v d (λ e. omega arith)
+
+  -- a loop that moves elements down within a list: the next turn
+  pub sets-down : (l m : List A) (to from i : ℕ) (d : A) → to ≤ from → from + i < length l → m ≡ sets l to (take i (drop from l)) →
+      set m (to + i) (getD m (from + i) d) ≡ sets l to (take (i + 1) (drop from l))
+  sets-down l m to from i d h k e =
+      let n : length (take i (drop from l)) ≡ i = length-take-le i (drop from l) (rw length-drop (omega arith)) in
+      let p : getD m (from + i) d ≡ getD (drop from l) i d = rw e (sets-past l (take i (drop from l)) to (from + i) d (rw n (omega arith)) ∙ sym (getD-drop from l i d)) in
+      let b : i < length (drop from l) = rw length-drop (omega arith) in
+      rw (p, e) (sets-next l (drop from l) to i d b)
+
+  -- stores past the end change nothing
+  pub sets-out : (l vs : List A) (i : ℕ) → length l ≤ i → sets l i vs ≡ l
+  sets-out l [] i h = refl
+  sets-out l (v ∷ vs) i h =
+      let e : set l i v ≡ l = set-out l i v h in
+      ap (λ (m : List A). sets m (suc i) vs) e ∙ sets-out l vs (suc i) (omega arith)
+
+  -- so as many as there is room for are all
+  pub sets-fit : (l vs : List A) (i n : ℕ) → n ≡ min (length vs) (length l - i) → sets l i (take n vs) ≡ sets l i vs
+  sets-fit l vs i n e = go (look (leb (length vs) n))
+    where
+      go : Seen (leb (length vs) n) → sets l i (take n vs) ≡ sets l i vs
+      go (is-true f) = ap (sets l i) (take-all n vs (leb-true (length vs) n f))
+      go (is-false f) =
+          let g : n < length vs = leb-false (length vs) n f in
+          let k : length (take n vs) ≡ n = length-take-le n vs (omega arith) in
+          let o : length (sets l i (take n vs)) ≤ i + length (take n vs) = rw (length-sets l i (take n vs), k) (omega arith) in
+          sym (ap (sets l i) (sym (take-append-drop n vs)) ∙ sets-append l i (take n vs) (drop n vs) ∙ sets-out (sets l i (take n vs)) (drop n vs) (i + length (take n vs)) o)

@@ -7,13 +7,13 @@ use mathlib.Core.List.{List, [], _∷_, _++_}
 use native.Mathlib.Numerals.{add-one}
 use native.Mathlib.Omega.{arith}
 use lib.ListN.{length, getD, set, take, drop, length-append, length-take, length-drop, drop-of-length-le}
-use lib.Seq.{sets, take-suc, take-length, getD-take, getD-drop, ext-getD}
+use lib.Seq.{sets, take-suc, take-length, length-take-le, getD-take, getD-drop, ext-getD}
 use lib.Dec.{eqb, ltb, leb}
 use borrow.Author.Tests.{ltb-true, eqb-true, eq-eqb, ne-eqb, lt-ltb, le-ltb, leb-true, leb-false, le-leb, lt-leb, not-false}
 use Rattle.laws.specs.Tests.{pick, pick-cases, Seen, Seen.is-true, Seen.is-false, look, clash, pick-then}
 use Rattle.laws.specs.Search.{first, first-le, first-found, first-before, first-is, first-from}
-use Rattle.laws.specs.Build.{build, build-length, build-store, build-part}
-use Rattle.laws.specs.Stores.{sets-append, getD-past}
+use Rattle.laws.specs.Build.{build, build-length, build-store}
+use Rattle.laws.specs.Stores.{sets-append, over}
 use Rattle.lines.specs.Line.{lf, mostDigits, mostCarried, isDigit, faultPlace, lineLength, digitValue, pairAt, lineRead, readLine, afterRead, frameAfter, digitOf, digitsOf, answerLine, roomFor, lineWritten, linesAfter, carriedOf}
 use Rattle.lines.specs.declared.LineRead.{LineRead}
 use Rattle.lines.specs.declared.LineRead.the-variants.{Frame, Bad, Piece}
@@ -161,17 +161,10 @@ pub put-lf : (o l a : List ℕ) (at : ℕ) → l ≡ sets o at (digitsOf a) → 
 put-lf o l a at e = rw (sets-append o at (digitsOf a) (lf ∷ []), digits-length, ← e)
 
 -- characters moved to the front
-abbrev pub from : List ℕ → ℕ → ℕ → ℕ
-from b at j = getD b (at + j) 0
-
-pub front-next : (b l : List ℕ) (at i : ℕ) → at + i < length b → l ≡ build (from b at) i ++ drop i b →
-    set l i (getD l (at + i) 0) ≡ build (from b at) (i + 1) ++ drop (i + 1) b
-front-next b l at i h e =
-    let p : getD l (at + i) 0 ≡ getD b (at + i) 0 = rw e (getD-past (build (from b at) i) b i (at + i) 0 (build-length (from b at) i) (omega arith)) in
-    rw (p, e, add-one) (build-store (from b at) i b (omega arith))
-
-pub front-whole : (b l : List ℕ) (at n i : ℕ) → at + n ≤ length b → i ≡ n → l ≡ build (from b at) i ++ drop i b → l ≡ take n (drop at b) ++ drop n b
-front-whole b l at n i h q e = rw (e, q, build-part 0 b at n h)
+pub moved-front : (b : List ℕ) (at n : ℕ) → at + n ≤ length b → sets b 0 (take n (drop at b)) ≡ take n (drop at b) ++ drop n b
+moved-front b at n h =
+    let e : length (take n (drop at b)) ≡ n = length-take-le n (drop at b) (rw length-drop (omega arith)) in
+    over (take n (drop at b)) b (rw e (omega arith)) ∙ ap (λ (k : ℕ). take n (drop at b) ++ drop k b) e
 
 pub decode-next : (s b l : List ℕ) (k v w : ℕ) → k < length b → l ≡ build (pairAt s) k ++ drop k b → v ≡ digitValue (getD s (2 * k) 0) → w ≡ digitValue (getD s (2 * k + 1) 0) →
     set l k (16 * v + w) ≡ build (pairAt s) (k + 1) ++ drop (k + 1) b
@@ -230,11 +223,14 @@ carry-none b at end q h =
     let z : drop at (take end b) ≡ [] = drop-of-length-le (take end b) n in
     (rw z, rw z)
 
-pub carry-some : (b l : List ℕ) (at end : ℕ) {e n : ℕ} → e ≡ min end (length b) → at < e → n ≡ min mostCarried (e - at) → l ≡ take n (drop at b) ++ drop n b →
+pub carry-some : (b l : List ℕ) (at end : ℕ) {e n : ℕ} → e ≡ min end (length b) → at < e → n ≡ min mostCarried (e - at) → l ≡ pick (leb 0 at) (sets b 0 (take n (drop at b))) b →
     (n ≡ length (carriedOf b at end)) × (l ≡ carriedOf b at end ++ drop (length (carriedOf b at end)) b)
 unfolding carriedOf
-carry-some b l at end {e} {n} q h m k = (sym size, rw (size, same) k)
+carry-some b l at end {e} {n} q h m k = (sym size, rw (size, same) (k ∙ below ∙ moved-front b at n (omega arith)))
   where
+    below : pick (leb 0 at) (sets b 0 (take n (drop at b))) b ≡ sets b 0 (take n (drop at b))
+    below = rw (le-leb 0 at (omega arith))
+
     size : length (take mostCarried (drop at (take end b))) ≡ n
     size = simp (length-take, length-drop) (omega arith)
 

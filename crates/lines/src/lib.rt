@@ -160,18 +160,6 @@ pub fn write_line(out: &mut [u8], at: usize, answer: &[u8]) -> Written
     Written::Next(end + 1)
 }
 
-// Moves the `n` characters from `at` on to the front.
-fn move_front(buf: &mut [u8], at: usize, n: usize)
-    requires { ⌜ at + n ≤ length (now buf) ⌝ }
-    ensures { λ _. ⌜ now (buf .exit) ≡ take n (drop at (now (buf .entry))) ++ drop n (now (buf .entry)) ⌝ }
-{
-    let mut i = 0;
-    while i < n {
-        buf[i] = buf[at + i];
-        i += 1;
-    }
-}
-
 // Moves what is left of a chunk, from `at` up to `end`, to the front of the buffer, at most 1,293 characters of it, and
 // returns how many: the next chunk is read in behind them.
 pub fn carry_over(buf: &mut [u8], at: usize, end: usize) -> usize
@@ -182,6 +170,6 @@ pub fn carry_over(buf: &mut [u8], at: usize, end: usize) -> usize
         return 0;
     }
     let n = least(MOST_CARRIED, e - at);
-    move_front(buf, at, n);
+    copies::down(buf, 0, at, n);
     n
 }

@@ -20,8 +20,8 @@ sub-least c = search needs
 least-requires-2 : tie.Need-least-requires-2
 least-requires-2 c κs = search needs
 
-move-front-requires : tie.Need-move-front-requires
-move-front-requires c κs = search needs
+down-requires : tie.Need-down-requires
+down-requires c κs = search needs
 
 same-length : tie.Need-same-length
 same-length c = search needs
@@ -29,7 +29,7 @@ same-length c = search needs
 returns-2 : tie.Need-returns-2
 returns-2 c =
     let a = c .before .before .before .before .before .before .before .before .args in
-    law.carry-some (a .buf .now) _ (a .at) (a .end) (c .before .before .before .before .before .before .least .ensures) (omega arith) (c .before .before .before .before .least2 .ensures) (c .before .before .move-front .ensures)
+    law.carry-some (a .buf .now) _ (a .at) (a .end) (c .before .before .before .before .before .before .least .ensures) (omega arith) (c .before .before .before .before .least2 .ensures) (c .before .before .down .ensures)
 
 pub carry-over-spec : {M : Type 1} → statement M
 carry-over-spec =
@@ -39,6 +39,6 @@ carry-over-spec =
     returns
     sub-least
     least-requires-2
-    move-front-requires
+    down-requires
     same-length
     returns-2)
