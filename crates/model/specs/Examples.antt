@@ -1,11 +1,12 @@
 -- What the table does not show and the book cannot see: notices, their order and their withdrawal, the flag, drops, the room of a node,
 -- the order of refusals, the answer buffer, and EOVERFLOW; as one computed table, and a few equations.
 -- Assumes nothing.
-use Prim.Native.Nat.{ℕ, _+_, _-_, _*_}
+use Prim.Native.Nat.{ℕ, _+_, _*_}
 use mathlib.Core.Path.{_≡_, refl}
 use mathlib.Core.List.{List, [], _∷_, _++_, map}
 use lib.ListN.{replicate}
 use Rattle.laws.specs.Tables.{upd}
+use Rattle.laws.specs.Weights.{All}
 use Rattle.laws.specs.Sums.{sumTo}
 use Rattle.laws.specs.Build.{build}
 use Rattle.laws.specs.Search.{first}
@@ -15,7 +16,7 @@ use lib.Count.{ones, onesIn}
 use Rattle.quota.specs.Charges.{freshCharges, othersAll, allowsAll, balanceOf}
 use Rattle.answers.specs.Answer.{idBytes, headerBytes, noticeBytes, balanceBytes, holderBytes, messageBytes, receivedBytes, chargeBytes, contentsOf, answerBytes, answerAfter, outcomeOf}
 use Rattle.model.specs.Lists.{least, rising}
-use Rattle.model.specs.Numbers.{invalid, mostCommands}
+use Rattle.model.specs.Numbers.{invalid}
 use Rattle.model.specs.State.{State, Status.opened, Life.dead, Handle.none, start, slotOf, total, heldByAny, named, counts, freePlace, byOwnerId}
 use Rattle.model.specs.Refusals.{placesAt, fits, refusesOpen, refusesDisconnect, refusesCreate, refusesDestroy, refusesRelease, refusesTransfer, refusesSend, refusesReceive, refusesQuota, refusesHolders, refusal}
 use Rattle.model.specs.Tables.{withStatus, withUser, withGiven, withHandles, withQueues, withCharges, withLives, accept}
@@ -96,14 +97,25 @@ cascade =
     played (two ++ (create 0 12 ∷ transfer 0 12 1 ∷ empties 32 1 ++ (destroy 0 12 ∷ send 1 (11 ∷ 7 ∷ []) (99 ∷ []) [] ∷ send 1 (11 ∷ 7 ∷ []) [] [] ∷ send 1 (7 ∷ []) [] [] ∷ [])))
     (number 6 ∷ number 113 ∷ number 122 ∷ [])
 
+-- Each queue is in the order of accepted commands: a release notice stands behind an older message.
+abbrev pub notice-behind : Row
+notice-behind = played (two ++ (send 1 (7 ∷ []) [] [] ∷ release 1 7 ∷ receive 0 0 ∷ receive 0 0 ∷ [])) (takes 8 1 [] [] ∷ releasedAt 8 ∷ [])
+
+-- "peer never opened (acting, save in open; or destination of a transfer)": 9; "that peer disconnected; also open of it": 108; the acting peer first.
+abbrev pub absent : Row
+absent =
+    played
+    (two ++ (disconnect 1 ∷ receive 2 0 ∷ receive 1 0 ∷ opening 1 1 ∷ opening 0 0 ∷ transfer 0 8 2 ∷ transfer 0 8 1 ∷ transfer 1 7 2 ∷ transfer 2 8 1 ∷ []))
+    (number 9 ∷ number 108 ∷ number 108 ∷ number 17 ∷ number 9 ∷ number 108 ∷ number 108 ∷ number 9 ∷ [])
+
 abbrev pub examples : List Row
 examples =
     released-notice ∷ withdrawn-risen ∷ withdrawn-destroyed ∷ destroyed-notices ∷ withdrawn-gone ∷ still-delivered ∷ dropped-with-owner ∷ flags ∷ invalid-shown
-    ∷ ordered ∷ held-by-two ∷ room-again ∷ room-named ∷ cascade ∷ []
+    ∷ ordered ∷ held-by-two ∷ room-again ∷ room-named ∷ cascade ∷ notice-behind ∷ absent ∷ []
 
-pub shown-by-examples : map computed examples ≡ map expected examples
+pub shown-by-examples : All (λ r. computed r ≡ expected r) examples
 unfolding upd sumTo build first be numAt idAt shortAt parseSizes parseSend frameLength parseOpen parseCreate parseTransfer parseQuota parseRest parseOther parse sendId payloadOf othersAll allowsAll balanceOf idBytes headerBytes messageBytes noticeBytes receivedBytes chargeBytes balanceBytes holderBytes contentsOf answerBytes answerAfter outcomeOf least rising start slotOf total heldByAny named counts freePlace byOwnerId placesAt fits refusesOpen refusesDisconnect refusesCreate refusesDestroy refusesRelease refusesTransfer refusesSend refusesReceive refusesQuota refusesHolders refusal withStatus withUser withGiven withHandles withQueues withCharges withLives accept pushAll takeOut withdraw shown give forget fell notify releaseNotices notifyAll destroyNotices destroyAll arriving deliver opens creates destroys releases disconnects effect showsMessage holdersOf reply carryOut finish step answersFrom ones onesIn
-shown-by-examples = refl
+shown-by-examples = (refl, (refl, (refl, (refl, (refl, (refl, (refl, (refl, (refl, (refl, (refl, (refl, (refl, (refl, (refl, (refl, tt))))))))))))))))
 
 -- A bus that has accepted n commands, peer 0 open.
 abbrev pub used : ℕ → State
@@ -128,8 +140,8 @@ pub record Shown : Type 0 where
   -- "No answer touches the buffer past its own end."
   pub past-the-end : step start (record { frame = opening 0 0; buffer = replicate 591 170 }) .buffer ≡ 0 ∷ replicate 590 170
   -- "2^40 - 1 commands accepted already; not for questions": 22 comes before it, 17 and 11 after it.
-  pub overflows : map (numberFrom (used mostCommands)) (create 0 6 ∷ opening 0 0 ∷ receive 0 0 ∷ quota 0 0 ∷ []) ≡ 22 ∷ 75 ∷ 75 ∷ 0 ∷ []
-  pub not-yet : map (numberFrom (used (mostCommands - 1))) (opening 0 0 ∷ disconnect 0 ∷ receive 0 0 ∷ []) ≡ 17 ∷ 0 ∷ 11 ∷ []
+  pub overflows : map (numberFrom (used 1099511627775)) (create 0 6 ∷ opening 0 0 ∷ receive 0 0 ∷ quota 0 0 ∷ []) ≡ 22 ∷ 75 ∷ 75 ∷ 0 ∷ []
+  pub not-yet : map (numberFrom (used 1099511627774)) (opening 0 0 ∷ disconnect 0 ∷ receive 0 0 ∷ []) ≡ 17 ∷ 0 ∷ 11 ∷ []
 
 pub equations : Shown
 unfolding upd sumTo build first be numAt idAt shortAt parseSizes parseSend frameLength parseOpen parseCreate parseTransfer parseQuota parseRest parseOther parse sendId payloadOf othersAll allowsAll balanceOf idBytes headerBytes messageBytes noticeBytes receivedBytes chargeBytes balanceBytes holderBytes contentsOf answerBytes answerAfter outcomeOf least rising start slotOf total heldByAny named counts freePlace byOwnerId placesAt fits refusesOpen refusesDisconnect refusesCreate refusesDestroy refusesRelease refusesTransfer refusesSend refusesReceive refusesQuota refusesHolders refusal withStatus withUser withGiven withHandles withQueues withCharges withLives accept pushAll takeOut withdraw shown give forget fell notify releaseNotices notifyAll destroyNotices destroyAll arriving deliver opens creates destroys releases disconnects effect showsMessage holdersOf reply carryOut finish step answersFrom ones onesIn

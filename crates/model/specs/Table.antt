@@ -2,9 +2,10 @@
 -- Assumes nothing.
 use Prim.Native.Nat.{_-_}
 use mathlib.Core.Path.{_≡_, refl}
-use mathlib.Core.List.{List, [], _∷_, _++_, map}
+use mathlib.Core.List.{List, [], _∷_, _++_}
 use lib.ListN.{replicate}
 use Rattle.laws.specs.Tables.{upd}
+use Rattle.laws.specs.Weights.{All}
 use Rattle.laws.specs.Sums.{sumTo}
 use Rattle.laws.specs.Build.{build}
 use Rattle.laws.specs.Search.{first}
@@ -72,6 +73,6 @@ S =
 abbrev pub table : List Row
 table = M1-M4 ∷ M5 ∷ M6 ∷ M7-30 ∷ M7-31 ∷ M8 ∷ M9 ∷ M10 ∷ S ∷ []
 
-pub marks : map computed table ≡ map expected table
+pub marks : All (λ r. computed r ≡ expected r) table
 unfolding upd sumTo build first be numAt idAt shortAt parseSizes parseSend frameLength parseOpen parseCreate parseTransfer parseQuota parseRest parseOther parse sendId payloadOf othersAll allowsAll balanceOf idBytes headerBytes messageBytes noticeBytes receivedBytes chargeBytes balanceBytes holderBytes contentsOf answerBytes answerAfter outcomeOf least rising start slotOf total heldByAny named counts freePlace byOwnerId placesAt fits refusesOpen refusesDisconnect refusesCreate refusesDestroy refusesRelease refusesTransfer refusesSend refusesReceive refusesQuota refusesHolders refusal withStatus withUser withGiven withHandles withQueues withCharges withLives accept pushAll takeOut withdraw shown give forget fell notify arriving deliver opens creates releases effect showsMessage reply carryOut finish step answersFrom
-marks = refl
+marks = (refl, (refl, (refl, (refl, (refl, (refl, (refl, (refl, (refl, tt)))))))))
