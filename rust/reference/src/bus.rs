@@ -298,11 +298,7 @@ impl Bus {
 
     /// The answer's length, or the refusal. A refusal changes nothing.
     #[inline]
-    fn answer(
-        &mut self,
-        frame: &[u8],
-        buffer: &mut [u8; ANSWER_LEN],
-    ) -> Result<usize, Refusal> {
+    fn answer(&mut self, frame: &[u8], buffer: &mut [u8; ANSWER_LEN]) -> Result<usize, Refusal> {
         let command = Command::parse(frame)?;
         match command {
             Command::Quota { peer, user } => return self.quota(peer, user, buffer),
@@ -344,11 +340,7 @@ impl Bus {
         Ok(Answer::accepted(buffer).len)
     }
 
-    fn disconnect(
-        &mut self,
-        peer: Peer,
-        buffer: &mut [u8; ANSWER_LEN],
-    ) -> Result<usize, Refusal> {
+    fn disconnect(&mut self, peer: Peer, buffer: &mut [u8; ANSWER_LEN]) -> Result<usize, Refusal> {
         self.open_peer(peer)?;
         while let Some(entry) = self.peer(peer).queue.front() {
             match entry {
@@ -679,6 +671,67 @@ impl Bus {
             .collect();
         for message in dropped {
             self.drop_message(owner, message);
+        }
+    }
+
+    /// Checks each stored sum against what it is the sum of.
+    #[cfg(test)]
+    pub(crate) fn audit(&self) {
+        let mut named = [0; NODES];
+        let mut messages = [0; NODES];
+        for peer in Peer::all() {
+            let state = self.peer(peer);
+            let mut charges = Charges::default();
+            for entry in state.queue.iter() {
+                match entry {
+                    Entry::Message(index) => {
+                        let message = state.queue.message(index);
+                        assert_eq!(self.node(message.destination).owner, peer);
+                        charges.charge(message.user, message.charge());
+                        messages[message.destination.index()] += 1;
+                        named[message.destination.index()] += 1;
+                        for node in message.attached() {
+                            named[node.index()] += 1;
+                        }
+                    }
+                    Entry::Notice(Notice::Destroyed, node) => {
+                        assert!(!self.node(node).live);
+                        assert!(self.node(node).holders & peer.bit() != 0);
+                    }
+                    Entry::Notice(Notice::Released, node) => {
+                        let node = self.node(node);
+                        assert!(node.live && node.owner == peer && node.sum == 1);
+                    }
+                }
+            }
+            assert_eq!(state.charges, charges);
+            if state.state != State::Open {
+                assert!(state.queue.front().is_none());
+                assert!(state.handles.iter().next().is_none());
+            }
+            for (id, node) in state.handles.iter() {
+                let handle = self.node(node).handles[peer.index()];
+                assert_eq!(handle.id, id);
+                assert!(handle.count > 0);
+            }
+        }
+        for (index, node) in self.nodes.iter().enumerate() {
+            assert_eq!(usize::from(node.owner.number()), index / NODES_PER_PEER);
+            assert_eq!(node.named, named[index]);
+            assert_eq!(node.messages, messages[index]);
+            assert_eq!(node.sum, node.handles.iter().map(|h| h.count).sum());
+            for peer in Peer::all() {
+                let handle = node.handles[peer.index()];
+                let holds = node.holders & peer.bit() != 0;
+                assert_eq!(holds, handle.count > 0);
+                if holds {
+                    let found = self.peer(peer).handles.find(handle.id);
+                    assert_eq!(found, Some(NodeIndex::new(index)));
+                }
+            }
+            if node.live {
+                assert!(node.holders & node.owner.bit() != 0);
+            }
         }
     }
 

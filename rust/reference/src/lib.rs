@@ -15,6 +15,7 @@ mod line;
 mod queue;
 mod quota;
 mod refusal;
+pub mod script;
 #[cfg(test)]
 mod tests;
 
