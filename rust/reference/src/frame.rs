@@ -14,7 +14,7 @@ pub const MAX_FRAME: usize = 6 + 8 * (MAX_DESTINATIONS + MAX_ATTACHED) + MAX_PAY
 
 /// A command with its operands; those of a send stay in the caller's frame.
 #[derive(Clone, Copy, PartialEq, Eq, Debug)]
-pub enum Command<'a> {
+pub(crate) enum Command<'a> {
     /// 01: open the peer for a user.
     Open { peer: Peer, user: User },
     /// 02: disconnect the peer.
@@ -39,30 +39,30 @@ pub enum Command<'a> {
 
 /// The operands of a send.
 #[derive(Clone, Copy, PartialEq, Eq, Debug)]
-pub struct Send<'a> {
+pub(crate) struct Send<'a> {
     /// The sender.
-    pub peer: Peer,
+    pub(crate) peer: Peer,
     /// 1 to 8 destinations, as the sender's IDs.
-    pub destinations: Ids<'a>,
+    pub(crate) destinations: Ids<'a>,
     /// 0 to 8 attached handles, as the sender's IDs.
-    pub attached: Ids<'a>,
+    pub(crate) attached: Ids<'a>,
     /// 0 to 512 bytes, a part of the frame.
-    pub payload: &'a [u8],
+    pub(crate) payload: &'a [u8],
 }
 
 /// A list of IDs within a frame.
 #[derive(Clone, Copy, PartialEq, Eq, Debug)]
-pub struct Ids<'a>(&'a [[u8; 8]]);
+pub(crate) struct Ids<'a>(&'a [[u8; 8]]);
 
 impl Ids<'_> {
     /// How many there are.
-    pub fn count(&self) -> usize {
+    pub(crate) fn count(&self) -> usize {
         self.0.len()
     }
 
     /// Each ID in turn.
     #[inline]
-    pub fn iter(&self) -> impl Iterator<Item = HandleId> + '_ {
+    pub(crate) fn iter(&self) -> impl Iterator<Item = HandleId> + '_ {
         self.0.iter().map(|bytes| HandleId::from_bytes(*bytes))
     }
 }
@@ -87,7 +87,7 @@ fn peer_and_id(rest: &[u8]) -> Result<(Peer, HandleId), Refusal> {
 impl<'a> Command<'a> {
     /// Reads a frame.
     #[inline]
-    pub fn parse(frame: &'a [u8]) -> Result<Command<'a>, Refusal> {
+    pub(crate) fn parse(frame: &'a [u8]) -> Result<Command<'a>, Refusal> {
         let (&command, rest) = frame.split_first().ok_or(Refusal::Invalid)?;
         Ok(match command {
             0x01 => {

@@ -7,6 +7,10 @@
 //! - [`Bus`] takes one frame and writes one answer.
 //! - [`answer_lines`] does so for lines of hexadecimal.
 
+#![forbid(unsafe_code)]
+#![warn(missing_docs)]
+
+pub mod bench;
 mod bus;
 mod frame;
 mod handles;
@@ -20,7 +24,7 @@ pub mod script;
 mod tests;
 
 pub use bus::{Bus, HandleView, Outcome, ANSWER_LEN};
-pub use frame::{Command, Ids, Send, MAX_ATTACHED, MAX_DESTINATIONS, MAX_FRAME, MAX_PAYLOAD};
+pub use frame::{MAX_ATTACHED, MAX_DESTINATIONS, MAX_FRAME, MAX_PAYLOAD};
 pub use ids::{HandleId, Peer, User};
 pub use line::{answer_lines, answer_lines_with, MAX_DIGITS};
 pub use quota::{left, Charge, Charges, LIMITS};

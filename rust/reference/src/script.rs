@@ -21,7 +21,7 @@ impl Random {
     }
 
     /// The next number.
-    pub fn next(&mut self) -> u64 {
+    pub fn draw(&mut self) -> u64 {
         self.0 = self.0.wrapping_add(0x9e37_79b9_7f4a_7c15);
         let mut z = self.0;
         z = (z ^ (z >> 30)).wrapping_mul(0xbf58_476d_1ce4_e5b9);
@@ -31,7 +31,7 @@ impl Random {
 
     /// A number below `n`, which is not 0.
     pub fn below(&mut self, n: usize) -> usize {
-        (self.next() % n as u64) as usize
+        (self.draw() % n as u64) as usize
     }
 
     /// True `percent` times in a hundred.
@@ -350,7 +350,7 @@ impl Generator {
     fn some_id(&mut self) -> HandleId {
         match self.random.below(20) {
             0 => HandleId::INVALID,
-            1 => HandleId(self.random.next()),
+            1 => HandleId(self.random.draw()),
             2 => HandleId(u64::MAX - 3),
             3..=8 => HandleId::given(1 + self.random.below(40) as u64),
             _ => HandleId(4 * self.random.below(24) as u64),
@@ -531,7 +531,7 @@ impl Generator {
             self.frame.extend(id.to_bytes());
         }
         for _ in 0..nb {
-            let byte = self.random.next() as u8;
+            let byte = self.random.draw() as u8;
             self.frame.push(byte);
         }
     }
@@ -600,10 +600,10 @@ impl Generator {
             0 => self.frame.truncate(random.below(len + 1)),
             1 => {
                 for _ in 0..1 + random.below(9) {
-                    self.frame.push(random.next() as u8);
+                    self.frame.push(random.draw() as u8);
                 }
             }
-            2 | 3 => self.frame[random.below(len)] = random.next() as u8,
+            2 | 3 => self.frame[random.below(len)] = random.draw() as u8,
             4 => self.frame[random.below(len)] ^= 1 << random.below(8),
             5 => self.frame[0] = random.below(14) as u8,
             6 => self.frame[1] = random.below(12) as u8,
@@ -626,7 +626,7 @@ impl Generator {
                 self.frame.extend(nb.to_be_bytes());
                 if random.chance(60) {
                     let long = 6 + 8 * (usize::from(nd) + usize::from(nh)) + usize::from(nb);
-                    let fill = random.next() as u8;
+                    let fill = random.draw() as u8;
                     self.frame.resize(long.min(700), fill);
                 }
                 if random.chance(20) {
@@ -682,7 +682,7 @@ fn hex(bytes: &[u8], out: &mut Vec<u8>) {
 /// The frame of a good line. Written apart from the line program's reader.
 fn unhex(line: &[u8]) -> Option<Vec<u8>> {
     let good = |c: &u8| c.is_ascii_digit() || (b'a'..=b'f').contains(c);
-    if line.len() % 2 != 0 || line.len() > MAX_DIGITS || !line.iter().all(good) {
+    if !line.len().is_multiple_of(2) || line.len() > MAX_DIGITS || !line.iter().all(good) {
         return None;
     }
     let text = std::str::from_utf8(line).ok()?;

@@ -1,4 +1,4 @@
-//! genscript SEED LINES PROFILE: writes a random script for the line program.
+//! `genscript SEED LINES PROFILE` writes a random script for the line program.
 
 use std::io::{self, Write};
 use std::process::ExitCode;
