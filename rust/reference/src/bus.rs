@@ -33,6 +33,8 @@ pub struct HandleView {
     pub id: HandleId,
     /// The holder's count of references.
     pub count: u64,
+    /// The sum of counts over all peers.
+    pub sum: u64,
     /// The node's owner.
     pub owner: Peer,
     /// Whether the node still lives.
@@ -245,6 +247,7 @@ impl Bus {
                 HandleView {
                     id,
                     count: node.handles[peer.index()].count,
+                    sum: node.sum,
                     owner: node.owner,
                     live: node.live,
                 }
@@ -729,7 +732,8 @@ impl Bus {
                     assert_eq!(found, Some(NodeIndex::new(index)));
                 }
             }
-            if node.live {
+            // Its owner holds it while it lives and while messages wait for it.
+            if node.live || node.messages > 0 {
                 assert!(node.holders & node.owner.bit() != 0);
             }
         }

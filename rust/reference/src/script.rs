@@ -422,13 +422,17 @@ impl Generator {
                 self.with_id(0x04, peer, id);
             }
             2 => {
+                // Often one that brings the sum of counts near 1.
+                let most = if self.random.chance(40) { 3 } else { u64::MAX };
                 let id = self.held(peer, |view| {
-                    !(view.live && view.owner == peer && view.count == 1)
+                    view.sum <= most && !(view.live && view.owner == peer && view.count == 1)
                 });
                 self.with_id(0x05, peer, id);
             }
             3 => {
-                let id = self.held(peer, |view| view.live);
+                // Often one that may have a release notice standing.
+                let most = if self.random.chance(30) { 1 } else { u64::MAX };
+                let id = self.held(peer, |view| view.live && view.sum <= most);
                 let to = self.peer();
                 self.with_id(0x06, peer, id);
                 self.frame.push(to.number());

@@ -6,6 +6,7 @@ use std::collections::BTreeMap;
 use std::io::{self, Read, Write};
 use std::rc::Rc;
 
+use crate::bench::{digest, measure, Core, Reference, Script};
 use crate::bus::NodeIndex;
 use crate::handles::HandleTable;
 use crate::script::{Generator, Profile, Random};
@@ -722,6 +723,57 @@ fn scripts_are_the_same_for_a_seed() {
         assert_eq!(script(5), script(5));
         assert_ne!(script(5), script(6));
     }
+}
+
+#[test]
+fn benchmark_depths_and_counts() {
+    for (depth, nb) in [(1, 0), (30, 32), (4, 512)] {
+        let script = Script::messages(depth, nb, 400);
+        assert_eq!(script.timed(), 800);
+        let mut bus = Bus::new();
+        let mut receives = 0;
+        for frame in script.frames() {
+            if let [0x08, peer, _, _] = *frame {
+                receives += 1;
+                let peer = Peer::new(peer).expect("a peer");
+                assert_eq!(bus.queued(peer), depth);
+            }
+            assert_eq!(bus.command(frame, &mut [0; ANSWER_LEN]).number, 0);
+        }
+        assert_eq!(receives, 400);
+    }
+    for (others, queued, holders, each) in [(1, 0, 0, 3), (15, 30, 7, 17)] {
+        let script = Script::destroys(others, queued, holders, 300);
+        assert_eq!(script.timed(), 300 * each);
+        assert!(digest(&mut Reference::default(), &script).is_ok());
+    }
+}
+
+/// A core that changes the last byte of long answers.
+struct Wrong(Reference);
+
+impl Core for Wrong {
+    fn reset(&mut self) {
+        self.0.reset();
+    }
+
+    fn command(&mut self, frame: &[u8], answer: &mut [u8; ANSWER_LEN]) -> (u8, usize) {
+        let (number, len) = self.0.command(frame, answer);
+        if len > 15 {
+            answer[len - 1] ^= 1;
+        }
+        (number, len)
+    }
+}
+
+#[test]
+fn benchmark_tells_cores_apart() {
+    let script = Script::messages(2, 32, 50);
+    let (mut one, mut two) = (Reference::default(), Reference::default());
+    let times = measure(&mut [&mut one, &mut two], &script, 2).expect("the same answers");
+    assert_eq!(times.len(), 2);
+    let mut wrong = Wrong(Reference::default());
+    assert!(measure(&mut [&mut one, &mut wrong], &script, 2).is_err());
 }
 
 /// Gives its input in pieces, and checks before each read that every whole
