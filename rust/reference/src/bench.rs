@@ -202,14 +202,37 @@ impl Script {
     }
 }
 
-/// What one core took on one script.
+/// What one core took on one script, in nanoseconds a command.
 #[derive(Clone, Copy, Debug)]
 pub struct Times {
-    /// Nanoseconds a command in the fastest run.
-    pub best: f64,
-    /// Nanoseconds a command in the median run.
+    /// The median run.
     pub median: f64,
+    /// The fastest run.
+    pub best: f64,
+    /// Each block of commands in its fastest run. On a busy machine this is
+    /// what the others disturb least.
+    pub quiet: f64,
 }
+
+impl Times {
+    /// From the nanoseconds of each block in each run.
+    fn of(runs: &[Vec<u64>], commands: usize) -> Times {
+        let a_command = |nanoseconds: u64| nanoseconds as f64 / commands as f64;
+        let mut whole: Vec<u64> = runs.iter().map(|blocks| blocks.iter().sum()).collect();
+        whole.sort_unstable();
+        let quiet = (0..runs[0].len())
+            .filter_map(|block| runs.iter().map(|blocks| blocks[block]).min())
+            .sum();
+        Times {
+            median: a_command(whole[whole.len() / 2]),
+            best: a_command(whole[0]),
+            quiet: a_command(quiet),
+        }
+    }
+}
+
+/// Commands timed as one block.
+const BLOCK: usize = 2000;
 
 /// Runs a script once, untimed, and returns a digest (FNV-1a) of all answers.
 ///
@@ -234,18 +257,25 @@ pub fn digest(core: &mut dyn Core, script: &Script) -> Result<u64, String> {
     Ok(digest)
 }
 
-fn run(core: &mut dyn Core, script: &Script) -> f64 {
+/// Runs a script on a fresh bus; the nanoseconds of each block.
+fn run(core: &mut dyn Core, script: &Script) -> Vec<u64> {
     let mut answer = [0; ANSWER_LEN];
     core.reset();
     for frame in script.part(0, script.prepared) {
         core.command(frame, &mut answer);
     }
-    let start = Instant::now();
-    for frame in script.part(script.prepared, script.ends.len()) {
-        black_box(core.command(black_box(frame), &mut answer));
-        black_box(&mut answer);
-    }
-    start.elapsed().as_nanos() as f64 / script.timed() as f64
+    let all = script.ends.len();
+    (script.prepared..all)
+        .step_by(BLOCK)
+        .map(|from| {
+            let start = Instant::now();
+            for frame in script.part(from, all.min(from + BLOCK)) {
+                black_box(core.command(black_box(frame), &mut answer));
+                black_box(&mut answer);
+            }
+            start.elapsed().as_nanos() as u64
+        })
+        .collect()
 }
 
 /// Times the cores on a script, in turn, `rounds` times each.
@@ -272,13 +302,7 @@ pub fn measure(
         }
     }
     Ok(times
-        .into_iter()
-        .map(|mut times| {
-            times.sort_by(f64::total_cmp);
-            Times {
-                best: times[0],
-                median: times[times.len() / 2],
-            }
-        })
+        .iter()
+        .map(|runs| Times::of(runs, script.timed()))
         .collect())
 }

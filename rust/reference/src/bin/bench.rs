@@ -23,11 +23,13 @@ fn time(rounds: usize) -> Result<(), String> {
     let mut reference = Reference::default();
     let mut cores: [(&str, &mut dyn Core); 1] = [("reference", &mut reference)];
 
+    println!("Nanoseconds a command: median of {rounds} runs, best run, and each block of");
+    println!("commands in its fastest run (quiet). Every run starts from a fresh bus.");
     print!("{:4} {:66} {:>8}", "case", "", "commands");
     for (name, _) in &cores {
-        print!(" {name:>10} {:>7}", "best");
+        print!("  {name:>16} {:>7} {:>7}", "best", "quiet");
     }
-    println!("   (nanoseconds a command, median of {rounds} and best)");
+    println!();
     for (case, script) in Script::all().iter().enumerate() {
         let mut timed: Vec<&mut dyn Core> = Vec::new();
         for (_, core) in &mut cores {
@@ -36,10 +38,14 @@ fn time(rounds: usize) -> Result<(), String> {
         let times = measure(&mut timed, script, rounds)?;
         print!("{case:4} {:66} {:8}", script.name, script.timed());
         for time in &times {
-            print!(" {:10.1} {:7.1}", time.median, time.best);
+            print!(
+                "  {:16.1} {:7.1} {:7.1}",
+                time.median, time.best, time.quiet
+            );
         }
         for time in &times[1..] {
-            print!("  ratio {:.2}", time.median / times[0].median);
+            let (median, quiet) = (time.median / times[0].median, time.quiet / times[0].quiet);
+            print!("  ratio {median:.2}, quiet {quiet:.2}");
         }
         println!();
     }
