@@ -1,6 +1,7 @@
 //! The message bus of document 01 in ordinary Rust.
 //!
-//! Written from document 01 alone, so that agreement with the proved core
+//! Written from document 01 and the agreed readings of its doubtful clauses,
+//! not from the proved core's definitions, so that agreement with the core
 //! means something. It keeps its state in its own tables, not in lent buffers,
 //! so EIO (5) has no case here.
 //!
