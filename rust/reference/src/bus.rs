@@ -1,0 +1,754 @@
+//! The bus: nodes, handles, queues, and the ten commands.
+
+use crate::frame::{Command, Send, MAX_ATTACHED, MAX_DESTINATIONS, MAX_PAYLOAD};
+use crate::handles::HandleTable;
+use crate::ids::{HandleId, Peer, User};
+use crate::queue::{Entry, MessageIndex, Notice, Queue};
+use crate::quota::{Charge, Charges};
+use crate::refusal::Refusal;
+
+/// Bytes of the longest answer; an answer buffer has at least so many.
+pub const ANSWER_LEN: usize = 15 + 8 * MAX_ATTACHED + MAX_PAYLOAD;
+
+/// Nodes that count against one owner, at most.
+const NODES_PER_PEER: usize = 16;
+/// Nodes on the bus, at most.
+pub(crate) const NODES: usize = Peer::COUNT * NODES_PER_PEER;
+/// Commands accepted, at most.
+const MAX_ACCEPTED: u64 = (1 << 40) - 1;
+
+/// What [`Bus::command`] returns.
+#[derive(Clone, Copy, PartialEq, Eq, Debug)]
+pub struct Outcome {
+    /// 0, or the number of the refusal.
+    pub number: u8,
+    /// How many bytes of the answer buffer were written.
+    pub len: usize,
+}
+
+/// A handle as [`Bus::handles`] shows it.
+#[derive(Clone, Copy, PartialEq, Eq, Debug)]
+pub struct HandleView {
+    /// Its ID at the holder.
+    pub id: HandleId,
+    /// The holder's count of references.
+    pub count: u64,
+    /// The sum of counts over all peers.
+    pub sum: u64,
+    /// The node's owner.
+    pub owner: Peer,
+    /// Whether the node still lives.
+    pub live: bool,
+}
+
+/// The room of a node: owner p's are 16p to 16p + 15.
+#[derive(Clone, Copy, PartialEq, Eq, Debug)]
+pub(crate) struct NodeIndex(u8);
+
+impl NodeIndex {
+    pub(crate) const FIRST: NodeIndex = NodeIndex(0);
+
+    #[inline]
+    pub(crate) fn new(index: usize) -> NodeIndex {
+        NodeIndex(index as u8)
+    }
+
+    #[inline]
+    pub(crate) fn index(self) -> usize {
+        usize::from(self.0) % NODES
+    }
+}
+
+/// One peer's handle to a node; count 0 is no handle.
+#[derive(Clone, Copy)]
+struct Handle {
+    id: HandleId,
+    count: u64,
+}
+
+#[derive(Clone, Copy)]
+struct Node {
+    owner: Peer,
+    owner_id: HandleId,
+    live: bool,
+    /// Bit p is set if peer p holds a handle.
+    holders: u8,
+    /// The sum of counts over all peers.
+    sum: u64,
+    /// How often queued messages name it, as destination or attached.
+    named: u32,
+    /// How many queued messages are for it.
+    messages: u32,
+    handles: [Handle; Peer::COUNT],
+}
+
+impl Node {
+    fn unused(owner: Peer) -> Node {
+        Node {
+            owner,
+            owner_id: HandleId::INVALID,
+            live: false,
+            holders: 0,
+            sum: 0,
+            named: 0,
+            messages: 0,
+            handles: [Handle {
+                id: HandleId::INVALID,
+                count: 0,
+            }; Peer::COUNT],
+        }
+    }
+
+    /// Whether it counts against its owner; if not, its room is free.
+    fn counts(&self) -> bool {
+        self.live || self.holders != 0 || self.named != 0
+    }
+
+    fn holders(&self) -> impl Iterator<Item = Peer> {
+        let holders = self.holders;
+        Peer::all().filter(move |peer| holders & peer.bit() != 0)
+    }
+}
+
+#[derive(Clone, Copy, PartialEq, Eq, Debug)]
+enum State {
+    NeverOpened,
+    Open,
+    Disconnected,
+}
+
+#[derive(Clone)]
+struct PeerState {
+    state: State,
+    /// Its user, once opened.
+    user: User,
+    /// How many IDs the bus has given here.
+    given: u64,
+    handles: HandleTable,
+    queue: Queue,
+    charges: Charges,
+}
+
+/// A message bus of eight peers.
+#[derive(Clone)]
+pub struct Bus {
+    accepted: u64,
+    peers: Vec<PeerState>,
+    nodes: Box<[Node; NODES]>,
+}
+
+impl Default for Bus {
+    fn default() -> Bus {
+        Bus::new()
+    }
+}
+
+/// Writes an answer from the front; its first byte is 00.
+struct Answer<'a> {
+    buffer: &'a mut [u8; ANSWER_LEN],
+    len: usize,
+}
+
+impl<'a> Answer<'a> {
+    #[inline]
+    fn accepted(buffer: &'a mut [u8; ANSWER_LEN]) -> Answer<'a> {
+        buffer[0] = 0;
+        Answer { buffer, len: 1 }
+    }
+
+    #[inline]
+    fn byte(&mut self, byte: u8) {
+        self.buffer[self.len] = byte;
+        self.len += 1;
+    }
+
+    #[inline]
+    fn bytes(&mut self, bytes: &[u8]) {
+        self.buffer[self.len..self.len + bytes.len()].copy_from_slice(bytes);
+        self.len += bytes.len();
+    }
+
+    #[inline]
+    fn id(&mut self, id: HandleId) {
+        self.bytes(&id.to_bytes());
+    }
+}
+
+impl Bus {
+    /// A fresh bus: no peer opened.
+    pub fn new() -> Bus {
+        let user = User::new(0).expect("0 is a user");
+        let mut nodes = Box::new([Node::unused(Peer::new(0).expect("0 is a peer")); NODES]);
+        for peer in Peer::all() {
+            let first = peer.index() * NODES_PER_PEER;
+            nodes[first..first + NODES_PER_PEER].fill(Node::unused(peer));
+        }
+        Bus {
+            accepted: 0,
+            peers: Peer::all()
+                .map(|_| PeerState {
+                    state: State::NeverOpened,
+                    user,
+                    given: 0,
+                    handles: HandleTable::new(),
+                    queue: Queue::new(user),
+                    charges: Charges::default(),
+                })
+                .collect(),
+            nodes,
+        }
+    }
+
+    /// A fresh bus on which so many commands count as accepted.
+    #[cfg(test)]
+    pub(crate) fn with_accepted(accepted: u64) -> Bus {
+        Bus {
+            accepted,
+            ..Bus::new()
+        }
+    }
+
+    /// Carries out one frame and writes its answer to the front of the
+    /// buffer; what lies past the answer is not touched. A buffer under
+    /// [`ANSWER_LEN`] bytes is refused with 22 and nothing is written.
+    #[inline]
+    pub fn command(&mut self, frame: &[u8], answer: &mut [u8]) -> Outcome {
+        let Some(buffer) = answer.first_chunk_mut::<ANSWER_LEN>() else {
+            return Outcome {
+                number: Refusal::Invalid.number(),
+                len: 0,
+            };
+        };
+        match self.answer(frame, buffer) {
+            Ok(len) => Outcome { number: 0, len },
+            Err(refusal) => {
+                buffer[0] = refusal.number();
+                Outcome {
+                    number: refusal.number(),
+                    len: 1,
+                }
+            }
+        }
+    }
+
+    /// The user of an open peer.
+    pub fn user(&self, peer: Peer) -> Option<User> {
+        self.open_peer(peer).ok()
+    }
+
+    /// The handles a peer holds, by ascending ID.
+    pub fn handles(&self, peer: Peer) -> Vec<HandleView> {
+        let mut views: Vec<HandleView> = self
+            .peer(peer)
+            .handles
+            .iter()
+            .map(|(id, node)| {
+                let node = self.node(node);
+                HandleView {
+                    id,
+                    count: node.handles[peer.index()].count,
+                    sum: node.sum,
+                    owner: node.owner,
+                    live: node.live,
+                }
+            })
+            .collect();
+        views.sort_by_key(|view| view.id);
+        views
+    }
+
+    /// How many entries are queued at a peer, messages and notices.
+    pub fn queued(&self, peer: Peer) -> usize {
+        self.peer(peer).queue.iter().count()
+    }
+
+    #[inline]
+    fn peer(&self, peer: Peer) -> &PeerState {
+        &self.peers[peer.index()]
+    }
+
+    #[inline]
+    fn peer_mut(&mut self, peer: Peer) -> &mut PeerState {
+        &mut self.peers[peer.index()]
+    }
+
+    #[inline]
+    fn node(&self, node: NodeIndex) -> &Node {
+        &self.nodes[node.index()]
+    }
+
+    #[inline]
+    fn node_mut(&mut self, node: NodeIndex) -> &mut Node {
+        &mut self.nodes[node.index()]
+    }
+
+    /// The user of the peer; EBADF, ESHUTDOWN.
+    #[inline]
+    fn open_peer(&self, peer: Peer) -> Result<User, Refusal> {
+        let peer = self.peer(peer);
+        match peer.state {
+            State::NeverOpened => Err(Refusal::NeverOpened),
+            State::Disconnected => Err(Refusal::Disconnected),
+            State::Open => Ok(peer.user),
+        }
+    }
+
+    /// The node that a peer's ID names; ENXIO.
+    #[inline]
+    fn find(&self, peer: Peer, id: HandleId) -> Result<NodeIndex, Refusal> {
+        self.peer(peer).handles.find(id).ok_or(Refusal::NoHandle)
+    }
+
+    /// The answer's length, or the refusal. A refusal changes nothing.
+    #[inline]
+    fn answer(&mut self, frame: &[u8], buffer: &mut [u8; ANSWER_LEN]) -> Result<usize, Refusal> {
+        let command = Command::parse(frame)?;
+        match command {
+            Command::Quota { peer, user } => return self.quota(peer, user, buffer),
+            Command::Holders { peer, id } => return self.holders(peer, id, buffer),
+            _ => {}
+        }
+        if self.accepted >= MAX_ACCEPTED {
+            return Err(Refusal::Overflow);
+        }
+        let len = match command {
+            Command::Send(send) => self.send(send, buffer)?,
+            Command::Receive { peer, room } => self.receive(peer, room, buffer)?,
+            Command::Open { peer, user } => self.open(peer, user, buffer)?,
+            Command::Disconnect { peer } => self.disconnect(peer, buffer)?,
+            Command::Create { peer, id } => self.create(peer, id, buffer)?,
+            Command::Destroy { peer, id } => self.destroy(peer, id, buffer)?,
+            Command::Release { peer, id } => self.release(peer, id, buffer)?,
+            Command::Transfer { peer, id, to } => self.transfer(peer, id, to, buffer)?,
+            Command::Quota { .. } | Command::Holders { .. } => unreachable!("answered above"),
+        };
+        self.accepted += 1;
+        Ok(len)
+    }
+
+    fn open(
+        &mut self,
+        peer: Peer,
+        user: User,
+        buffer: &mut [u8; ANSWER_LEN],
+    ) -> Result<usize, Refusal> {
+        let state = self.peer_mut(peer);
+        match state.state {
+            State::Disconnected => return Err(Refusal::Disconnected),
+            State::Open => return Err(Refusal::Exists),
+            State::NeverOpened => {}
+        }
+        state.state = State::Open;
+        state.user = user;
+        Ok(Answer::accepted(buffer).len)
+    }
+
+    fn disconnect(&mut self, peer: Peer, buffer: &mut [u8; ANSWER_LEN]) -> Result<usize, Refusal> {
+        self.open_peer(peer)?;
+        while let Some(entry) = self.peer(peer).queue.front() {
+            match entry {
+                Entry::Message(message) => self.drop_message(peer, message),
+                Entry::Notice(_, node) => self.peer_mut(peer).queue.remove_notice(node),
+            }
+        }
+        // Its handles by ascending owner ID: first its own live nodes are
+        // destroyed, then all handles are released.
+        let mut held: Vec<NodeIndex> = self.peer(peer).handles.iter().map(|(_, n)| n).collect();
+        held.sort_unstable_by_key(|node| self.node(*node).owner_id);
+        for &node in &held {
+            if self.node(node).owner == peer && self.node(node).live {
+                self.destroy_node(node);
+            }
+        }
+        for node in held {
+            let count = self.node(node).handles[peer.index()].count;
+            self.drop_references(node, peer, count);
+        }
+        self.peer_mut(peer).state = State::Disconnected;
+        Ok(Answer::accepted(buffer).len)
+    }
+
+    fn create(
+        &mut self,
+        peer: Peer,
+        id: HandleId,
+        buffer: &mut [u8; ANSWER_LEN],
+    ) -> Result<usize, Refusal> {
+        self.open_peer(peer)?;
+        if self.peer(peer).handles.find(id).is_some() {
+            return Err(Refusal::Exists);
+        }
+        let first = peer.index() * NODES_PER_PEER;
+        let room = (first..first + NODES_PER_PEER)
+            .find(|room| !self.nodes[*room].counts())
+            .ok_or(Refusal::NoRoom)?;
+        let node = &mut self.nodes[room];
+        node.owner_id = id;
+        node.live = true;
+        node.holders = peer.bit();
+        node.sum = 1;
+        node.handles[peer.index()] = Handle { id, count: 1 };
+        self.peer_mut(peer).handles.insert(id, NodeIndex::new(room));
+        Ok(Answer::accepted(buffer).len)
+    }
+
+    fn destroy(
+        &mut self,
+        peer: Peer,
+        id: HandleId,
+        buffer: &mut [u8; ANSWER_LEN],
+    ) -> Result<usize, Refusal> {
+        self.open_peer(peer)?;
+        let index = self.find(peer, id)?;
+        let node = self.node(index);
+        if node.owner != peer {
+            return Err(Refusal::NotPermitted);
+        }
+        if !node.live {
+            return Err(Refusal::Destroyed);
+        }
+        self.destroy_node(index);
+        Ok(Answer::accepted(buffer).len)
+    }
+
+    fn release(
+        &mut self,
+        peer: Peer,
+        id: HandleId,
+        buffer: &mut [u8; ANSWER_LEN],
+    ) -> Result<usize, Refusal> {
+        self.open_peer(peer)?;
+        let index = self.find(peer, id)?;
+        let node = self.node(index);
+        if node.live && node.owner == peer && node.handles[peer.index()].count == 1 {
+            return Err(Refusal::NotPermitted);
+        }
+        self.drop_references(index, peer, 1);
+        Ok(Answer::accepted(buffer).len)
+    }
+
+    fn transfer(
+        &mut self,
+        peer: Peer,
+        id: HandleId,
+        to: Peer,
+        buffer: &mut [u8; ANSWER_LEN],
+    ) -> Result<usize, Refusal> {
+        self.open_peer(peer)?;
+        self.open_peer(to)?;
+        let index = self.find(peer, id)?;
+        if !self.node(index).live {
+            return Err(Refusal::Destroyed);
+        }
+        let shown = self.add_reference(index, to);
+        let mut answer = Answer::accepted(buffer);
+        answer.id(shown);
+        Ok(answer.len)
+    }
+
+    #[inline]
+    fn send(&mut self, send: Send, buffer: &mut [u8; ANSWER_LEN]) -> Result<usize, Refusal> {
+        let user = self.open_peer(send.peer)?;
+
+        let mut destinations = [NodeIndex::FIRST; MAX_DESTINATIONS];
+        let destinations = &mut destinations[..send.destinations.count()];
+        for (node, id) in destinations.iter_mut().zip(send.destinations.iter()) {
+            *node = self.find(send.peer, id)?;
+        }
+        let mut attached = [NodeIndex::FIRST; MAX_ATTACHED];
+        let attached = &mut attached[..send.attached.count()];
+        for (node, id) in attached.iter_mut().zip(send.attached.iter()) {
+            *node = self.find(send.peer, id)?;
+        }
+
+        if destinations.iter().any(|node| !self.node(*node).live) {
+            return Err(Refusal::Destroyed);
+        }
+
+        // All places at one peer are tested together.
+        let charge = Charge::of_message(send.payload.len() as u16, attached.len() as u16);
+        let mut places = [0u8; Peer::COUNT];
+        for node in destinations.iter() {
+            places[self.node(*node).owner.index()] += 1;
+        }
+        for (peer, &places) in self.peers.iter().zip(&places) {
+            if places > 0 && !peer.charges.allow(user, charge.times(u16::from(places))) {
+                return Err(Refusal::Quota);
+            }
+        }
+
+        let number = self.accepted;
+        for &destination in destinations.iter() {
+            let node = self.node_mut(destination);
+            node.messages += 1;
+            node.named += 1;
+            let owner = node.owner;
+            let state = self.peer_mut(owner);
+            state.charges.charge(user, charge);
+            state
+                .queue
+                .push_message(number, user, destination, attached, send.payload);
+        }
+        for &node in attached.iter() {
+            self.node_mut(node).named += destinations.len() as u32;
+        }
+        Ok(Answer::accepted(buffer).len)
+    }
+
+    #[inline]
+    fn receive(
+        &mut self,
+        peer: Peer,
+        room: u16,
+        buffer: &mut [u8; ANSWER_LEN],
+    ) -> Result<usize, Refusal> {
+        self.open_peer(peer)?;
+        match self.peer(peer).queue.front() {
+            None => Err(Refusal::NothingQueued),
+            Some(Entry::Notice(notice, node)) => {
+                let mut answer = Answer::accepted(buffer);
+                answer.byte(match notice {
+                    Notice::Destroyed => 2,
+                    Notice::Released => 3,
+                });
+                answer.id(self.node(node).handles[peer.index()].id);
+                self.peer_mut(peer).queue.remove_notice(node);
+                Ok(answer.len)
+            }
+            Some(Entry::Message(message)) => self.receive_message(peer, message, room, buffer),
+        }
+    }
+
+    #[inline]
+    fn receive_message(
+        &mut self,
+        peer: Peer,
+        index: MessageIndex,
+        room: u16,
+        buffer: &mut [u8; ANSWER_LEN],
+    ) -> Result<usize, Refusal> {
+        let queue = &mut self.peers[peer.index()].queue;
+        if queue.message(index).room() > room {
+            return Err(Refusal::OverRoom);
+        }
+        let sibling = queue.sibling_behind(index);
+        let message = queue.remove_message(index);
+        let (user, charge) = (message.user, message.charge());
+        let destination = &mut self.nodes[message.destination.index()];
+        destination.messages -= 1;
+        destination.named -= 1;
+
+        let mut answer = Answer::accepted(buffer);
+        answer.byte(1);
+        answer.id(destination.owner_id);
+        answer.byte(user.number());
+        answer.byte(u8::from(sibling));
+        answer.bytes(&charge.bytes.to_be_bytes());
+        answer.byte(charge.handles as u8);
+
+        let attached_len = message.attached().len();
+        if attached_len == 0 {
+            answer.bytes(message.payload());
+        } else {
+            let mut attached = [NodeIndex::FIRST; MAX_ATTACHED];
+            let attached = &mut attached[..attached_len];
+            attached.copy_from_slice(message.attached());
+            for &mut node in attached {
+                self.node_mut(node).named -= 1;
+                let shown = if self.node(node).live {
+                    self.add_reference(node, peer)
+                } else {
+                    HandleId::INVALID
+                };
+                answer.id(shown);
+            }
+            answer.bytes(self.peer(peer).queue.message(index).payload());
+        }
+        self.peer_mut(peer).charges.discharge(user, charge);
+        Ok(answer.len)
+    }
+
+    fn quota(
+        &self,
+        peer: Peer,
+        user: User,
+        buffer: &mut [u8; ANSWER_LEN],
+    ) -> Result<usize, Refusal> {
+        self.open_peer(peer)?;
+        let charges = &self.peer(peer).charges;
+        let own = charges.of(user);
+        let mut answer = Answer::accepted(buffer);
+        for queued in [own.messages, own.bytes, own.handles] {
+            answer.bytes(&queued.to_be_bytes());
+        }
+        for left in charges.left(user) {
+            answer.bytes(&(left as i16).to_be_bytes());
+        }
+        Ok(answer.len)
+    }
+
+    fn holders(
+        &self,
+        peer: Peer,
+        id: HandleId,
+        buffer: &mut [u8; ANSWER_LEN],
+    ) -> Result<usize, Refusal> {
+        self.open_peer(peer)?;
+        let node = self.node(self.find(peer, id)?);
+        if node.owner != peer {
+            return Err(Refusal::NotPermitted);
+        }
+        let mut answer = Answer::accepted(buffer);
+        answer.byte(node.holders);
+        answer.byte(node.holders.count_ones() as u8);
+        Ok(answer.len)
+    }
+
+    /// Adds one reference to a live node for a peer and returns its ID there.
+    /// The sum rises, so a release notice is withdrawn.
+    fn add_reference(&mut self, index: NodeIndex, peer: Peer) -> HandleId {
+        let node = &mut self.nodes[index.index()];
+        self.peers[node.owner.index()].queue.remove_notice(index);
+        node.sum += 1;
+        let handle = &mut node.handles[peer.index()];
+        handle.count += 1;
+        if handle.count == 1 {
+            let state = &mut self.peers[peer.index()];
+            state.given += 1;
+            handle.id = HandleId::given(state.given);
+            state.handles.insert(handle.id, index);
+            node.holders |= peer.bit();
+        }
+        handle.id
+    }
+
+    /// Takes `by` of a peer's references to a node. If none is left, the
+    /// handle goes, with its destroy notice, and at the owner with the
+    /// messages for the node.
+    fn drop_references(&mut self, index: NodeIndex, peer: Peer, by: u64) {
+        let node = &mut self.nodes[index.index()];
+        let before = node.sum;
+        node.sum -= by;
+        let handle = &mut node.handles[peer.index()];
+        handle.count -= by;
+        let gone = handle.count == 0;
+        if gone {
+            node.holders &= !peer.bit();
+            let state = &mut self.peers[peer.index()];
+            state.handles.remove(handle.id);
+            state.queue.remove_notice(index);
+        }
+        let node = *node;
+        if gone && node.owner == peer && node.messages > 0 {
+            self.drop_messages_for(index, peer);
+        }
+        if node.live && before > 1 && node.sum == 1 {
+            self.peer_mut(node.owner)
+                .queue
+                .push_notice(Notice::Released, index);
+        }
+    }
+
+    /// Destroys a live node: a notice to every holder, in place of a release
+    /// notice to the owner.
+    fn destroy_node(&mut self, index: NodeIndex) {
+        let node = &mut self.nodes[index.index()];
+        node.live = false;
+        self.peers[node.owner.index()].queue.remove_notice(index);
+        for holder in node.holders() {
+            self.peers[holder.index()]
+                .queue
+                .push_notice(Notice::Destroyed, index);
+        }
+    }
+
+    /// Drops the messages for a node from its owner's queue.
+    fn drop_messages_for(&mut self, index: NodeIndex, owner: Peer) {
+        let queue = &self.peer(owner).queue;
+        let dropped: Vec<MessageIndex> = queue
+            .iter()
+            .filter_map(|entry| match entry {
+                Entry::Message(m) if queue.message(m).destination == index => Some(m),
+                _ => None,
+            })
+            .collect();
+        for message in dropped {
+            self.drop_message(owner, message);
+        }
+    }
+
+    /// Checks each stored sum against what it is the sum of.
+    #[cfg(test)]
+    pub(crate) fn audit(&self) {
+        let mut named = [0; NODES];
+        let mut messages = [0; NODES];
+        for peer in Peer::all() {
+            let state = self.peer(peer);
+            let mut charges = Charges::default();
+            for entry in state.queue.iter() {
+                match entry {
+                    Entry::Message(index) => {
+                        let message = state.queue.message(index);
+                        assert_eq!(self.node(message.destination).owner, peer);
+                        charges.charge(message.user, message.charge());
+                        messages[message.destination.index()] += 1;
+                        named[message.destination.index()] += 1;
+                        for node in message.attached() {
+                            named[node.index()] += 1;
+                        }
+                    }
+                    Entry::Notice(Notice::Destroyed, node) => {
+                        assert!(!self.node(node).live);
+                        assert!(self.node(node).holders & peer.bit() != 0);
+                    }
+                    Entry::Notice(Notice::Released, node) => {
+                        let node = self.node(node);
+                        assert!(node.live && node.owner == peer && node.sum == 1);
+                    }
+                }
+            }
+            assert_eq!(state.charges, charges);
+            if state.state != State::Open {
+                assert!(state.queue.front().is_none());
+                assert!(state.handles.iter().next().is_none());
+            }
+            for (id, node) in state.handles.iter() {
+                let handle = self.node(node).handles[peer.index()];
+                assert_eq!(handle.id, id);
+                assert!(handle.count > 0);
+            }
+        }
+        for (index, node) in self.nodes.iter().enumerate() {
+            assert_eq!(usize::from(node.owner.number()), index / NODES_PER_PEER);
+            assert_eq!(node.named, named[index]);
+            assert_eq!(node.messages, messages[index]);
+            assert_eq!(node.sum, node.handles.iter().map(|h| h.count).sum());
+            for peer in Peer::all() {
+                let handle = node.handles[peer.index()];
+                let holds = node.holders & peer.bit() != 0;
+                assert_eq!(holds, handle.count > 0);
+                if holds {
+                    let found = self.peer(peer).handles.find(handle.id);
+                    assert_eq!(found, Some(NodeIndex::new(index)));
+                }
+            }
+            // Its owner holds it while it lives and while messages wait for it.
+            if node.live || node.messages > 0 {
+                assert!(node.holders & node.owner.bit() != 0);
+            }
+        }
+    }
+
+    /// Takes a message out undelivered.
+    fn drop_message(&mut self, peer: Peer, index: MessageIndex) {
+        let state = &mut self.peers[peer.index()];
+        let message = state.queue.remove_message(index);
+        let destination = &mut self.nodes[message.destination.index()];
+        destination.messages -= 1;
+        destination.named -= 1;
+        for node in message.attached() {
+            self.nodes[node.index()].named -= 1;
+        }
+        state.charges.discharge(message.user, message.charge());
+    }
+}

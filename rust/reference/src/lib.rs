@@ -1,0 +1,32 @@
+//! The message bus of document 01 in ordinary Rust.
+//!
+//! Written from document 01 and the agreed readings of its doubtful clauses,
+//! not from the proved core's definitions, so that agreement with the core
+//! means something. It keeps its state in its own tables, not in lent buffers,
+//! so EIO (5) has no case here.
+//!
+//! - [`Bus`] takes one frame and writes one answer.
+//! - [`answer_lines`] does so for lines of hexadecimal.
+
+#![forbid(unsafe_code)]
+#![warn(missing_docs)]
+
+pub mod bench;
+mod bus;
+mod frame;
+mod handles;
+mod ids;
+mod line;
+mod queue;
+mod quota;
+mod refusal;
+pub mod script;
+#[cfg(test)]
+mod tests;
+
+pub use bus::{Bus, HandleView, Outcome, ANSWER_LEN};
+pub use frame::{MAX_ATTACHED, MAX_DESTINATIONS, MAX_FRAME, MAX_PAYLOAD};
+pub use ids::{HandleId, Peer, User};
+pub use line::{answer_lines, answer_lines_with, MAX_DIGITS};
+pub use quota::{left, Charge, Charges, LIMITS};
+pub use refusal::Refusal;
