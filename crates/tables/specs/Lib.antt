@@ -1,0 +1,5 @@
+pub mod Peers
+pub mod Nodes
+pub mod Handles
+pub mod Charges
+pub mod CodeLaws
