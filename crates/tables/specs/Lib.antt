@@ -3,3 +3,9 @@ pub mod Nodes
 pub mod Handles
 pub mod Charges
 pub mod CodeLaws
+pub mod Guards
+pub mod PeersView
+pub mod NodesView
+pub mod HandlesView
+pub mod ChargesView
+pub mod Fresh

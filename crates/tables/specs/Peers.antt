@@ -23,8 +23,12 @@ acceptedAt ps = getD ps 0 0 % modulus
 abbrev pub stateAt : List ℕ → ℕ → ℕ
 stateAt ps p = getD ps (peerRow p) 0
 
+-- What a state says: 1 open, 2 disconnected, else never opened.
+abbrev pub statusOf : ℕ → Status
+statusOf x = pick (eqb x 1) Open (pick (eqb x 2) Disconnected Unopened)
+
 unfoldable pub statusAt : List ℕ → ℕ → Status
-statusAt ps p = pick (eqb (stateAt ps p) 1) Open (pick (eqb (stateAt ps p) 2) Disconnected Unopened)
+statusAt ps p = statusOf (stateAt ps p)
 
 -- The refusal of a command of this peer, 0 where it is open.
 abbrev pub refusalOf : Status → ℕ
