@@ -1,9 +1,11 @@
 pub mod Tests
 pub mod Tables
+pub mod Guards
 pub mod Sums
 pub mod Weights
 pub mod Loads
 pub mod Build
 pub mod Stores
 pub mod Search
+pub mod Bits
 pub mod Bytes

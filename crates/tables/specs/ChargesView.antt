@@ -2,17 +2,20 @@
 -- Assumes nothing.
 use Prim.Native.Nat.{ℕ, zero, suc, _+_, _*_, _≤_, _<_}
 use mathlib.Core.Path.{_≡_, refl, sym, ap, _∙_, fun-ext}
+use mathlib.Core.Bool.{Bool, true, false}
 use mathlib.Core.List.{List}
 use native.Mathlib.Omega.{arith}
 use lib.ListN.{length, getD, set, length-set}
 use lib.Seq.{getD-set-same, getD-set-other}
-use Rattle.laws.specs.Tests.{Same, Same.same, Same.other, same?}
+use lib.Dec.{ltb}
+use Rattle.laws.specs.Tests.{pick, Same, Same.same, Same.other, same?}
 use Rattle.laws.specs.Tables.{upd, upd-same, upd-other}
 use Rattle.laws.specs.Build.{build, build-ext, build-list, build-length}
 use Rattle.quota.specs.declared.Charge.{Charge}
 use Rattle.quota.specs.declared.Charges.{Charges}
-use Rattle.quota.specs.Charges.{nothing, freshCharges}
-use Rattle.tables.specs.Guards.{upto, upto-at, upto-upd}
+use Rattle.quota.specs.Charges.{users, nothing, plus, less, freshCharges, own, charged, discharged}
+use Rattle.ids.specs.declared.User.{User}
+use Rattle.laws.specs.Guards.{upto, upto-at, upto-upd}
 use Rattle.tables.specs.Charges.{chargeAt, chargesAt, putCharge, putBelow, putCharges}
 
 -- The accessor: past the last peer nothing is charged.
@@ -23,10 +26,20 @@ pub charges-is : (t : List ℕ) (p : ℕ) → p < 8 → chargesV t p ≡ charges
 unfolding chargesV
 charges-is t p l = upto-at 8 freshCharges (chargesAt t) p l
 
--- There is one charge for each user.
-pub charges-four : (t : List ℕ) (p : ℕ) → p < 8 → length (chargesV t p .by) ≡ 4
-unfolding chargesAt
-charges-four t p l = rw (charges-is t p l) (build-length (λ u. chargeAt t (4 * p + u)) 4)
+-- There is one charge for each user, also once one of them is changed.
+pub charges-four : (t : List ℕ) (p : ℕ) → length (chargesV t p .by) ≡ users
+unfolding chargesV upto chargesAt
+charges-four t p = go (ltb p 8)
+  where
+    go : (b : Bool) → length (pick b (chargesAt t p) freshCharges .by) ≡ users
+    go true = build-length (λ u. chargeAt t (4 * p + u)) 4
+    go false = refl
+
+pub charged-length : (c : Charges) (u : User) (a : Charge) → length (charged c u a .by) ≡ length (c .by)
+charged-length c u a = length-set (c .by) (u .0) (plus (own c u) a)
+
+pub discharged-length : (c : Charges) (u : User) (a : Charge) → length (discharged c u a .by) ≡ length (c .by)
+discharged-length c u a = length-set (c .by) (u .0) (less (own c u) a)
 
 charge-length : (t : List ℕ) (k : ℕ) (c : Charge) → length (putCharge t k c) ≡ length t
 unfolding putCharge
@@ -94,7 +107,7 @@ module _ (t : List ℕ) (p : ℕ) (c : Charges) where
       go (same e) ih = rw (← e) (charge-here old (4 * p + n) (getD (c .by) n nothing) (omega (arith, below-length t p c n)))
       go (other e) ih = charge-there old (4 * p + n) (getD (c .by) n nothing) (4 * p + u) (λ x. e (omega arith)) ∙ ih (omega arith)
 
-  stored-here : p < 8 → length t ≡ 96 → length (c .by) ≡ 4 → chargesAt (putCharges t p c) p ≡ c
+  stored-here : p < 8 → length t ≡ 96 → length (c .by) ≡ users → chargesAt (putCharges t p c) p ≡ c
   unfolding chargesAt putCharges
   stored-here l size four =
       let e : build (λ u. chargeAt (putBelow t p c 4) (4 * p + u)) 4 ≡ build (λ u. getD (c .by) u nothing) 4 =
@@ -109,7 +122,7 @@ module _ (t : List ℕ) (p : ℕ) (c : Charges) where
       (build-ext (λ u. chargeAt (putBelow t p c 4) (4 * q + u)) (λ u. chargeAt t (4 * q + u)) 4
       (λ u lu. below-there 4 (4 * q + u) (λ v lv x. e (omega arith))))
 
-  pub charges-stored : p < 8 → length t ≡ 96 → length (c .by) ≡ 4 → chargesV (putCharges t p c) ≡ upd (chargesV t) p c
+  pub charges-stored : p < 8 → length t ≡ 96 → length (c .by) ≡ users → chargesV (putCharges t p c) ≡ upd (chargesV t) p c
   unfolding chargesV
   charges-stored l size four = ap (upto 8 freshCharges) (fun-ext (λ q. go q (same? p q))) ∙ upto-upd 8 freshCharges (chargesAt t) p c l
     where

@@ -1,17 +1,16 @@
 -- The laws that the functions' proofs cite, one for each return or turn of a loop, over plain variables: each is shaped like what the callee ensures.
 -- Assumes nothing.
-use Prim.Native.Nat.{ℕ, zero, suc, _+_, _*_, _^_, _≤_, _<_}
+use Prim.Native.Nat.{ℕ, _+_, _*_, _%_, _^_, _≤_, _<_}
 use mathlib.Core.Path.{_≡_, refl}
-use mathlib.Core.Bool.{Bool, true, false}
+use mathlib.Core.Bool.{true, false}
 use mathlib.Core.List.{List, [], _∷_}
 use native.Mathlib.Omega.{arith}
 use native.Mathlib.Nat.{add-zero}
 use native.Mathlib.Numerals.{add-one}
 use lib.ListN.{getD}
-use lib.Dec.{eqb, ltb}
-use lib.Pow.{pow-mono}
-use borrow.Author.Tests.{eq-eqb, ne-eqb, lt-ltb}
-use Rattle.laws.specs.Tests.{pick}
+use lib.Dec.{eqb}
+use lib.Pow.{pow-mono, pow-lt}
+use borrow.Author.Tests.{ne-eqb, lt-ltb}
 use Rattle.laws.specs.Sums.{sumTo}
 use Rattle.laws.specs.Search.{first, first-is}
 use Rattle.laws.specs.Build.{build}
@@ -20,6 +19,7 @@ use Rattle.quota.specs.declared.Charges.{Charges}
 use Rattle.quota.specs.Charges.{nothing}
 use Rattle.tables.specs.declared.Status.{Status}
 use Rattle.tables.specs.declared.Found.the-variants.{At, Nothing}
+use Rattle.laws.specs.Bits.{bits}
 use Rattle.tables.specs.Peers.{statusAt, refusalOf, standingAt}
 use Rattle.tables.specs.Handles.{countAt, hasAt, findAt, lookup, totalBelow, totalAt, bitAt, holdersBelow, holdersAt, putHandle, clearBelow, clearPeer}
 use Rattle.tables.specs.Charges.{chargeAt, chargesAt, putCharge, putBelow, putCharges}
@@ -78,7 +78,7 @@ byte-bit : (q : ℕ) → q ≤ 8 → 2 ^ q ≤ 256
 byte-bit q l = let m : 2 ^ q ≤ 2 ^ 8 = pow-mono l in omega arith
 
 -- the bit of the peer q, and the bits of the peers below it
-pub record Bits (h : List ℕ) (s q bit set : ℕ) : Type 0 where
+pub record Holders (h : List ℕ) (s q bit set : ℕ) : Type 0 where
   pub peers : q ≤ 8
   pub power : bit ≡ 2 ^ q
   pub byte : bit ≤ 256
@@ -86,13 +86,13 @@ pub record Bits (h : List ℕ) (s q bit set : ℕ) : Type 0 where
   pub sum : set ≡ holdersBelow h s q
 
 module _ (h : List ℕ) (s : ℕ) where
-  pub bits-none : Bits h s 0 1 0
-  unfolding holdersBelow sumTo
-  bits-none = record { peers = omega arith; power = refl; byte = omega arith; below = omega arith; sum = refl }
+  pub holders-none : Holders h s 0 1 0
+  unfolding holdersBelow bits sumTo
+  holders-none = record { peers = omega arith; power = refl; byte = omega arith; below = omega arith; sum = refl }
 
-  pub bits-more : (q bit set : ℕ) {b : ℕ} → Bits h s q bit set → q < 8 → (b ≡ bitAt h s q bit) × (b ≤ bit) → Bits h s (q + 1) (2 * bit) (b + set)
-  unfolding holdersBelow sumTo
-  bits-more q bit set {b} g l e =
+  pub holders-more : (q bit set : ℕ) {b : ℕ} → Holders h s q bit set → q < 8 → (b ≡ bitAt h s q bit) × (b ≤ bit) → Holders h s (q + 1) (2 * bit) (b + set)
+  unfolding holdersBelow bits sumTo
+  holders-more q bit set {b} g l e =
       let x : 2 ^ (q + 1) ≡ 2 * 2 ^ q = rw add-one (omega arith) in
       let y : 2 * bit ≡ 2 ^ (q + 1) = rw (x, g .power) in
       record {
@@ -103,9 +103,13 @@ module _ (h : List ℕ) (s : ℕ) where
         sum = rw (add-one, e .0, g .power, g .sum);
       }
 
-  pub bits-all : (q : ℕ) {bit set : ℕ} → Bits h s q bit set → q ≡ 8 → set ≡ holdersAt h s
+  pub holders-all : (q : ℕ) {bit set : ℕ} → Holders h s q bit set → q ≡ 8 → set ≡ holdersAt h s
   unfolding holdersAt
-  bits-all q g f = rw (← f) (g .sum)
+  holders-all q g f = rw (← f) (g .sum)
+
+-- without
+pub byte-shift : (q : ℕ) → q < 8 → 1 * 2 ^ q % 256 ≡ 2 ^ q
+byte-shift q l = let m : 2 ^ q < 2 ^ 8 = pow-lt l in omega arith
 
 -- clear_peer
 module _ (h : List ℕ) (p : ℕ) where

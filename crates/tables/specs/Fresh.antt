@@ -1,22 +1,21 @@
 -- Tables of zeros, seen, are the model's start.
 -- Assumes nothing.
-use Prim.Native.Nat.{ℕ, zero, suc, _+_, _*_}
+use Prim.Native.Nat.{ℕ, _+_, _*_}
 use mathlib.Core.Path.{_≡_, refl, ap, _∙_, fun-ext}
 use lib.ListN.{replicate}
-use Rattle.quota.specs.declared.Charges.{Charges}
 use Rattle.quota.specs.Charges.{nothing, freshCharges}
 use Rattle.laws.specs.Build.{build}
-use Rattle.model.specs.State.{Handle, Life, noUser, start}
+use Rattle.model.specs.State.{noUser, start}
 use Rattle.model.specs.State.Status.{unopened}
 use Rattle.model.specs.State.Life.{dead}
 use Rattle.model.specs.State.Handle.{none}
-use Rattle.tables.specs.Guards.{upto, upto-const, zeros-at}
+use Rattle.laws.specs.Tables.{zeros-at}
+use Rattle.laws.specs.Guards.{upto, upto-const}
 use Rattle.tables.specs.Peers.{peerRow}
-use Rattle.tables.specs.Handles.{handleRow, idAt, countAt}
 use Rattle.tables.specs.Charges.{chargeAt, chargesAt}
 use Rattle.tables.specs.PeersView.{PeerRow, rowAt, statusIn, userIn, givenIn, column, statusV, userV, givenV, acceptedV}
 use Rattle.tables.specs.NodesView.{lifeAt, lifeV}
-use Rattle.tables.specs.HandlesView.{handleIn, handlesOf, handleV}
+use Rattle.tables.specs.HandlesView.{handlesOf, handleV}
 use Rattle.tables.specs.ChargesView.{chargesV}
 
 row-fresh : (n p : ℕ) → rowAt (replicate n 0) p ≡ record { state = 0; user = 0; given = 0 }

@@ -1,7 +1,7 @@
 -- The table of handles, 2,048 numbers: for each peer and slot the ID and the count, 0 where the peer has no handle to the slot's node.
 -- Assumes nothing.
-use Prim.Native.Nat.{ℕ, zero, suc, _+_, _*_, _%_, _^_}
-use mathlib.Core.Bool.{Bool, false}
+use Prim.Native.Nat.{ℕ, zero, suc, _+_, _*_, _%_}
+use mathlib.Core.Bool.{Bool, false, not}
 use mathlib.Core.List.{List}
 use lib.ListN.{getD, set}
 use lib.Dec.{eqb, ltb}
@@ -10,6 +10,7 @@ use Rattle.laws.specs.Sums.{sumTo}
 use Rattle.laws.specs.Search.{first}
 use Rattle.tables.specs.declared.Found.{Found}
 use Rattle.tables.specs.declared.Found.the-variants.{At, Nothing}
+use Rattle.laws.specs.Bits.{bits}
 use Rattle.tables.specs.Peers.{modulus}
 
 -- The place of a handle's ID; its count stands behind it.
@@ -43,12 +44,16 @@ totalBelow h s n = sumTo (λ q. countAt h q s) n
 unfoldable pub totalAt : List ℕ → ℕ → ℕ
 totalAt h s = totalBelow h s 8
 
--- Bit q is set where the peer q holds a handle to the slot's node: of the peers below n, and of all of them.
+-- The peer holds a handle to the slot's node.
+abbrev pub heldAt : List ℕ → ℕ → ℕ → Bool
+heldAt h p s = not (eqb (countAt h p s) 0)
+
+-- Bit q is set where the peer q holds one: of the peers below n, and of all of them.
 abbrev pub bitAt : List ℕ → ℕ → ℕ → ℕ → ℕ
-bitAt h s q bit = pick (eqb (countAt h q s) 0) 0 bit
+bitAt h s q x = pick (heldAt h q s) x 0
 
 unfoldable pub holdersBelow : List ℕ → ℕ → ℕ → ℕ
-holdersBelow h s n = sumTo (λ q. bitAt h s q (2 ^ q)) n
+holdersBelow h s n = bits (λ q. heldAt h q s) n
 
 unfoldable pub holdersAt : List ℕ → ℕ → ℕ
 holdersAt h s = holdersBelow h s 8

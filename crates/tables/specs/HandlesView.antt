@@ -5,23 +5,28 @@ use mathlib.Core.Path.{_≡_, refl, sym, ap, _∙_, fun-ext}
 use mathlib.Core.Bool.{Bool, true, false, not}
 use mathlib.Core.List.{List}
 use native.Mathlib.Omega.{arith}
+use native.Mathlib.Nat.{zero-add}
 use lib.ListN.{length, getD, set, length-set}
 use lib.Seq.{getD-set-same, getD-set-other}
+use lib.Count.{trailingZeros}
+use lib.Pow.{pow-pos}
 use lib.Dec.{eqb, ltb}
 use borrow.Author.Tests.{ltb-true, ltb-false, eqb-true, eqb-false, ne-eqb, lt-ltb, le-ltb}
 use Rattle.laws.specs.Tests.{pick, Seen, Seen.is-true, Seen.is-false, look, Same, Same.same, Same.other, same?, clash}
-use Rattle.laws.specs.Tables.{upd, upd-same, upd-other}
+use Rattle.laws.specs.Tables.{upd, upd-same, upd-other, upd-self, upd-twice}
 use Rattle.laws.specs.Sums.{sumTo, sum-ext}
-use Rattle.laws.specs.Search.{first, first-le, first-found}
+use Rattle.laws.specs.Search.{first, first-le, first-found, first-ext}
 use Rattle.model.specs.Numbers.{peers, nodes}
-use Rattle.model.specs.Lists.{either, anyBelow}
+use Rattle.model.specs.Lists.{anyBelow}
 use Rattle.model.specs.State.{Handle, handleOf, held, count, idOr, hasId, State, slotOf, total, heldByAny}
 use Rattle.model.specs.State.Handle.{none, some}
+use Rattle.model.specs.Changes.{givenAfter}
 use Rattle.model.specs.Replies.{holdersOf}
 use Rattle.tables.specs.declared.Found.the-variants.{At, Nothing}
-use Rattle.tables.specs.Guards.{upto, upto-at, upto-ext, upto-upd, upd-self, first-ext}
+use Rattle.laws.specs.Bits.{bit, bits, bits-ext, bits-first}
+use Rattle.laws.specs.Guards.{upto, upto-at, upto-ext, upto-upd}
 use Rattle.tables.specs.Peers.{modulus}
-use Rattle.tables.specs.Handles.{handleRow, idAt, countAt, hasAt, findAt, foundOf, lookup, totalBelow, totalAt, bitAt, holdersBelow, holdersAt, putHandle, clearBelow, clearPeer}
+use Rattle.tables.specs.Handles.{idAt, countAt, hasAt, findAt, foundOf, lookup, totalBelow, totalAt, heldAt, holdersBelow, holdersAt, putHandle, clearBelow, clearPeer}
 
 abbrev pub handleIn : List ℕ → ℕ → ℕ → Handle
 handleIn h p s = handleOf (idAt h p s) (countAt h p s)
@@ -112,6 +117,10 @@ of-id : (a c d : ℕ) → idOr d (handleOf a c) ≡ pick (eqb c 0) d a
 of-id a zero d = refl
 of-id a (suc c) d = rw (ne-eqb (suc c) 0 (λ x. absurd (omega arith)))
 
+of-given : (a c n : ℕ) → givenAfter (handleOf a c) n ≡ pick (eqb c 0) (suc n) n
+of-given a zero n = refl
+of-given a (suc c) n = rw (ne-eqb (suc c) 0 (λ x. absurd (omega arith)))
+
 of-some : (a c : ℕ) → (c ≡ 0 → ⊥) → handleOf a c ≡ some a c
 of-some a zero n = absurd (n refl)
 of-some a (suc c) n = refl
@@ -124,11 +133,18 @@ module _ (h : List ℕ) (p s : ℕ) (lp : p < 8) (ls : s < 128) where
   pub count-is : countAt h p s ≡ count (handleV h p s)
   count-is = rw handle-is (sym (of-count (idAt h p s) (countAt h p s)))
 
-  pub held-is : held (handleV h p s) ≡ not (eqb (countAt h p s) 0)
+  pub held-is : held (handleV h p s) ≡ heldAt h p s
   held-is = rw handle-is (of-held (idAt h p s) (countAt h p s))
 
   pub id-is : (d : ℕ) → idOr d (handleV h p s) ≡ pick (eqb (countAt h p s) 0) d (idAt h p s)
   id-is d = rw handle-is (of-id (idAt h p s) (countAt h p s) d)
+
+  -- how many IDs were given once the peer has a handle to this node too
+  pub given-after : (n : ℕ) → givenAfter (handleV h p s) n ≡ pick (eqb (countAt h p s) 0) (suc n) n
+  given-after n = rw handle-is (of-given (idAt h p s) (countAt h p s) n)
+
+pub count-small : (h : List ℕ) (p s : ℕ) → countAt h p s < modulus
+count-small h p s = omega arith
 
 -- The lookup is the model's.
 module _ (h : List ℕ) (p i : ℕ) (lp : p < 8) where
@@ -190,22 +206,36 @@ module _ (h : List ℕ) (p i : ℕ) (lp : p < 8) where
           let y : idAt h p s ≡ i = eqb-true (idAt h p s) i (rw f at t) in
           rw (handle-is h p s lp (x .1), ← y) (of-some (idAt h p s) (countAt h p s) (eqb-false (countAt h p s) 0 f))
 
+any-bits : (t : ℕ → Bool) (n : ℕ) → anyBelow t n ≡ not (eqb (bits t n) 0)
+unfolding bits sumTo
+any-bits t zero = refl
+any-bits t (suc n) = go (look (t n)) (any-bits t n)
+  where
+    go : Seen (t n) → anyBelow t n ≡ not (eqb (bits t n) 0) → anyBelow t (suc n) ≡ not (eqb (bits t (suc n)) 0)
+    go (is-true e) ih = rw (e, ne-eqb (2 ^ n + sumTo (bit t) n) 0 (λ x. absurd (omega (arith, pow-pos n))))
+    go (is-false e) ih = rw (e, zero-add) ih
+
 -- Sums over the peers are the model's.
 module _ (h : List ℕ) (s : ℕ) (ls : s < 128) where
   pub total-is : totalAt h s ≡ total (handleV h) s
   unfolding totalAt totalBelow total
   total-is = sum-ext (λ q. countAt h q s) (λ q. count (handleV h q s)) 8 (λ q lq. count-is h q s lq ls)
 
-  bits-are : (q : ℕ) → q < 8 → bitAt h s q (2 ^ q) ≡ pick (held (handleV h q s)) (2 ^ q) 0
-  bits-are q lq = rw (held-is h q s lq ls) (go (eqb (countAt h q s) 0))
-    where
-      go : (b : Bool) → pick b 0 (2 ^ q) ≡ pick (not b) (2 ^ q) 0
-      go true = refl
-      go false = refl
+  pub holders-are : holdersAt h s ≡ bits (λ q. held (handleV h q s)) peers
+  unfolding holdersAt holdersBelow
+  holders-are = bits-ext (λ q. heldAt h q s) (λ q. held (handleV h q s)) 8 (λ q lq. sym (held-is h q s lq ls))
 
   pub holders-is : (b : State) → b .handle ≡ handleV h → holdersAt h s ≡ holdersOf b s
-  unfolding holdersAt holdersBelow holdersOf
-  holders-is b e = rw e (sum-ext (λ q. bitAt h s q (2 ^ q)) (λ q. pick (held (handleV h q s)) (2 ^ q) 0) 8 bits-are)
+  unfolding holdersOf bits
+  holders-is b e = holders-are ∙ rw e
+
+  -- the lowest bit is that of the first holder; there is none where nobody holds
+  pub holders-first : trailingZeros 8 (holdersAt h s) ≡ first (λ q. held (handleV h q s)) peers
+  holders-first = rw holders-are (bits-first (λ q. held (handleV h q s)) 8)
+
+  pub holders-any : heldByAny (handleV h) s ≡ not (eqb (holdersAt h s) 0)
+  unfolding heldByAny
+  holders-any = rw holders-are (any-bits (λ q. held (handleV h q s)) 8)
 
 -- All handles of a peer gone.
 pub put-length : (h : List ℕ) (p s i c : ℕ) → length (putHandle h p s i c) ≡ length h
@@ -220,13 +250,6 @@ clear-below-length h p (suc n) = put-length (clearBelow h p n) p n 0 0 ∙ clear
 pub clear-length : (h : List ℕ) (p : ℕ) → length (clearPeer h p) ≡ length h
 unfolding clearPeer
 clear-length h p = clear-below-length h p 128
-
-upd-twice : {A : Type 0} (f : ℕ → A) (i : ℕ) (v w : A) → upd (upd f i v) i w ≡ upd f i w
-upd-twice f i v w = fun-ext (λ j. go j (same? i j))
-  where
-    go : (j : ℕ) → Same i j → upd (upd f i v) i w j ≡ upd f i w j
-    go j (same e) = rw (← e, upd-same, upd-same)
-    go j (other e) = rw (upd-other (upd f i v) i j w e, upd-other f i j v e, upd-other f i j w e)
 
 past : (h : List ℕ) (p t : ℕ) → ltb t 128 ≡ false → handlesOf h p t ≡ none
 unfolding handlesOf upto

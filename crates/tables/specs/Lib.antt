@@ -3,7 +3,6 @@ pub mod Nodes
 pub mod Handles
 pub mod Charges
 pub mod CodeLaws
-pub mod Guards
 pub mod PeersView
 pub mod NodesView
 pub mod HandlesView

@@ -11,7 +11,7 @@ use Rattle.laws.specs.Tests.{pick, Same, Same.same, Same.other, same?}
 use Rattle.laws.specs.Tables.{upd, upd-same, upd-other}
 use Rattle.model.specs.State.{Life, isLive}
 use Rattle.model.specs.State.Life.{live, dead}
-use Rattle.tables.specs.Guards.{upto, upto-at, upto-upd}
+use Rattle.laws.specs.Guards.{upto, upto-at, upto-upd}
 use Rattle.tables.specs.Nodes.{liveAt, setLive, setDead}
 
 unfoldable pub lifeAt : List ℕ → ℕ → Life

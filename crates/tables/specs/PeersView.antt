@@ -1,23 +1,21 @@
 -- The table of peers seen as the model's columns: status, user, given IDs and accepted commands.
 -- Assumes nothing.
 use Prim.Native.Nat.{ℕ, suc, _+_, _*_, _%_, _<_}
-use mathlib.Core.Path.{_≡_, refl, sym, ap, _∙_, fun-ext}
-use mathlib.Core.Bool.{Bool, true, false}
+use mathlib.Core.Path.{_≡_, refl, ap, _∙_, fun-ext}
 use mathlib.Core.List.{List}
 use native.Mathlib.Omega.{arith}
 use lib.ListN.{length, getD, set, length-set}
 use lib.Seq.{getD-set-same, getD-set-other}
 use lib.Dec.{eqb}
-use borrow.Author.Tests.{lt-ltb}
 use Rattle.laws.specs.Tests.{pick, Same, Same.same, Same.other, same?}
-use Rattle.laws.specs.Tables.{upd, upd-same, upd-other}
+use Rattle.laws.specs.Tables.{upd, upd-same, upd-other, upd-self, upd-map}
 use Rattle.model.specs.State as model
 use Rattle.model.specs.State.{noUser}
 use Rattle.model.specs.State.Status.{unopened, opened, disconnected}
-use Rattle.model.specs.Refusals.{present, openable}
+use Rattle.model.specs.Refusals.{present}
 use Rattle.tables.specs.declared.Status.{Status}
 use Rattle.tables.specs.declared.Status.the-variants.{Unopened, Open, Disconnected}
-use Rattle.tables.specs.Guards.{upto, upto-at, upto-upd, upd-self, upd-map}
+use Rattle.laws.specs.Guards.{upto, upto-at, upto-upd}
 use Rattle.tables.specs.Peers.{modulus, peerRow, acceptedAt, stateAt, statusOf, statusAt, refusalOf, standingAt, userAt, givenAt, setOpen, setDisconnected, setGiven, countCommand}
 
 -- The three numbers of a peer.
@@ -263,6 +261,15 @@ module _ (ps : List ℕ) (p : ℕ) (l : p < 8) where
       go Unopened = refl
       go Open = refl
       go Disconnected = refl
+
+  pub open-is : standingAt ps p ≡ 0 → statusV ps p ≡ opened
+  unfolding standingAt
+  open-is h = rw status-is (go (statusAt ps p) h)
+    where
+      go : (x : Status) → refusalOf x ≡ 0 → statusSeen x ≡ opened
+      go Unopened z = absurd (omega arith)
+      go Open z = refl
+      go Disconnected z = absurd (omega arith)
 
   pub user-is : (statusV ps p ≡ unopened → ⊥) → userV ps p ≡ userAt ps p
   unfolding statusV userV rowAt

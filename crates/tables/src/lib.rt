@@ -1,7 +1,8 @@
 // The lent tables of peers, nodes, handles and charges, each read and written by small functions of one table. A function
 // requires the size of the table that it is lent and bounds of the indices; any contents have a meaning.
 ghost use mathlib.Core.Path.{_≡_};
-ghost use Prim.Native.Nat.{_<_, _≤_};
+ghost use Prim.Native.Nat.{_-_, _^_, _<_, _≤_};
+ghost use lib.Count.{trailingZeros};
 ghost use lib.ListN.{length};
 ghost use Rattle.tables.specs.Peers.{modulus, acceptedAt, statusAt, standingAt, userAt, givenAt, setOpen, setDisconnected, setGiven, countCommand};
 ghost use Rattle.tables.specs.Nodes.{liveAt, setLive, setDead};
@@ -240,6 +241,22 @@ pub fn holders(handles: &[u64], s: usize) -> u8
         q += 1;
     }
     set as u8
+}
+
+// The lowest place of a set of bits, 8 where it is empty.
+pub fn lowest(set: u8) -> usize
+    ensures { λ r. ⌜ (r ≡ trailingZeros 8 set) × (r ≤ 8) ⌝ }
+{
+    u8::trailing_zeros(set) as usize
+}
+
+// The set with the bit of the place q taken off.
+pub fn without(set: u8, q: usize) -> u8
+    requires { ⌜ q < 8 ⌝ }
+    ensures { λ r. ⌜ r ≡ set - 2 ^ q ⌝ }
+{
+    let bit = 1u8 << q;
+    if bit <= set { set - bit } else { 0 }
 }
 
 // All handles of the peer are gone.

@@ -28,13 +28,16 @@ loop-less : tie.Need-loop-less Inv-loop μ-loop
 loop-less c = search needs
 
 loop-again : tie.Need-loop-again Inv-loop μ-loop
-loop-again c = (omega arith, omega (arith, (c .before .before .put-handle) .kept .0, (c .before .before .before .before .before .loop) .inv .1), clear-more _ _ _ ((c .before .before .before .before .before .loop) .inv .2) ((c .before .before .put-handle) .ensures))
+loop-again c =
+    let put = c .before .before .put-handle in
+    let loop = c .before .before .before .before .before .loop in
+    (omega arith, omega (arith, put .kept .0, loop .inv .1), clear-more _ _ _ (loop .inv .2) (put .ensures))
 
 same-length : tie.Need-same-length Inv-loop μ-loop
 same-length c = search needs
 
 returns : tie.Need-returns Inv-loop μ-loop
-returns c = clear-all _ _ _ ((c .before .loop) .inv .2) (omega (arith, (c .before .loop) .inv .0, (c .loop-test) .left))
+returns c = clear-all _ _ _ (c .before .loop .inv .2) (omega (arith, c .before .loop .inv .0, c .loop-test .left))
 
 pub clear-peer-spec : {M : Type 1} → statement M
 clear-peer-spec =

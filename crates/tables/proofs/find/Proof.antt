@@ -23,7 +23,10 @@ holds-requires : tie.Need-holds-requires Inv-loop μ-loop
 holds-requires c κs = search needs
 
 returns : tie.Need-returns Inv-loop μ-loop
-returns c = found-at ((c .before .before .before .before .before .args) .handles .now) ((c .before .before .before .before .before .args) .p .0) ((c .before .before .before .before .before .args) .id .0) ((c .before .before .before .loop) .s) (omega arith) ((c .before .before .before .loop) .inv .1) (sym ((c .before .holds) .ensures) ∙ (c .if1) .taken)
+returns c =
+    let p = c .before .before .before in
+    let a = p .before .before .args in
+    found-at (a .handles .now) (a .p .0) (a .id .0) (p .loop .s) (omega arith) (p .loop .inv .1) (sym (c .before .holds .ensures) ∙ c .if1 .taken)
 
 add-s : tie.Need-add-s Inv-loop μ-loop
 add-s c = search needs
@@ -32,10 +35,12 @@ loop-less : tie.Need-loop-less Inv-loop μ-loop
 loop-less c = search needs
 
 loop-again : tie.Need-loop-again Inv-loop μ-loop
-loop-again c = (omega arith, below-more _ _ ((c .before .before .before .loop) .inv .1) (sym ((c .before .holds) .ensures) ∙ (c .if1) .left))
+loop-again c = (omega arith, below-more _ _ (c .before .before .before .loop .inv .1) (sym (c .before .holds .ensures) ∙ c .if1 .left))
 
 returns-2 : tie.Need-returns-2 Inv-loop μ-loop
-returns-2 c = found-nothing ((c .before .before .before .args) .handles .now) ((c .before .before .before .args) .p .0) ((c .before .before .before .args) .id .0) (λ j l. (c .before .loop) .inv .1 j (omega arith))
+returns-2 c =
+    let a = c .before .before .before .args in
+    found-nothing (a .handles .now) (a .p .0) (a .id .0) (λ j l. c .before .loop .inv .1 j (omega arith))
 
 pub find-spec : {M : Type 1} → statement M
 find-spec =

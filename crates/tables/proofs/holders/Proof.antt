@@ -1,5 +1,5 @@
 -- `tables::holders` meets its contract: the loop's invariant is the sum of the bits of the peers passed, which is below the next bit. Assumes nothing.
-use Rattle.tables.specs.CodeLaws.{Bits, bits-none, bits-more, bits-all}
+use Rattle.tables.specs.CodeLaws.{Holders, holders-none, holders-more, holders-all}
 use Prim.Native.Nat.{_-_}
 use native.Mathlib.Omega.{arith}
 use borrow.Author.Needs.{needs}
@@ -7,13 +7,13 @@ use Rattle.tables.proofs.holders.Statement.{statement}
 use Rattle.tables.proofs.holders.Tie as tie
 
 abbrev Inv-loop : tie.InvT-loop
-Inv-loop handles s q₀ bit₀ set₀ q bit set = Bits handles s q bit set
+Inv-loop handles s q₀ bit₀ set₀ q bit set = Holders handles s q bit set
 
 abbrev μ-loop : tie.MeasureT-loop
 μ-loop handles s q₀ bit₀ set₀ q bit set = 8 - q
 
 loop-holds : tie.Need-loop-holds Inv-loop μ-loop
-loop-holds c = bits-none _ _
+loop-holds c = holders-none _ _
 
 bit-of-requires : tie.Need-bit-of-requires Inv-loop μ-loop
 bit-of-requires c κs = search needs
@@ -31,13 +31,13 @@ loop-less : tie.Need-loop-less Inv-loop μ-loop
 loop-less c = search needs
 
 loop-again : tie.Need-loop-again Inv-loop μ-loop
-loop-again c = bits-more _ _ _ _ _ ((c .before .before .loop) .inv) ((c .before .loop-test) .taken) ((c .bit-of) .ensures)
+loop-again c = holders-more _ _ _ _ _ (c .before .before .loop .inv) (c .before .loop-test .taken) (c .bit-of .ensures)
 
 cast-result : tie.Need-cast-result Inv-loop μ-loop
 cast-result c = search needs
 
 returns : tie.Need-returns Inv-loop μ-loop
-returns c = bits-all _ _ ((c .before .loop) .q) ((c .before .loop) .inv) (omega (arith, (c .before .loop) .inv .peers, (c .loop-test) .left))
+returns c = holders-all _ _ (c .before .loop .q) (c .before .loop .inv) (omega (arith, c .before .loop .inv .peers, c .loop-test .left))
 
 pub holders-spec : {M : Type 1} → statement M
 holders-spec =

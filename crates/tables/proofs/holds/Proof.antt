@@ -8,7 +8,7 @@ count-of-requires : tie.Need-count-of-requires
 count-of-requires c κs = search needs
 
 returns : tie.Need-returns
-returns c = holds-none _ _ _ _ ((c .before .count-of) .ensures .0) ((c .if1) .taken)
+returns c = holds-none _ _ _ _ (c .before .count-of .ensures .0) (c .if1 .taken)
 
 mul-result : tie.Need-mul-result
 mul-result c = search needs
@@ -26,7 +26,7 @@ shared-slice-read-result : tie.Need-shared-slice-read-result
 shared-slice-read-result c = search needs
 
 returns-2 : tie.Need-returns-2
-returns-2 c = holds-some _ _ _ _ ((c .before .before .before .before .count-of) .ensures .0) ((c .before .before .before .if1) .left)
+returns-2 c = holds-some _ _ _ _ (c .before .before .before .before .count-of .ensures .0) (c .before .before .before .if1 .left)
 
 pub holds-spec : {M : Type 1} → statement M
 holds-spec =

@@ -29,7 +29,9 @@ charge-at-requires-4 : tie.Need-charge-at-requires-4
 charge-at-requires-4 c κs = search needs
 
 returns : tie.Need-returns
-returns c = loaded _ _ ((c .before .before .before .charge-at) .ensures) ((c .before .before .charge-at2) .ensures) ((c .before .charge-at3) .ensures) ((c .charge-at4) .ensures)
+returns c =
+    let b = c .before .before in
+    loaded _ _ (b .before .charge-at .ensures) (b .charge-at2 .ensures) (c .before .charge-at3 .ensures) (c .charge-at4 .ensures)
 
 pub load-spec : {M : Type 1} → statement M
 load-spec =

@@ -18,13 +18,13 @@ enum-told-3 : tie.Need-enum-told-3
 enum-told-3 c = search needs
 
 returns : tie.Need-returns
-returns c = standing-is _ _ Unopened ((c .before .before .status-of) .ensures) ((c .enum-told) .given .1)
+returns c = standing-is _ _ Unopened (c .before .before .status-of .ensures) (c .enum-told .given .1)
 
 returns-2 : tie.Need-returns-2
-returns-2 c = standing-is _ _ Open ((c .before .before .status-of) .ensures) ((c .enum-told2) .given .1)
+returns-2 c = standing-is _ _ Open (c .before .before .status-of .ensures) (c .enum-told2 .given .1)
 
 returns-3 : tie.Need-returns-3
-returns-3 c = standing-is _ _ Disconnected ((c .before .before .status-of) .ensures) ((c .enum-told3) .given .1)
+returns-3 c = standing-is _ _ Disconnected (c .before .before .status-of .ensures) (c .enum-told3 .given .1)
 
 pub standing-spec : {M : Type 1} → statement M
 standing-spec =

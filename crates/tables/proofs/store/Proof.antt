@@ -44,7 +44,12 @@ same-length : tie.Need-same-length
 same-length c = search needs
 
 returns : tie.Need-returns
-returns c = stored _ _ ((c .before .before .before .before .before .before .before .before .before .before .before .before .before .before .before .before .before .before .before .before .before .before .before .args) .c) ((c .before .before .before .before .before .before .before .before .before .before .before .before .before .before .before .before .before .put-charge) .ensures) ((c .before .before .before .before .before .before .before .before .before .before .before .before .put-charge2) .ensures) ((c .before .before .before .before .before .before .before .put-charge3) .ensures) ((c .before .before .put-charge4) .ensures)
+returns c =
+    let d = c .before .before in
+    let b = d .before .before .before .before .before in
+    let a = b .before .before .before .before .before in
+    let o = a .before .before .before .before .before in
+    stored _ _ (o .before .before .before .before .before .before .args .c) (o .put-charge .ensures) (a .put-charge2 .ensures) (b .put-charge3 .ensures) (d .put-charge4 .ensures)
 
 pub store-spec : {M : Type 1} → statement M
 store-spec =

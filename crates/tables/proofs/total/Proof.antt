@@ -31,10 +31,12 @@ loop-less : tie.Need-loop-less Inv-loop μ-loop
 loop-less c = search needs
 
 loop-again : tie.Need-loop-again Inv-loop μ-loop
-loop-again c = (omega arith, omega (arith, (c .before .before .loop) .inv .1, (c .count-of) .ensures .1), total-more _ _ _ ((c .count-of) .ensures .0) ((c .before .before .loop) .inv .2))
+loop-again c =
+    let loop = c .before .before .loop in
+    (omega arith, omega (arith, loop .inv .1, c .count-of .ensures .1), total-more _ _ _ (c .count-of .ensures .0) (loop .inv .2))
 
 returns : tie.Need-returns Inv-loop μ-loop
-returns c = total-all _ _ _ ((c .before .loop) .inv .2) (omega (arith, (c .before .loop) .inv .0, (c .loop-test) .left))
+returns c = total-all _ _ _ (c .before .loop .inv .2) (omega (arith, c .before .loop .inv .0, c .loop-test .left))
 
 pub total-spec : {M : Type 1} → statement M
 total-spec =
