@@ -12,7 +12,7 @@ use Rattle.laws.specs.Tests.{pick, Seen, Seen.is-true, Seen.is-false, lo
 use Rattle.laws.specs.Tables.{upd, upd-same, upd-other}
 use Rattle.laws.specs.Sums.{sumTo, sum-ext, sum-at}
 use Rattle.laws.specs.Loads.{sum-front}
-use Rattle.laws.specs.Search.{first, first-before}
+use Rattle.laws.specs.Search.{first, first-found, first-before}
 
 -- bit q is set where q passes, of the places below n
 abbrev pub bit : (ℕ → Bool) → ℕ → ℕ
@@ -105,3 +105,23 @@ bits-without t n k l e =
     let a : bit (upd t k false) k ≡ 0 = rw (upd-same {A = Bool}) in
     let b : bit t k ≡ 2 ^ k = rw e in
     omega arith
+
+-- a turn of a walk over the places of a set: its lowest bit, and the set that is left
+pub record Walked (t : ℕ → Bool) (n q rest : ℕ) : Type 0 where
+  pub inside : q < n
+  pub passes : t q ≡ true
+  pub before : (j : ℕ) → j < q → t j ≡ false
+  pub left : rest ≡ bits (upd t q false) n
+
+pub bits-walk : (t : ℕ → Bool) (n set q rest : ℕ) → set ≡ bits t n → (set ≡ 0 → ⊥) → q ≡ trailingZeros n set → rest ≡ set - 2 ^ q → Walked t n q rest
+bits-walk t n set q rest e some at off =
+    let f : q ≡ first t n = at ∙ ap (trailingZeros n) e ∙ bits-first t n in
+    let l : first t n < n = bits-some t n (λ z. some (e ∙ z)) in
+    let p : t (first t n) ≡ true = first-found t n l in
+    let w : bits t n - 2 ^ first t n ≡ bits (upd t (first t n) false) n = bits-without t n (first t n) l p in
+    record {
+      inside = rw f l;
+      passes = rw f p;
+      before = λ j m. first-before t n j (rw f at m);
+      left = rw (off, e, f) w;
+    }

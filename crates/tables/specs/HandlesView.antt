@@ -151,7 +151,7 @@ module _ (h : List ℕ) (p i : ℕ) (lp : p < 8) where
   pub find-is : findAt h p i ≡ slotOf (handleV h p) i
   unfolding findAt hasAt slotOf
   find-is =
-      first-ext (λ s. pick (eqb (countAt h p s) 0) false (eqb (idAt h p s) i)) (λ s. hasId i (handleV h p s)) 128
+      first-ext (hasAt h p i) (λ s. hasId i (handleV h p s)) 128
       (λ s ls. rw (handle-is h p s lp ls) (sym (of-has (idAt h p s) (countAt h p s) i)))
 
   found-of : (n s : ℕ) → foundOf n ≡ At s → (s ≡ n) × (s < 128)

@@ -54,5 +54,9 @@ setDisconnected ps p = set ps (peerRow p) 2
 unfoldable pub setGiven : List ℕ → ℕ → ℕ → List ℕ
 setGiven ps p n = set ps (peerRow p + 2) n
 
+-- The number of the command that is accepted next.
+abbrev pub nextNumber : List ℕ → ℕ
+nextNumber ps = acceptedAt ps + 1
+
 unfoldable pub countCommand : List ℕ → List ℕ
-countCommand ps = set ps 0 (acceptedAt ps + 1)
+countCommand ps = set ps 0 (nextNumber ps)

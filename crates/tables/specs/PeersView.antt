@@ -16,7 +16,7 @@ use Rattle.model.specs.Refusals.{present}
 use Rattle.tables.specs.declared.Status.{Status}
 use Rattle.tables.specs.declared.Status.the-variants.{Unopened, Open, Disconnected}
 use Rattle.laws.specs.Guards.{upto, upto-at, upto-upd}
-use Rattle.tables.specs.Peers.{modulus, peerRow, acceptedAt, stateAt, statusOf, statusAt, refusalOf, standingAt, userAt, givenAt, setOpen, setDisconnected, setGiven, countCommand}
+use Rattle.tables.specs.Peers.{modulus, peerRow, acceptedAt, stateAt, statusOf, statusAt, refusalOf, standingAt, userAt, givenAt, setOpen, setDisconnected, setGiven, nextNumber, countCommand}
 
 -- The three numbers of a peer.
 pub record PeerRow : Type 0 where
@@ -26,6 +26,16 @@ pub record PeerRow : Type 0 where
 
 unfoldable pub rowAt : List ℕ → ℕ → PeerRow
 rowAt ps p = record { state = stateAt ps p; user = userAt ps p; given = getD ps (peerRow p + 2) 0 }
+
+-- The row of a peer that is opened, that disconnects, and to which n IDs are given.
+abbrev openRow : List ℕ → ℕ → ℕ → PeerRow
+openRow ps p u = record { state = 1; user = u; given = rowAt ps p .given }
+
+abbrev disconnectedRow : List ℕ → ℕ → PeerRow
+disconnectedRow ps p = record { state = 2; user = rowAt ps p .user; given = rowAt ps p .given }
+
+abbrev givenRow : List ℕ → ℕ → ℕ → PeerRow
+givenRow ps p n = record { state = rowAt ps p .state; user = rowAt ps p .user; given = n }
 
 -- What the model has of each: a peer never opened has no user.
 abbrev pub statusSeen : Status → model.Status
@@ -88,14 +98,14 @@ module _ {A : Type 0} (g : PeerRow → A) (d : A) where
 
 -- One row written.
 module _ (ps : List ℕ) (size : length ps ≡ 25) (p : ℕ) (l : p < 8) where
-  open-row : (u : ℕ) → rowAt (setOpen ps p u) ≡ upd (rowAt ps) p (record { state = 1; user = u; given = rowAt ps p .given })
+  open-row : (u : ℕ) → rowAt (setOpen ps p u) ≡ upd (rowAt ps) p (openRow ps p u)
   unfolding rowAt setOpen
   open-row u = fun-ext (λ q. go q (same? p q))
     where
       one : List ℕ
       one = set ps (1 + 3 * p) 1
 
-      go : (q : ℕ) → Same p q → rowAt (setOpen ps p u) q ≡ upd (rowAt ps) p (record { state = 1; user = u; given = rowAt ps p .given }) q
+      go : (q : ℕ) → Same p q → rowAt (setOpen ps p u) q ≡ upd (rowAt ps) p (openRow ps p u) q
       go q (same e) =
           rw (
             ← e,
@@ -108,7 +118,7 @@ module _ (ps : List ℕ) (size : length ps ≡ 25) (p : ℕ) (l : p < 8) where
           )
       go q (other e) =
           rw (
-            upd-other (rowAt ps) p q (record { state = 1; user = u; given = rowAt ps p .given }) e,
+            upd-other (rowAt ps) p q (openRow ps p u) e,
             getD-set-other one (1 + 3 * p + 1) (1 + 3 * q) u 0 (λ x. absurd (omega arith)),
             getD-set-other ps (1 + 3 * p) (1 + 3 * q) 1 0 (λ x. absurd (e (omega arith))),
             getD-set-other one (1 + 3 * p + 1) (1 + 3 * q + 1) u 0 (λ x. absurd (e (omega arith))),
@@ -117,11 +127,11 @@ module _ (ps : List ℕ) (size : length ps ≡ 25) (p : ℕ) (l : p < 8) where
             getD-set-other ps (1 + 3 * p) (1 + 3 * q + 2) 1 0 (λ x. absurd (omega arith)),
           )
 
-  disconnected-row : rowAt (setDisconnected ps p) ≡ upd (rowAt ps) p (record { state = 2; user = rowAt ps p .user; given = rowAt ps p .given })
+  disconnected-row : rowAt (setDisconnected ps p) ≡ upd (rowAt ps) p (disconnectedRow ps p)
   unfolding rowAt setDisconnected
   disconnected-row = fun-ext (λ q. go q (same? p q))
     where
-      go : (q : ℕ) → Same p q → rowAt (setDisconnected ps p) q ≡ upd (rowAt ps) p (record { state = 2; user = rowAt ps p .user; given = rowAt ps p .given }) q
+      go : (q : ℕ) → Same p q → rowAt (setDisconnected ps p) q ≡ upd (rowAt ps) p (disconnectedRow ps p) q
       go q (same e) =
           rw (
             ← e,
@@ -132,17 +142,17 @@ module _ (ps : List ℕ) (size : length ps ≡ 25) (p : ℕ) (l : p < 8) where
           )
       go q (other e) =
           rw (
-            upd-other (rowAt ps) p q (record { state = 2; user = rowAt ps p .user; given = rowAt ps p .given }) e,
+            upd-other (rowAt ps) p q (disconnectedRow ps p) e,
             getD-set-other ps (1 + 3 * p) (1 + 3 * q) 2 0 (λ x. absurd (e (omega arith))),
             getD-set-other ps (1 + 3 * p) (1 + 3 * q + 1) 2 0 (λ x. absurd (omega arith)),
             getD-set-other ps (1 + 3 * p) (1 + 3 * q + 2) 2 0 (λ x. absurd (omega arith)),
           )
 
-  given-row : (n : ℕ) → rowAt (setGiven ps p n) ≡ upd (rowAt ps) p (record { state = rowAt ps p .state; user = rowAt ps p .user; given = n })
+  given-row : (n : ℕ) → rowAt (setGiven ps p n) ≡ upd (rowAt ps) p (givenRow ps p n)
   unfolding rowAt setGiven
   given-row n = fun-ext (λ q. go q (same? p q))
     where
-      go : (q : ℕ) → Same p q → rowAt (setGiven ps p n) q ≡ upd (rowAt ps) p (record { state = rowAt ps p .state; user = rowAt ps p .user; given = n }) q
+      go : (q : ℕ) → Same p q → rowAt (setGiven ps p n) q ≡ upd (rowAt ps) p (givenRow ps p n) q
       go q (same e) =
           rw (
             ← e,
@@ -153,7 +163,7 @@ module _ (ps : List ℕ) (size : length ps ≡ 25) (p : ℕ) (l : p < 8) where
           )
       go q (other e) =
           rw (
-            upd-other (rowAt ps) p q (record { state = rowAt ps p .state; user = rowAt ps p .user; given = n }) e,
+            upd-other (rowAt ps) p q (givenRow ps p n) e,
             getD-set-other ps (1 + 3 * p + 2) (1 + 3 * q) n 0 (λ x. absurd (omega arith)),
             getD-set-other ps (1 + 3 * p + 2) (1 + 3 * q + 1) n 0 (λ x. absurd (omega arith)),
             getD-set-other ps (1 + 3 * p + 2) (1 + 3 * q + 2) n 0 (λ x. absurd (e (omega arith))),
@@ -162,15 +172,15 @@ module _ (ps : List ℕ) (size : length ps ≡ 25) (p : ℕ) (l : p < 8) where
   -- The peer is opened for the user u.
   pub status-open : (u : ℕ) → statusV (setOpen ps p u) ≡ upd (statusV ps) p opened
   unfolding statusV
-  status-open u = column-upd statusIn unopened ps (setOpen ps p u) p (record { state = 1; user = u; given = rowAt ps p .given }) (open-row u) l
+  status-open u = column-upd statusIn unopened ps (setOpen ps p u) p (openRow ps p u) (open-row u) l
 
   pub user-open : (u : ℕ) → userV (setOpen ps p u) ≡ upd (userV ps) p u
   unfolding userV
-  user-open u = column-upd userIn noUser ps (setOpen ps p u) p (record { state = 1; user = u; given = rowAt ps p .given }) (open-row u) l
+  user-open u = column-upd userIn noUser ps (setOpen ps p u) p (openRow ps p u) (open-row u) l
 
   pub given-open : (u : ℕ) → givenV (setOpen ps p u) ≡ givenV ps
   unfolding givenV
-  given-open u = column-keep givenIn 0 ps (setOpen ps p u) p (record { state = 1; user = u; given = rowAt ps p .given }) (open-row u) refl
+  given-open u = column-keep givenIn 0 ps (setOpen ps p u) p (openRow ps p u) (open-row u) refl
 
   pub accepted-open : (u : ℕ) → acceptedV (setOpen ps p u) ≡ acceptedV ps
   unfolding acceptedV setOpen
@@ -184,12 +194,12 @@ module _ (ps : List ℕ) (size : length ps ≡ 25) (p : ℕ) (l : p < 8) where
   pub status-disconnected : statusV (setDisconnected ps p) ≡ upd (statusV ps) p disconnected
   unfolding statusV
   status-disconnected =
-      column-upd statusIn unopened ps (setDisconnected ps p) p (record { state = 2; user = rowAt ps p .user; given = rowAt ps p .given }) disconnected-row l
+      column-upd statusIn unopened ps (setDisconnected ps p) p (disconnectedRow ps p) disconnected-row l
 
   pub given-disconnected : givenV (setDisconnected ps p) ≡ givenV ps
   unfolding givenV
   given-disconnected =
-      column-keep givenIn 0 ps (setDisconnected ps p) p (record { state = 2; user = rowAt ps p .user; given = rowAt ps p .given }) disconnected-row refl
+      column-keep givenIn 0 ps (setDisconnected ps p) p (disconnectedRow ps p) disconnected-row refl
 
   pub accepted-disconnected : acceptedV (setDisconnected ps p) ≡ acceptedV ps
   unfolding acceptedV setDisconnected
@@ -199,17 +209,17 @@ module _ (ps : List ℕ) (size : length ps ≡ 25) (p : ℕ) (l : p < 8) where
   pub status-given : (n : ℕ) → statusV (setGiven ps p n) ≡ statusV ps
   unfolding statusV
   status-given n =
-      column-keep statusIn unopened ps (setGiven ps p n) p (record { state = rowAt ps p .state; user = rowAt ps p .user; given = n }) (given-row n) refl
+      column-keep statusIn unopened ps (setGiven ps p n) p (givenRow ps p n) (given-row n) refl
 
   pub user-given : (n : ℕ) → userV (setGiven ps p n) ≡ userV ps
   unfolding userV
-  user-given n = column-keep userIn noUser ps (setGiven ps p n) p (record { state = rowAt ps p .state; user = rowAt ps p .user; given = n }) (given-row n) refl
+  user-given n = column-keep userIn noUser ps (setGiven ps p n) p (givenRow ps p n) (given-row n) refl
 
   pub given-given : (n : ℕ) → n < modulus → givenV (setGiven ps p n) ≡ upd (givenV ps) p n
   unfolding givenV
   given-given n h =
       let m : n % modulus ≡ n = omega arith in
-      column-upd givenIn 0 ps (setGiven ps p n) p (record { state = rowAt ps p .state; user = rowAt ps p .user; given = n }) (given-row n) l
+      column-upd givenIn 0 ps (setGiven ps p n) p (givenRow ps p n) (given-row n) l
       ∙ ap (upd (column givenIn 0 ps) p) m
 
   pub accepted-given : (n : ℕ) → acceptedV (setGiven ps p n) ≡ acceptedV ps
@@ -224,9 +234,9 @@ module _ (ps : List ℕ) where
       fun-ext
       (λ q.
       rw (
-        getD-set-other ps 0 (1 + 3 * q) (acceptedAt ps + 1) 0 (λ x. absurd (omega arith)),
-        getD-set-other ps 0 (1 + 3 * q + 1) (acceptedAt ps + 1) 0 (λ x. absurd (omega arith)),
-        getD-set-other ps 0 (1 + 3 * q + 2) (acceptedAt ps + 1) 0 (λ x. absurd (omega arith)),
+        getD-set-other ps 0 (1 + 3 * q) (nextNumber ps) 0 (λ x. absurd (omega arith)),
+        getD-set-other ps 0 (1 + 3 * q + 1) (nextNumber ps) 0 (λ x. absurd (omega arith)),
+        getD-set-other ps 0 (1 + 3 * q + 2) (nextNumber ps) 0 (λ x. absurd (omega arith)),
       ))
 
   pub status-counted : statusV (countCommand ps) ≡ statusV ps
@@ -244,8 +254,8 @@ module _ (ps : List ℕ) where
   pub accepted-counted : length ps ≡ 25 → suc (acceptedV ps) < modulus → acceptedV (countCommand ps) ≡ suc (acceptedV ps)
   unfolding acceptedV countCommand
   accepted-counted size h =
-      let m : (acceptedAt ps + 1) % modulus ≡ suc (acceptedAt ps) = omega arith in
-      rw (getD-set-same ps 0 (acceptedAt ps + 1) 0 (omega arith)) m
+      let m : nextNumber ps % modulus ≡ suc (acceptedAt ps) = omega arith in
+      rw (getD-set-same ps 0 (nextNumber ps) 0 (omega arith)) m
 
 -- What is read.
 module _ (ps : List ℕ) (p : ℕ) (l : p < 8) where
@@ -291,7 +301,7 @@ accepted-is ps = refl
 pub user-disconnected : (ps : List ℕ) → length ps ≡ 25 → (p : ℕ) → p < 8 → (statusV ps p ≡ unopened → ⊥) → userV (setDisconnected ps p) ≡ userV ps
 unfolding userV statusV
 user-disconnected ps size p l h =
-    column-keep userIn noUser ps (setDisconnected ps p) p (record { state = 2; user = rowAt ps p .user; given = rowAt ps p .given }) (disconnected-row ps size p l)
+    column-keep userIn noUser ps (setDisconnected ps p) p (disconnectedRow ps p) (disconnected-row ps size p l)
     (go (statusOf (rowAt ps p .state)) (λ e. h (column-at statusIn unopened ps p l ∙ e)))
   where
     go : (x : Status) → (statusSeen x ≡ unopened → ⊥) → rowAt ps p .user ≡ userSeen x (rowAt ps p .user)
