@@ -1,5 +1,6 @@
 pub mod Tests
 pub mod Tables
+pub mod Guards
 pub mod Sums
 pub mod Weights
 pub mod Loads
@@ -7,4 +8,5 @@ pub mod Build
 pub mod Stores
 pub mod Rows
 pub mod Search
+pub mod Bits
 pub mod Bytes

@@ -1,7 +1,7 @@
 -- The first place that passes a test.
 -- Assumes nothing.
 use Prim.Native.Nat.{ℕ, zero, suc, _+_, _-_, _≤_, _<_}
-use mathlib.Core.Path.{_≡_, sym, ap, _∙_}
+use mathlib.Core.Path.{_≡_, refl, sym, ap, _∙_}
 use mathlib.Core.Bool.{Bool, true, false}
 use native.Mathlib.Omega.{arith}
 use native.Mathlib.Nat.{not-suc-le-zero, le-of-suc-le-suc}
@@ -22,6 +22,12 @@ first-le p (suc n) = go (look (p zero)) (first-le (λ j. p (suc j)) n)
     go : Seen (p zero) → first (λ j. p (suc j)) n ≤ n → first p (suc n) ≤ suc n
     go (is-true e) ih = rw e (omega arith)
     go (is-false e) ih = rw e (omega arith)
+
+-- equal tests find the same place
+pub first-ext : (p q : ℕ → Bool) (n : ℕ) → ((j : ℕ) → j < n → p j ≡ q j) → first p n ≡ first q n
+unfolding first
+first-ext p q zero h = refl
+first-ext p q (suc n) h = rw (h zero (omega arith), first-ext (λ j. p (suc j)) (λ j. q (suc j)) n (λ j l. h (suc j) (omega arith)))
 
 pub first-found : (p : ℕ → Bool) (n : ℕ) → first p n < n → p (first p n) ≡ true
 unfolding first

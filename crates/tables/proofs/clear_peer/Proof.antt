@@ -1,0 +1,54 @@
+-- `tables::clear_peer` meets its contract: the loop's invariant is the table with the handles of the slots passed gone. Assumes nothing.
+use Rattle.tables.specs.Handles.{clearBelow}
+use Rattle.tables.specs.CodeLaws.{clear-none, clear-more, clear-all}
+use lib.ListN.{length}
+use mathlib.Core.Path.{_≡_, refl}
+use Prim.Native.Nat.{_≤_, _-_}
+use native.Mathlib.Omega.{arith}
+use borrow.Author.Needs.{needs}
+use Rattle.tables.proofs.clear_peer.Statement.{statement}
+use Rattle.tables.proofs.clear_peer.Tie as tie
+
+abbrev Inv-loop : tie.InvT-loop
+Inv-loop handles₀ p s₀ handles s = (s ≤ 128) × (length handles ≡ length handles₀) × (handles ≡ clearBelow handles₀ (p .0) s)
+
+abbrev μ-loop : tie.MeasureT-loop
+μ-loop handles₀ p s₀ handles s = 128 - s
+
+loop-holds : tie.Need-loop-holds Inv-loop μ-loop
+loop-holds c = (omega arith, refl, clear-none _ _)
+
+put-handle-requires : tie.Need-put-handle-requires Inv-loop μ-loop
+put-handle-requires c κs = search needs
+
+add-s : tie.Need-add-s Inv-loop μ-loop
+add-s c = search needs
+
+loop-less : tie.Need-loop-less Inv-loop μ-loop
+loop-less c = search needs
+
+loop-again : tie.Need-loop-again Inv-loop μ-loop
+loop-again c =
+    let put = c .before .before .put-handle in
+    let loop = c .before .before .before .before .before .loop in
+    (omega arith, omega (arith, put .kept .0, loop .inv .1), clear-more _ _ _ (loop .inv .2) (put .ensures))
+
+same-length : tie.Need-same-length Inv-loop μ-loop
+same-length c = search needs
+
+returns : tie.Need-returns Inv-loop μ-loop
+returns c = clear-all _ _ _ (c .before .loop .inv .2) (omega (arith, c .before .loop .inv .0, c .loop-test .left))
+
+pub clear-peer-spec : {M : Type 1} → statement M
+clear-peer-spec =
+    tie.close
+    (tie.spec
+    Inv-loop
+    μ-loop
+    loop-holds
+    put-handle-requires
+    add-s
+    loop-less
+    loop-again
+    same-length
+    returns)

@@ -1,0 +1,289 @@
+-- The table of handles seen as the model's handles: at count 0 there is none.
+-- Assumes nothing.
+use Prim.Native.Nat.{ℕ, zero, suc, _+_, _*_, _%_, _^_, _≤_, _<_}
+use mathlib.Core.Path.{_≡_, refl, sym, ap, _∙_, fun-ext}
+use mathlib.Core.Bool.{Bool, true, false, not}
+use mathlib.Core.List.{List}
+use native.Mathlib.Omega.{arith}
+use native.Mathlib.Nat.{zero-add}
+use lib.ListN.{length, getD, set, length-set}
+use lib.Seq.{getD-set-same, getD-set-other}
+use lib.Count.{trailingZeros}
+use lib.Pow.{pow-pos}
+use lib.Dec.{eqb, ltb}
+use borrow.Author.Tests.{ltb-true, ltb-false, eqb-true, eqb-false, ne-eqb, lt-ltb, le-ltb}
+use Rattle.laws.specs.Tests.{pick, Seen, Seen.is-true, Seen.is-false, look, Same, Same.same, Same.other, same?, clash}
+use Rattle.laws.specs.Tables.{upd, upd-same, upd-other, upd-self, upd-twice}
+use Rattle.laws.specs.Sums.{sumTo, sum-ext}
+use Rattle.laws.specs.Search.{first, first-le, first-found, first-ext}
+use Rattle.model.specs.Numbers.{peers, nodes}
+use Rattle.model.specs.Lists.{anyBelow}
+use Rattle.model.specs.State.{Handle, handleOf, held, count, idOr, hasId, State, slotOf, total, heldByAny}
+use Rattle.model.specs.State.Handle.{none, some}
+use Rattle.model.specs.Changes.{givenAfter}
+use Rattle.model.specs.Replies.{holdersOf}
+use Rattle.tables.specs.declared.Found.the-variants.{At, Nothing}
+use Rattle.laws.specs.Bits.{bit, bits, bits-ext, bits-first}
+use Rattle.laws.specs.Guards.{upto, upto-at, upto-ext, upto-upd}
+use Rattle.tables.specs.Peers.{modulus}
+use Rattle.tables.specs.Handles.{idAt, countAt, hasAt, findAt, foundOf, lookup, totalBelow, totalAt, heldAt, holdersBelow, holdersAt, putHandle, clearBelow, clearPeer}
+
+abbrev pub handleIn : List ℕ → ℕ → ℕ → Handle
+handleIn h p s = handleOf (idAt h p s) (countAt h p s)
+
+-- A peer's handles; past the last slot there are none.
+unfoldable pub handlesOf : List ℕ → ℕ → ℕ → Handle
+handlesOf h p = upto 128 none (handleIn h p)
+
+-- The accessor: past the last peer there are none.
+unfoldable pub handleV : List ℕ → ℕ → ℕ → Handle
+handleV h = upto 8 (λ s. none) (handlesOf h)
+
+handles-of : (h : List ℕ) (p : ℕ) → p < 8 → handleV h p ≡ handlesOf h p
+unfolding handleV
+handles-of h p l = upto-at 8 (λ s. none) (handlesOf h) p l
+
+-- One store: no other handle's two numbers are these two.
+odd : (a b : ℕ) → 2 * a + 1 ≡ 2 * b → ⊥
+odd a b e = omega arith
+
+place : (p s q t : ℕ) → s < 128 → t < 128 → p * 128 + s ≡ q * 128 + t → (p ≡ q) × (s ≡ t)
+place p s q t a b e = let x : p ≡ q = omega arith in (x, omega arith)
+
+module _ (h : List ℕ) (size : length h ≡ 2048) (p s i c : ℕ) (lp : p < 8) (ls : s < 128) (lc : c < modulus) where
+  put-here : handleIn (putHandle h p s i c) p s ≡ handleOf i c
+  unfolding putHandle
+  put-here =
+      let old = set h (p * 256 + 2 * s) i in
+      let m : c % modulus ≡ c = omega arith in
+      rw (
+        getD-set-other old (p * 256 + 2 * s + 1) (p * 256 + 2 * s) c 0 (λ x. absurd (omega arith)),
+        getD-set-same h (p * 256 + 2 * s) i 0 (omega arith),
+        getD-set-same old (p * 256 + 2 * s + 1) c 0 (omega (arith, length-set h (p * 256 + 2 * s) i)),
+        m,
+      )
+
+  put-else : (a : ℕ) → (p * 256 + 2 * s ≡ a → ⊥) → (p * 256 + 2 * s + 1 ≡ a → ⊥) → getD (putHandle h p s i c) a 0 ≡ getD h a 0
+  unfolding putHandle
+  put-else a e f =
+      getD-set-other (set h (p * 256 + 2 * s) i) (p * 256 + 2 * s + 1) a c 0 (λ x. f (sym x)) ∙ getD-set-other h (p * 256 + 2 * s) a i 0 (λ x. e (sym x))
+
+  put-there : (q t : ℕ) → t < 128 → (p ≡ q → s ≡ t → ⊥) → handleIn (putHandle h p s i c) q t ≡ handleIn h q t
+  put-there q t lt ne =
+      rw (
+        put-else (q * 256 + 2 * t) (λ x. let y = place p s q t ls lt (omega arith) in ne (y .0) (y .1)) (λ x. odd (p * 128 + s) (q * 128 + t) (omega arith)),
+        put-else (q * 256 + 2 * t + 1) (λ x. odd (q * 128 + t) (p * 128 + s) (omega arith)) (λ x. let y = place p s q t ls lt (omega arith) in ne (y .0) (y .1)),
+      )
+
+  put-own : handlesOf (putHandle h p s i c) p ≡ upd (handlesOf h p) s (handleOf i c)
+  unfolding handlesOf
+  put-own =
+      upto-ext 128 none (handleIn (putHandle h p s i c) p) (upd (handleIn h p) s (handleOf i c)) (λ t lt. go t lt (same? s t))
+      ∙ upto-upd 128 none (handleIn h p) s (handleOf i c) ls
+    where
+      go : (t : ℕ) → t < 128 → Same s t → handleIn (putHandle h p s i c) p t ≡ upd (handleIn h p) s (handleOf i c) t
+      go t lt (same e) = rw (← e, upd-same) put-here
+      go t lt (other e) = rw (upd-other (handleIn h p) s t (handleOf i c) e) (put-there p t lt (λ _ y. e y))
+
+  put-peer : (q : ℕ) → (p ≡ q → ⊥) → handlesOf (putHandle h p s i c) q ≡ handlesOf h q
+  unfolding handlesOf
+  put-peer q e = upto-ext 128 none (handleIn (putHandle h p s i c) q) (handleIn h q) (λ t lt. put-there q t lt (λ y _. e y))
+
+  pub handle-put : handleV (putHandle h p s i c) ≡ upd (handleV h) p (upd (handleV h p) s (handleOf i c))
+  unfolding handleV
+  handle-put =
+      ap (upto 8 (λ s. none)) (fun-ext (λ q. go q (same? p q)))
+      ∙ upto-upd 8 (λ s. none) (handlesOf h) p (upd (handlesOf h p) s (handleOf i c)) lp
+      ∙ ap (λ (f : ℕ → Handle). upd (handleV h) p (upd f s (handleOf i c))) (sym (handles-of h p lp))
+    where
+      go : (q : ℕ) → Same p q → handlesOf (putHandle h p s i c) q ≡ upd (handlesOf h) p (upd (handlesOf h p) s (handleOf i c)) q
+      go q (same e) = rw (← e, upd-same) put-own
+      go q (other e) = rw (upd-other (handlesOf h) p q (upd (handlesOf h p) s (handleOf i c)) e) (put-peer q e)
+
+-- What is read.
+of-has : (a c i : ℕ) → hasId i (handleOf a c) ≡ pick (eqb c 0) false (eqb a i)
+of-has a zero i = refl
+of-has a (suc c) i = rw (ne-eqb (suc c) 0 (λ x. absurd (omega arith)))
+
+of-count : (a c : ℕ) → count (handleOf a c) ≡ c
+of-count a zero = refl
+of-count a (suc c) = refl
+
+of-held : (a c : ℕ) → held (handleOf a c) ≡ not (eqb c 0)
+of-held a zero = refl
+of-held a (suc c) = rw (ne-eqb (suc c) 0 (λ x. absurd (omega arith)))
+
+of-id : (a c d : ℕ) → idOr d (handleOf a c) ≡ pick (eqb c 0) d a
+of-id a zero d = refl
+of-id a (suc c) d = rw (ne-eqb (suc c) 0 (λ x. absurd (omega arith)))
+
+of-given : (a c n : ℕ) → givenAfter (handleOf a c) n ≡ pick (eqb c 0) (suc n) n
+of-given a zero n = refl
+of-given a (suc c) n = rw (ne-eqb (suc c) 0 (λ x. absurd (omega arith)))
+
+of-some : (a c : ℕ) → (c ≡ 0 → ⊥) → handleOf a c ≡ some a c
+of-some a zero n = absurd (n refl)
+of-some a (suc c) n = refl
+
+module _ (h : List ℕ) (p s : ℕ) (lp : p < 8) (ls : s < 128) where
+  pub handle-is : handleV h p s ≡ handleOf (idAt h p s) (countAt h p s)
+  unfolding handlesOf
+  handle-is = rw (handles-of h p lp) (upto-at 128 none (handleIn h p) s ls)
+
+  pub count-is : countAt h p s ≡ count (handleV h p s)
+  count-is = rw handle-is (sym (of-count (idAt h p s) (countAt h p s)))
+
+  pub held-is : held (handleV h p s) ≡ heldAt h p s
+  held-is = rw handle-is (of-held (idAt h p s) (countAt h p s))
+
+  pub id-is : (d : ℕ) → idOr d (handleV h p s) ≡ pick (eqb (countAt h p s) 0) d (idAt h p s)
+  id-is d = rw handle-is (of-id (idAt h p s) (countAt h p s) d)
+
+  -- how many IDs were given once the peer has a handle to this node too
+  pub given-after : (n : ℕ) → givenAfter (handleV h p s) n ≡ pick (eqb (countAt h p s) 0) (suc n) n
+  given-after n = rw handle-is (of-given (idAt h p s) (countAt h p s) n)
+
+pub count-small : (h : List ℕ) (p s : ℕ) → countAt h p s < modulus
+count-small h p s = omega arith
+
+-- The lookup is the model's.
+module _ (h : List ℕ) (p i : ℕ) (lp : p < 8) where
+  pub find-is : findAt h p i ≡ slotOf (handleV h p) i
+  unfolding findAt hasAt slotOf
+  find-is =
+      first-ext (hasAt h p i) (λ s. hasId i (handleV h p s)) 128
+      (λ s ls. rw (handle-is h p s lp ls) (sym (of-has (idAt h p s) (countAt h p s) i)))
+
+  found-of : (n s : ℕ) → foundOf n ≡ At s → (s ≡ n) × (s < 128)
+  found-of n s e = go (look (ltb n 128))
+    where
+      go : Seen (ltb n 128) → (s ≡ n) × (s < 128)
+      go (is-true f) =
+          let x : At n ≡ At s = rw f at e in
+          let y : s ≡ n = cc in
+          (y, rw y (ltb-true n 128 f))
+      go (is-false f) =
+          let x : Nothing ≡ At s = rw f at e in
+          let z : _≡_ {A = ℕ} 0 1 = cc in
+          absurd (omega arith)
+
+  found-none : (n : ℕ) → foundOf n ≡ Nothing → 128 ≤ n
+  found-none n e = go (look (ltb n 128))
+    where
+      go : Seen (ltb n 128) → 128 ≤ n
+      go (is-true f) =
+          let x : At n ≡ Nothing = rw f at e in
+          let z : _≡_ {A = ℕ} 0 1 = cc in
+          absurd (omega arith)
+      go (is-false f) = ltb-false n 128 f
+
+  pub lookup-at : (s : ℕ) → lookup h p i ≡ At s → (s ≡ slotOf (handleV h p) i) × (s < 128)
+  unfolding lookup
+  lookup-at s e = let x = found-of (findAt h p i) s e in (x .0 ∙ find-is, x .1)
+
+  pub lookup-nothing : lookup h p i ≡ Nothing → slotOf (handleV h p) i ≡ nodes
+  unfolding lookup findAt
+  lookup-nothing e =
+      let a : 128 ≤ findAt h p i = found-none (findAt h p i) e in
+      let b : findAt h p i ≤ 128 = first-le (hasAt h p i) 128 in
+      let c : findAt h p i ≡ 128 = omega arith in
+      sym find-is ∙ c
+
+  -- What was found is held under this ID.
+  pub lookup-held : (s : ℕ) → lookup h p i ≡ At s → handleV h p s ≡ some i (countAt h p s)
+  unfolding lookup findAt hasAt
+  lookup-held s e = go (look (eqb (countAt h p s) 0))
+    where
+      x : (s ≡ findAt h p i) × (s < 128)
+      x = found-of (findAt h p i) s e
+
+      t : hasAt h p i s ≡ true
+      t = rw (x .0) (first-found (hasAt h p i) 128 (rw (← x .0) (x .1)))
+
+      go : Seen (eqb (countAt h p s) 0) → handleV h p s ≡ some i (countAt h p s)
+      go (is-true f) = clash (sym (rw f at t))
+      go (is-false f) =
+          let y : idAt h p s ≡ i = eqb-true (idAt h p s) i (rw f at t) in
+          rw (handle-is h p s lp (x .1), ← y) (of-some (idAt h p s) (countAt h p s) (eqb-false (countAt h p s) 0 f))
+
+any-bits : (t : ℕ → Bool) (n : ℕ) → anyBelow t n ≡ not (eqb (bits t n) 0)
+unfolding bits sumTo
+any-bits t zero = refl
+any-bits t (suc n) = go (look (t n)) (any-bits t n)
+  where
+    go : Seen (t n) → anyBelow t n ≡ not (eqb (bits t n) 0) → anyBelow t (suc n) ≡ not (eqb (bits t (suc n)) 0)
+    go (is-true e) ih = rw (e, ne-eqb (2 ^ n + sumTo (bit t) n) 0 (λ x. absurd (omega (arith, pow-pos n))))
+    go (is-false e) ih = rw (e, zero-add) ih
+
+-- Sums over the peers are the model's.
+module _ (h : List ℕ) (s : ℕ) (ls : s < 128) where
+  pub total-is : totalAt h s ≡ total (handleV h) s
+  unfolding totalAt totalBelow total
+  total-is = sum-ext (λ q. countAt h q s) (λ q. count (handleV h q s)) 8 (λ q lq. count-is h q s lq ls)
+
+  pub holders-are : holdersAt h s ≡ bits (λ q. held (handleV h q s)) peers
+  unfolding holdersAt holdersBelow
+  holders-are = bits-ext (λ q. heldAt h q s) (λ q. held (handleV h q s)) 8 (λ q lq. sym (held-is h q s lq ls))
+
+  pub holders-is : (b : State) → b .handle ≡ handleV h → holdersAt h s ≡ holdersOf b s
+  unfolding holdersOf bits
+  holders-is b e = holders-are ∙ rw e
+
+  -- the lowest bit is that of the first holder; there is none where nobody holds
+  pub holders-first : trailingZeros 8 (holdersAt h s) ≡ first (λ q. held (handleV h q s)) peers
+  holders-first = rw holders-are (bits-first (λ q. held (handleV h q s)) 8)
+
+  pub holders-any : heldByAny (handleV h) s ≡ not (eqb (holdersAt h s) 0)
+  unfolding heldByAny
+  holders-any = rw holders-are (any-bits (λ q. held (handleV h q s)) 8)
+
+-- All handles of a peer gone.
+pub put-length : (h : List ℕ) (p s i c : ℕ) → length (putHandle h p s i c) ≡ length h
+unfolding putHandle
+put-length h p s i c = simp length-set
+
+clear-below-length : (h : List ℕ) (p n : ℕ) → length (clearBelow h p n) ≡ length h
+unfolding clearBelow
+clear-below-length h p zero = refl
+clear-below-length h p (suc n) = put-length (clearBelow h p n) p n 0 0 ∙ clear-below-length h p n
+
+pub clear-length : (h : List ℕ) (p : ℕ) → length (clearPeer h p) ≡ length h
+unfolding clearPeer
+clear-length h p = clear-below-length h p 128
+
+past : (h : List ℕ) (p t : ℕ) → ltb t 128 ≡ false → handlesOf h p t ≡ none
+unfolding handlesOf upto
+past h p t e = rw e
+
+-- f, with nothing below n
+abbrev above : ℕ → (ℕ → Handle) → ℕ → Handle
+above n f t = pick (ltb t n) none (f t)
+
+above-more : (n : ℕ) (f : ℕ → Handle) → upd (above n f) n none ≡ above (suc n) f
+above-more n f = fun-ext (λ t. go t (same? n t))
+  where
+    go : (t : ℕ) → Same n t → upd (above n f) n none t ≡ above (suc n) f t
+    go t (same e) = rw (← e, upd-same, lt-ltb n (suc n) (omega arith))
+    go t (other e) = rw (upd-other (above n f) n t none e) (again (look (ltb t n)))
+      where
+        again : Seen (ltb t n) → above n f t ≡ above (suc n) f t
+        again (is-true x) = let y : t < n = ltb-true t n x in rw (x, lt-ltb t (suc n) (omega arith))
+        again (is-false x) = let y : n ≤ t = ltb-false t n x in rw (x, le-ltb t (suc n) (omega arith))
+
+module _ (h : List ℕ) (size : length h ≡ 2048) (p : ℕ) (lp : p < 8) where
+  clear-below : (n : ℕ) → n ≤ 128 → handleV (clearBelow h p n) ≡ upd (handleV h) p (above n (handleV h p))
+  unfolding clearBelow
+  clear-below zero l = sym (upd-self (handleV h) p (above 0 (handleV h p)) (fun-ext (λ t. rw (le-ltb t 0 (omega arith)))))
+  clear-below (suc n) l =
+      let e : handleV (clearBelow h p n) ≡ upd (handleV h) p (above n (handleV h p)) = clear-below n (omega arith) in
+      let z : length (clearBelow h p n) ≡ 2048 = clear-below-length h p n ∙ size in
+      handle-put (clearBelow h p n) z p n 0 0 lp (omega arith) (omega arith)
+      ∙ rw (e, upd-same, upd-twice, above-more n (handleV h p))
+
+  pub handle-clear : handleV (clearPeer h p) ≡ upd (handleV h) p (λ s. none)
+  unfolding clearPeer
+  handle-clear = clear-below 128 (omega arith) ∙ ap (upd (handleV h) p) (fun-ext (λ t. go t (look (ltb t 128))))
+    where
+      go : (t : ℕ) → Seen (ltb t 128) → above 128 (handleV h p) t ≡ none
+      go t (is-true e) = rw e
+      go t (is-false e) = rw (e, handles-of h p lp) (past h p t e)

@@ -1,0 +1,10 @@
+pub mod Peers
+pub mod Nodes
+pub mod Handles
+pub mod Charges
+pub mod CodeLaws
+pub mod PeersView
+pub mod NodesView
+pub mod HandlesView
+pub mod ChargesView
+pub mod Fresh
