@@ -10,8 +10,12 @@ pub struct User(pub usize);
 pub struct HandleId(pub u64);
 
 // The refusal numbers of document 01's table; specs/Refusals.antt has the row of each.
+pub const EBADF: u8 = 9;
+
 pub const EINVAL: u8 = 22;
 
 pub const ENOTTY: u8 = 25;
 
 pub const EMSGSIZE: u8 = 90;
+
+pub const ESHUTDOWN: u8 = 108;

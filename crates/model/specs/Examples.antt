@@ -23,7 +23,7 @@ use Rattle.model.specs.Tables.{withStatus, withUser, withGiven, withHand
 use Rattle.model.specs.Changes.{pushAll, takeOut, withdraw, shown, give, forget, fell, notify, releaseNotices, notifyAll, destroyNotices, destroyAll, arriving, deliver}
 use Rattle.model.specs.Effects.{opens, creates, destroys, releases, disconnects, effect}
 use Rattle.model.specs.Replies.{showsMessage, holdersOf, reply}
-use Rattle.model.specs.Scripts.{opening, disconnect, create, destroy, release, send, receive, transfer, quota, holders, number, gives, queuedAndLeft, takes, takesFlag, destroyedAt, releasedAt, Row, Row.played, computed, expected, two, empties}
+use Rattle.model.specs.Scripts.{opening, disconnect, create, destroy, release, send, receive, transfer, quota, holders, number, gives, queuedAndLeft, takes, takesFlag, destroyedAt, releasedAt, Row, Row.played, computed, expected, two, empties, done}
 use Rattle.model.specs.Step.{carryOut, finish, step, answersFrom}
 
 -- "When the sum of counts over all peers falls to 1 from above on a live node, a release notice is queued at the owner."
@@ -108,14 +108,43 @@ absent =
     (two ++ (disconnect 1 ∷ receive 2 0 ∷ receive 1 0 ∷ opening 1 1 ∷ opening 0 0 ∷ transfer 0 8 2 ∷ transfer 0 8 1 ∷ transfer 1 7 2 ∷ transfer 2 8 1 ∷ []))
     (number 9 ∷ number 108 ∷ number 108 ∷ number 17 ∷ number 9 ∷ number 108 ∷ number 108 ∷ number 9 ∷ [])
 
+-- A release notice withdrawn comes back at the end of the queue, behind a message that is younger than the first notice.
+abbrev pub back-at-the-end : Row
+back-at-the-end =
+    played (two ++ (release 1 7 ∷ send 0 (8 ∷ []) [] [] ∷ transfer 0 8 1 ∷ release 1 11 ∷ receive 0 0 ∷ receive 0 0 ∷ receive 0 0 ∷ []))
+    (gives 11 ∷ number 0 ∷ takes 8 0 [] [] ∷ releasedAt 8 ∷ number 11 ∷ [])
+
+-- "another message of the same send is queued behind it": not once it was dropped. The send goes to 8 and 12 of peer 0; 12 is destroyed and released.
+abbrev pub flag-of-dropped : Row
+flag-of-dropped =
+    played
+    (two ++ (create 0 12 ∷ transfer 0 12 1 ∷ send 1 (7 ∷ 11 ∷ []) [] (51 ∷ []) ∷ destroy 0 12 ∷ release 0 12 ∷ receive 0 1 ∷ receive 0 1 ∷ []))
+    (number 0 ∷ number 0 ∷ takesFlag 8 1 0 [] (51 ∷ []) ∷ number 11 ∷ [])
+
+-- The invalid ID also to a peer that holds the destroyed node; its own ID stays its own.
+abbrev pub invalid-to-holder : Row
+invalid-to-holder =
+    played
+    (two ++ (create 0 12 ∷ transfer 0 12 1 ∷ send 1 (7 ∷ []) (11 ∷ []) [] ∷ destroy 0 12 ∷ receive 0 8 ∷ receive 0 0 ∷ release 0 12 ∷ release 0 12 ∷ []))
+    (number 0 ∷ takes 8 1 (invalid ∷ []) [] ∷ destroyedAt 12 ∷ number 0 ∷ number 6 ∷ [])
+
+-- Two refusals at once: the destination peer before an ID that is not held, that before a destroyed node, the owner before a destroyed node, an ID held before no room.
+abbrev pub collide : Row
+collide =
+    played
+    (two ++ (destroy 0 8 ∷ transfer 0 99 2 ∷ transfer 1 7 2 ∷ send 1 (7 ∷ 99 ∷ []) [] [] ∷ destroy 1 7 ∷ destroy 0 8 ∷ transfer 1 7 0 ∷ create 0 8 ∷ sixteen
+    ++ (create 0 8 ∷ create 0 80 ∷ [])))
+    (number 9 ∷ number 9 ∷ number 6 ∷ number 1 ∷ number 113 ∷ number 113 ∷ number 17 ∷ number 0 ∷ number 17 ∷ done 14 ++ (number 17 ∷ number 28 ∷ []))
+
 abbrev pub examples : List Row
 examples =
     released-notice ∷ withdrawn-risen ∷ withdrawn-destroyed ∷ destroyed-notices ∷ withdrawn-gone ∷ still-delivered ∷ dropped-with-owner ∷ flags ∷ invalid-shown
-    ∷ ordered ∷ held-by-two ∷ room-again ∷ room-named ∷ cascade ∷ notice-behind ∷ absent ∷ []
+    ∷ ordered ∷ held-by-two ∷ room-again ∷ room-named ∷ cascade ∷ notice-behind ∷ absent
+    ∷ back-at-the-end ∷ flag-of-dropped ∷ invalid-to-holder ∷ collide ∷ []
 
 pub shown-by-examples : All (λ r. computed r ≡ expected r) examples
 unfolding upd sumTo build first be numAt idAt shortAt parseSizes parseSend frameLength parseOpen parseCreate parseTransfer parseQuota parseRest parseOther parse sendId payloadOf othersAll allowsAll balanceOf idBytes headerBytes messageBytes noticeBytes receivedBytes chargeBytes balanceBytes holderBytes contentsOf answerBytes answerAfter outcomeOf least rising start slotOf total heldByAny named counts freePlace byOwnerId placesAt fits refusesOpen refusesDisconnect refusesCreate refusesDestroy refusesRelease refusesTransfer refusesSend refusesReceive refusesQuota refusesHolders refusal withStatus withUser withGiven withHandles withQueues withCharges withLives accept pushAll takeOut withdraw shown give forget fell notify releaseNotices notifyAll destroyNotices destroyAll arriving deliver opens creates destroys releases disconnects effect showsMessage holdersOf reply carryOut finish step answersFrom ones onesIn
-shown-by-examples = (refl, (refl, (refl, (refl, (refl, (refl, (refl, (refl, (refl, (refl, (refl, (refl, (refl, (refl, (refl, (refl, tt))))))))))))))))
+shown-by-examples = (refl, (refl, (refl, (refl, (refl, (refl, (refl, (refl, (refl, (refl, (refl, (refl, (refl, (refl, (refl, (refl, (refl, (refl, (refl, (refl, tt))))))))))))))))))))
 
 -- A bus that has accepted n commands, peer 0 open.
 abbrev pub used : ℕ → State

@@ -8,15 +8,13 @@ ghost use Rattle.tables.specs.Peers.{modulus, acceptedAt, statusAt, stan
 ghost use Rattle.tables.specs.Nodes.{liveAt, setLive, setDead};
 ghost use Rattle.tables.specs.Handles.{idAt, countAt, hasAt, lookup, totalAt, bitAt, holdersAt, putHandle, clearPeer};
 ghost use Rattle.tables.specs.Charges.{chargeAt, chargesAt, putCharge, putCharges};
+use ids::EBADF;
+use ids::ESHUTDOWN;
 use ids::HandleId;
 use ids::Peer;
 use ids::User;
 use quota::Charge;
 use quota::Charges;
-
-const EBADF: u8 = 9;
-
-const ESHUTDOWN: u8 = 108;
 
 // Numbers that count up are read modulo 2^60, so that what is added to them fits.
 const MODULUS: u64 = 1152921504606846976;
