@@ -1,20 +1,21 @@
--- Runs of stores read by place, and tables of rows of one width, which such runs write.
+-- Tables of rows of one width, which runs of stores write.
 -- Assumes nothing.
 use Prim.Native.Nat.{ℕ, zero, suc, _+_, _*_, _≤_, _<_}
-use mathlib.Core.Path.{_≡_, refl, sym, ap, _∙_}
+use mathlib.Core.Path.{_≡_, sym, ap, _∙_}
 use mathlib.Core.List.{List, [], _∷_}
 use native.Mathlib.Omega.{arith}
-use native.Mathlib.Nat.{not-suc-le-zero, mul-le-mul-left}
-use lib.ListN.{length, getD, set, length-set}
-use lib.Seq.{getD-set-same, getD-set-other, sets}
+use native.Mathlib.Nat.{mul-le-mul-left}
+use lib.ListN.{length, getD, set}
+use lib.Seq.{sets}
 use lib.Dec.{ltb}
 use borrow.Author.Tests.{ltb-true, ltb-false}
 use Rattle.laws.specs.Tests.{Seen, Seen.is-true, Seen.is-false, look}
 use Rattle.laws.specs.Weights.{All}
+use Rattle.laws.specs.Stores.{sets-before, sets-past, sets-in}
 use Rattle.laws.specs.Build.{build, build-ext, build-length, build-list}
 
 -- not below and not equal is above
-above : (q r : ℕ) → q ≤ r → (r ≡ q → ⊥) → q < r
+pub above : (q r : ℕ) → q ≤ r → (r ≡ q → ⊥) → q < r
 above q r h ne = go (look (ltb q r))
   where
     go : Seen (ltb q r) → q < r
@@ -22,25 +23,6 @@ above q r h ne = go (look (ltb q r))
     go (is-false t) = let k : r ≤ q = ltb-false q r t in absurd (ne (omega arith))
 
 module _ {A : Type 0} where
-  -- a place before a run of stores, behind it, in it
-  pub sets-before : (l : List A) (i : ℕ) (vs : List A) (j : ℕ) (d : A) → j < i → getD (sets l i vs) j d ≡ getD l j d
-  sets-before l i [] j d h = refl
-  sets-before l i (v ∷ vs) j d h = sets-before (set l i v) (suc i) vs j d (omega arith) ∙ getD-set-other l i j v d (λ e. absurd (omega arith))
-
-  pub sets-after : (l : List A) (i : ℕ) (vs : List A) (j : ℕ) (d : A) → i + length vs ≤ j → getD (sets l i vs) j d ≡ getD l j d
-  sets-after l i [] j d h = refl
-  sets-after l i (v ∷ vs) j d h = sets-after (set l i v) (suc i) vs j d (omega arith) ∙ getD-set-other l i j v d (λ e. absurd (omega arith))
-
-  pub sets-in : (l : List A) (i : ℕ) (vs : List A) (k : ℕ) (d : A) → k < length vs → i + length vs ≤ length l → getD (sets l i vs) (i + k) d ≡ getD vs k d
-  sets-in l i [] k d h g = absurd (not-suc-le-zero h)
-  sets-in l i (v ∷ vs) zero d h g =
-      let e : i + zero ≡ i = omega arith in
-      let in-l : i < length l = omega arith in
-      rw e (sets-before (set l i v) (suc i) vs i d (omega arith) ∙ getD-set-same l i v d in-l)
-  sets-in l i (v ∷ vs) (suc k) d h g =
-      let e : i + suc k ≡ suc i + k = omega arith in
-      rw e (sets-in (set l i v) (suc i) vs k d (omega arith) (omega (arith, length-set l i v)))
-
   -- a store of the row r of w numbers leaves the other rows
   row-apart : (w : ℕ) (l : List A) (r q : ℕ) (vs : List A) (k : ℕ) (d : A) → length vs ≡ w → k < w → (r ≡ q → ⊥) →
       getD (sets l (w * r) vs) (w * q + k) d ≡ getD l (w * q + k) d
@@ -49,11 +31,11 @@ module _ {A : Type 0} where
       go : Seen (ltb r q) → getD (sets l (w * r) vs) (w * q + k) d ≡ getD l (w * q + k) d
       go (is-true t) =
           let lt : suc r ≤ q = ltb-true r q t in
-          sets-after l (w * r) vs (w * q + k) d (omega (arith, mul-le-mul-left w lt))
+          sets-past l vs (w * r) (w * q + k) d (omega (arith, mul-le-mul-left w lt))
       go (is-false t) =
           let ge : q ≤ r = ltb-false r q t in
           let lt : suc q ≤ r = omega (arith, above q r ge ne) in
-          sets-before l (w * r) vs (w * q + k) d (omega (arith, mul-le-mul-left w lt))
+          sets-before l vs (w * r) (w * q + k) d (omega (arith, mul-le-mul-left w lt))
 
 -- the row r of a table of rows of w numbers
 unfoldable pub rowIn : ℕ → List ℕ → ℕ → List ℕ
@@ -75,7 +57,7 @@ row-self w l h =
 pub row-put : (w : ℕ) (l : List ℕ) (r : ℕ) (vs : List ℕ) → length vs ≡ w → w * r + w ≤ length l → rowIn w (sets l (w * r) vs) r ≡ vs
 unfolding rowIn
 row-put w l r vs h g =
-    build-ext (λ k. getD (sets l (w * r) vs) (w * r + k) 0) (λ k. getD vs k 0) w (λ k lt. sets-in l (w * r) vs k 0 (omega arith) (omega arith))
+    build-ext (λ k. getD (sets l (w * r) vs) (w * r + k) 0) (λ k. getD vs k 0) w (λ k lt. sets-in l vs (w * r) k 0 (omega arith) (omega arith))
     ∙ ap (build (λ k. getD vs k 0)) (sym h) ∙ build-list 0 vs
 
 pub row-put-other : (w : ℕ) (l : List ℕ) (r q : ℕ) (vs : List ℕ) → length vs ≡ w → (r ≡ q → ⊥) → rowIn w (sets l (w * r) vs) q ≡ rowIn w l q

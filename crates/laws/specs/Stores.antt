@@ -1,13 +1,13 @@
 -- Runs of stores in a list, one after another, and the front of a list.
 -- Assumes nothing.
-use Prim.Native.Nat.{ℕ, suc, _+_, _-_, _≤_, _<_, min}
+use Prim.Native.Nat.{ℕ, zero, suc, _+_, _-_, _≤_, _<_, min}
 use mathlib.Core.Path.{_≡_, refl, sym, ap, _∙_}
 use mathlib.Core.List.{List, [], _∷_, _++_}
 use native.Mathlib.Omega.{arith}
-use native.Mathlib.Nat.{zero-add}
+use native.Mathlib.Nat.{zero-add, not-suc-le-zero}
 use native.Mathlib.Numerals.{add-one}
-use lib.ListN.{length, getD, take, drop, set, length-drop, take-append-drop}
-use lib.Seq.{set-out, length-sets, getD-set-other, getD-drop, sets, sets-eq, take-suc, take-all, take-length, length-take-le}
+use lib.ListN.{length, getD, take, drop, set, length-drop, length-set, take-append-drop}
+use lib.Seq.{set-out, length-sets, getD-set-same, getD-set-other, getD-drop, sets, sets-eq, take-suc, take-all, take-length, length-take-le}
 use lib.Dec.{leb}
 use borrow.Author.Tests.{leb-true, leb-false}
 use Rattle.laws.specs.Tests.{Seen, Seen.is-true, Seen.is-false, look}
@@ -46,6 +46,21 @@ module _ {A : Type 0} where
       let n : length (take k xs) ≡ k = length-take-le k xs (omega arith) in
       let e : take (k + 1) xs ≡ take k xs ++ (getD xs k d ∷ []) = rw add-one (take-suc xs k d h) in
       sym (ap (sets l i) e ∙ (sets-append l i (take k xs) (getD xs k d ∷ [])) ∙ rw n)
+
+  -- a place before a run of stores, and one in it
+  pub sets-before : (l vs : List A) (i j : ℕ) (d : A) → j < i → getD (sets l i vs) j d ≡ getD l j d
+  sets-before l [] i j d h = refl
+  sets-before l (v ∷ vs) i j d h = sets-before (set l i v) vs (suc i) j d (omega arith) ∙ getD-set-other l i j v d (λ e. absurd (omega arith))
+
+  pub sets-in : (l vs : List A) (i k : ℕ) (d : A) → k < length vs → i + length vs ≤ length l → getD (sets l i vs) (i + k) d ≡ getD vs k d
+  sets-in l [] i k d h g = absurd (not-suc-le-zero h)
+  sets-in l (v ∷ vs) i zero d h g =
+      let e : i + zero ≡ i = omega arith in
+      let in-l : i < length l = omega arith in
+      rw e (sets-before (set l i v) vs (suc i) i d (omega arith) ∙ getD-set-same l i v d in-l)
+  sets-in l (v ∷ vs) i (suc k) d h g =
+      let e : i + suc k ≡ suc i + k = omega arith in
+      rw e (sets-in (set l i v) vs (suc i) k d (omega arith) (omega (arith, length-set l i v)))
 
   -- behind a run of stores stands what stood there before
   pub sets-past : (l vs : List A) (i j : ℕ) (d : A) → i + length vs ≤ j → getD (sets l i vs) j d ≡ getD l j d
