@@ -4,7 +4,11 @@ use Prim.Native.Nat.{ℕ, _+_, _*_, _-_}
 use mathlib.Core.List.{List, [], _∷_}
 use lib.ListN.{take, drop}
 use lib.Seq.{sets}
-use Rattle.rings.specs.Rings.{peers}
+use lib.Dec.{eqb}
+use Rattle.laws.specs.Tests.{pick}
+use Rattle.rings.specs.declared.Entry.{Entry}
+use Rattle.rings.specs.declared.Match.{Match}
+use Rattle.rings.specs.Rings.{peers, matches}
 
 -- The bytes of one peer's area.
 abbrev pub areaSize : ℕ
@@ -31,3 +35,23 @@ closed t p at n used = sets t (p * areaSize + at) (pieceOf t p (at + n) (used - 
 unfoldable pub cut : List ℕ → List ℕ → List (List ℕ)
 cut [] l = []
 cut (n ∷ ns) l = take n l ∷ cut ns (drop n l)
+
+-- The payload bytes of an entry: a notice has none.
+unfoldable pub bytesIn : Entry → ℕ
+bytesIn e = pick (eqb (e .kind) 1) 0 (pick (eqb (e .kind) 2) 0 (e .nb))
+
+-- A removal over the payloads: the place behind those that stay, and the table.
+pub record Kept : Type 0 where
+  pub place : ℕ
+  pub table : List ℕ
+
+abbrev pub kept : ℕ → List ℕ → Kept
+kept k t = record { place = k; table = t }
+
+-- The payload of an entry, which stands at the place r, moves to the place k, unless the entry is taken out; so for each entry of a queue.
+unfoldable pub keptPiece : List ℕ → ℕ → ℕ → ℕ → Match → Entry → Kept
+keptPiece t p r k m e = pick (matches m e) (kept k t) (kept (k + bytesIn e) (sets t (p * areaSize + k) (pieceOf t p r (bytesIn e))))
+
+unfoldable pub keptPieces : List ℕ → ℕ → ℕ → ℕ → Match → List Entry → Kept
+keptPieces t p r k m [] = kept k t
+keptPieces t p r k m (e ∷ es) = keptPieces (keptPiece t p r k m e .table) p (r + bytesIn e) (keptPiece t p r k m e .place) m es

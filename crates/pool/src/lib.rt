@@ -1,11 +1,13 @@
 // The payloads of the queued messages in one lent table of 32,768 bytes: of each peer an area of 4,096, in which they
 // stand one behind another from its start, in the order of its queue.
 ghost use mathlib.Core.Path.{_≡_};
-ghost use Prim.Native.Nat.{_+_, _<_, _≤_};
+ghost use Prim.Native.Nat.{_+_, _*_, _<_, _≤_};
 ghost use lib.ListN.{length};
-ghost use Rattle.rings.specs.Rings.{peers};
-ghost use Rattle.pool.specs.Pool.{areaSize, poolSize, pieceOf, appended, closed};
+ghost use Rattle.rings.specs.Rings.{peers, ringSize, endCount, rowsOf, ringsOf, Sized, lengthOf, queueOf};
+ghost use Rattle.pool.specs.Pool.{areaSize, poolSize, pieceOf, appended, closed, bytesIn, kept, keptPiece, keptPieces};
 use ids::Peer;
+use rings::Entry;
+use rings::Match;
 
 // The bytes of one peer's area.
 const AREA: usize = 4096;
@@ -34,4 +36,59 @@ pub fn close(pool: &mut [u8], p: Peer, at: usize, n: usize, used: usize)
 {
     let to = p.0 * AREA + at;
     copies::down(pool, to, to + n, used - (at + n));
+}
+
+// The payload bytes of an entry: a notice has none.
+fn bytes_in(e: Entry) -> usize
+    ensures { λ r. ⌜ (r ≡ bytesIn e) × (r < 65536) ⌝ }
+{
+    if e.kind == 1 {
+        return 0;
+    }
+    if e.kind == 2 {
+        return 0;
+    }
+    e.nb as usize
+}
+
+// The payload of one entry moves behind those that stay, unless the entry is taken out. The place behind those that stay now.
+fn keep_piece(pool: &mut [u8], p: Peer, read: usize, at: usize, e: Entry, m: Match) -> usize
+    requires { ⌜ (p .0 < peers) × (at ≤ read) × (read ≤ ringSize * 65535) ⌝ }
+    ensures { λ r. ⌜ kept r (now (pool .exit)) ≡ keptPiece (now (pool .entry)) (p .0) read at m e ⌝ }
+{
+    if rings::is_match(m, e) {
+        return at;
+    }
+    let n = bytes_in(e);
+    let base = p.0 * AREA;
+    copies::down(pool, base + at, base + read, n);
+    at + n
+}
+
+// The payloads of the entries that a removal takes out of a queue are taken out; the others move down, in order. How many bytes stay.
+pub fn remove(
+    pool: &mut [u8],
+    ends: &[u16],
+    entries: &[u16],
+    carried: &[u8],
+    numbers: &[u64],
+    p: Peer,
+    m: Match,
+) -> usize
+    requires { ⌜ (length (now ends) ≡ endCount) × Sized (rowsOf (now entries) (now carried) (now numbers)) × (p .0 < peers) × (lengthOf (now ends) (p .0) ≤ ringSize) ⌝ }
+    ensures { λ r. ⌜ kept r (now (pool .exit)) ≡ keptPieces (now (pool .entry)) (p .0) 0 0 m (queueOf (ringsOf (now (ends .entry)) (now (entries .entry)) (now (carried .entry)) (now (numbers .entry))) (p .0)) ⌝ }
+{
+    let head = rings::head_of(ends, p);
+    let len = rings::len_of(ends, p);
+    let mut i = 0;
+    let mut read = 0;
+    let mut stays = 0;
+    while i < len {
+        let row = rings::row_of(p, head, i);
+        let e = rings::get_entry(entries, carried, numbers, row);
+        stays = keep_piece(pool, p, read, stays, e, m);
+        read += bytes_in(e);
+        i += 1;
+    }
+    stays
 }
