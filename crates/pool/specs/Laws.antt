@@ -2,25 +2,24 @@
 -- Assumes nothing.
 use Prim.Native.Nat.{ℕ, _+_, _*_, _-_, _≤_, _<_}
 use mathlib.Core.Path.{_≡_, sym, ap, ap₂, _∙_}
-use mathlib.Core.List.{List, [], _∷_, _++_}
+use mathlib.Core.List.{List, _++_}
 use native.Mathlib.Omega.{arith}
 use lib.ListN.{length, getD, take, drop, length-append, length-take, length-drop, List·getD-append}
-use lib.Seq.{sets, length-sets, getD-take, getD-drop, getD-append-add, ext-getD, take-take, drop-drop, take-length, take-append-le, drop-append-le}
+use lib.Seq.{sets, length-sets, getD-take, getD-drop, getD-append-add, ext-getD, take-take, drop-drop}
 use lib.Dec.{ltb, leb}
 use borrow.Author.Tests.{ltb-true, ltb-false, le-leb}
 use Rattle.laws.specs.Tests.{pick, Seen, Seen.is-true, Seen.is-false, look}
-use Rattle.laws.specs.Weights.{load}
-use mathlib.Core.Bool.{Bool, true}
+use mathlib.Core.Bool.{Bool}
 use Rattle.laws.specs.Rows.{above}
 use Rattle.laws.specs.Stores.{sets-before, sets-past, sets-in}
 use Rattle.rings.specs.Rings.{peers}
-use Rattle.pool.specs.Pool.{areaSize, poolSize, bytesOf, pieceOf, appended, closed, cut}
+use Rattle.pool.specs.Pool.{areaSize, poolSize, bytesOf, pieceOf, appended, closed}
 
 -- a part of a list by its places
 part-at : (l : List ℕ) (a n i : ℕ) → i < n → getD (take n (drop a l)) i 0 ≡ getD l (a + i) 0
 part-at l a n i h = getD-take n (drop a l) i 0 h ∙ getD-drop a l i 0
 
-part-length : (l : List ℕ) (a n : ℕ) → a + n ≤ length l → length (take n (drop a l)) ≡ n
+pub part-length : (l : List ℕ) (a n : ℕ) → a + n ≤ length l → length (take n (drop a l)) ≡ n
 part-length l a n h = simp (length-take, length-drop) (omega arith)
 
 -- a run of stores behind the first n places of a part is seen behind them
@@ -51,14 +50,14 @@ part-stored l vs a n h = ext-getD 0 _ _ (whole ∙ sym both) each
     each i g = let lt : i < n + length vs = omega (arith, whole) in part-at (sets l (a + n) vs) a (n + length vs) i lt ∙ go i lt (look (ltb i n))
 
 -- parts whose places agree
-part-same : (l m : List ℕ) (a n : ℕ) → length l ≡ length m → ((k : ℕ) → k < n → getD l (a + k) 0 ≡ getD m (a + k) 0) → take n (drop a l) ≡ take n (drop a m)
+pub part-same : (l m : List ℕ) (a n : ℕ) → length l ≡ length m → ((k : ℕ) → k < n → getD l (a + k) 0 ≡ getD m (a + k) 0) → take n (drop a l) ≡ take n (drop a m)
 part-same l m a n e h = ext-getD 0 _ _ (simp (length-take, length-drop, e)) each
   where
     each : (k : ℕ) → k < length (take n (drop a l)) → getD (take n (drop a l)) k 0 ≡ getD (take n (drop a m)) k 0
     each k lt = let in-n : k < n = omega (arith, length-take n (drop a l)) in part-at l a n k in-n ∙ h k in-n ∙ sym (part-at m a n k in-n)
 
 -- a part of a front of a list
-part-of-front : (l : List ℕ) (n used : ℕ) → n ≤ used → drop n (take used l) ≡ take (used - n) (drop n l)
+pub part-of-front : (l : List ℕ) (n used : ℕ) → n ≤ used → drop n (take used l) ≡ take (used - n) (drop n l)
 part-of-front l n used h = ext-getD 0 _ _ (simp (length-take, length-drop) (omega arith)) each
   where
     each : (k : ℕ) → k < length (drop n (take used l)) → getD (drop n (take used l)) k 0 ≡ getD (take (used - n) (drop n l)) k 0
@@ -131,15 +130,6 @@ pub piece-of : (t : List ℕ) (p at n used : ℕ) → at + n ≤ used → pieceO
 unfolding pieceOf bytesOf
 piece-of t p at n used h =
     ap (take n) (sym (drop-drop at (p * areaSize) t)) ∙ sym (take-take n (used - at) _ (omega arith)) ∙ ap (take n) (sym (part-of-front (drop (p * areaSize) t) at used (omega arith)))
-
--- The pieces of a queue's payloads, oldest first: one more at the end.
-pub cut-append : (ns l b : List ℕ) → length l ≡ load (λ n. true) (λ n. n) ns → cut (ns ++ (length b ∷ [])) (l ++ b) ≡ cut ns l ++ (b ∷ [])
-unfolding cut
-cut-append [] [] b e = ap (λ (x : List ℕ). x ∷ []) (take-length b)
-cut-append [] (x ∷ l) b e = absurd (omega arith)
-cut-append (n ∷ ns) l b e =
-    let h : n ≤ length l = omega arith in
-    ap₂ _∷_ (take-append-le n l b h) (ap (cut (ns ++ (length b ∷ []))) (drop-append-le n l b h) ∙ cut-append ns (drop n l) b (simp length-drop (omega arith)))
 
 -- What the functions give, in their own terms: a move down to a lower place, and a part of the table.
 pub close-is : (t l : List ℕ) (p at n used : ℕ) → at + n ≤ used →

@@ -2,10 +2,12 @@
 -- Assumes nothing.
 use Prim.Native.Nat.{ℕ, _+_, _*_, _-_}
 use mathlib.Core.List.{List, [], _∷_}
+use mathlib.Core.Bool.{true}
 use lib.ListN.{take, drop}
 use lib.Seq.{sets}
 use lib.Dec.{eqb}
 use Rattle.laws.specs.Tests.{pick}
+use Rattle.laws.specs.Weights.{load}
 use Rattle.rings.specs.declared.Entry.{Entry}
 use Rattle.rings.specs.declared.Match.{Match}
 use Rattle.rings.specs.Rings.{peers, matches}
@@ -31,14 +33,22 @@ appended t p n bs = sets t (p * areaSize + n) bs
 unfoldable pub closed : List ℕ → ℕ → ℕ → ℕ → ℕ → List ℕ
 closed t p at n used = sets t (p * areaSize + at) (pieceOf t p (at + n) (used - (at + n)))
 
--- Bytes cut into pieces of the given lengths.
-unfoldable pub cut : List ℕ → List ℕ → List (List ℕ)
-cut [] l = []
-cut (n ∷ ns) l = take n l ∷ cut ns (drop n l)
-
 -- The payload bytes of an entry: a notice has none.
 unfoldable pub bytesIn : Entry → ℕ
 bytesIn e = pick (eqb (e .kind) 1) 0 (pick (eqb (e .kind) 2) 0 (e .nb))
+
+-- An entry with its payload.
+pub record Pair : Type 0 where
+  pub entry : Entry
+  pub payload : List ℕ
+
+unfoldable pub paired : List Entry → List ℕ → List Pair
+paired [] l = []
+paired (e ∷ es) l = record { entry = e; payload = take (bytesIn e) l } ∷ paired es (drop (bytesIn e) l)
+
+-- The payload bytes of all entries.
+abbrev pub sumOf : List Entry → ℕ
+sumOf es = load (λ e. true) bytesIn es
 
 -- A removal over the payloads: the place behind those that stay, and the table.
 pub record Kept : Type 0 where
