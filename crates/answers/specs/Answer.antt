@@ -18,17 +18,11 @@ use Rattle.answers.specs.declared.Received.the-variants.{Message, Destro
 use Rattle.answers.specs.declared.Answer.{Answer}
 use Rattle.answers.specs.declared.Answer.the-variants.{Refused, Done, Transferred, Received as received, Quota, Holders}
 use Rattle.answers.specs.declared.Outcome.{Outcome}
+pub use Rattle.ids.specs.Sizes.{mostIds, mostBytes}
 
 -- "answer buffer under 591 bytes (nothing is written, the number is returned)"; the longest answer: a message with 8 IDs and 512 bytes.
 abbrev pub answerSize : ℕ
 answerSize = 591
-
--- "One send: .. 0 to 8 attached handles, 0 to 512 payload bytes."
-abbrev pub mostIds : ℕ
-mostIds = 8
-
-abbrev pub mostBytes : ℕ
-mostBytes = 512
 
 -- "an ID has 8 bytes"; a list of IDs one after another.
 unfoldable pub idBytes : List ℕ → List ℕ

@@ -95,12 +95,6 @@ fn put_charge(out: &mut [u8], at: usize, c: Charge) -> usize
     put_short(out, b, c.handles as usize)
 }
 
-fn least(a: usize, b: usize) -> usize
-    ensures { λ r. ⌜ r ≡ min a b ⌝ }
-{
-    if a < b { a } else { b }
-}
-
 // The numbers of a message, from the place 1 on.
 fn put_header(out: &mut [u8], h: Header) -> usize
     requires { ⌜ 15 ≤ length (now out) ⌝ }
@@ -122,9 +116,9 @@ fn put_message(out: &mut [u8], h: Header, ids: &[u64], payload: &[u8]) -> usize
     ensures { λ r. ⌜ (r ≡ 1 + length (messageBytes h (now (ids .entry)) (now (payload .entry)))) × (now (out .exit) ≡ sets (now (out .entry)) 1 (messageBytes h (now (ids .entry)) (now (payload .entry)))) ⌝ }
 {
     let at = put_header(out, h);
-    let n = least(ids.len(), MOST_IDS);
+    let n = copies::least(ids.len(), MOST_IDS);
     let end = put_ids(out, at, &ids[..n]);
-    let m = least(payload.len(), MOST_BYTES);
+    let m = copies::least(payload.len(), MOST_BYTES);
     copies::put(out, end, &payload[..m]);
     end + m
 }

@@ -1,10 +1,17 @@
-// Bytes copied into a buffer, and bytes moved down within one. What lies past the buffer's end is left out.
+// Bytes copied into a buffer, bytes moved down within one, and the smaller of two numbers. What lies past the buffer's end is left out.
 ghost use mathlib.Core.Path.{_≡_};
 ghost use Prim.Native.Nat.{_-_, _≤_, min};
 ghost use lib.ListN.{length, take, drop};
 ghost use lib.Seq.{sets};
 ghost use lib.Dec.{leb};
 ghost use Rattle.laws.specs.Tests.{pick};
+
+// The smaller of two numbers.
+pub fn least(a: usize, b: usize) -> usize
+    ensures { λ r. ⌜ r ≡ min a b ⌝ }
+{
+    if a < b { a } else { b }
+}
 
 // As many as asked for, at most those from a place up to the length.
 fn fitting(n: usize, from: usize, length: usize) -> usize
@@ -13,8 +20,7 @@ fn fitting(n: usize, from: usize, length: usize) -> usize
     if length <= from {
         return 0;
     }
-    let room = length - from;
-    if n < room { n } else { room }
+    least(n, length - from)
 }
 
 // Copies the bytes into the buffer from `at` on.

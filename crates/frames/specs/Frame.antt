@@ -8,6 +8,7 @@ use lib.Dec.{eqb, ltb, leb}
 use Rattle.laws.specs.Tests.{pick}
 use Rattle.laws.specs.Bytes.{numAt}
 use Rattle.ids.specs.Refusals.{EINVAL, ENOTTY, EMSGSIZE}
+pub use Rattle.ids.specs.Sizes.{mostIds, mostBytes}
 use Rattle.ids.specs.declared.HandleId.{HandleId}
 use Rattle.ids.specs.declared.Peer.{Peer}
 use Rattle.frames.specs.declared.Command.the-variants.{Open, Disconnect, Create, Destroy, Release, Transfer, Send, Receive, Quota, Holders}
@@ -20,13 +21,6 @@ lastPeer = 7
 
 abbrev pub lastUser : ℕ
 lastUser = 3
-
--- "One send: 1 to 8 destinations, 0 to 8 attached handles, 0 to 512 payload bytes."
-abbrev pub mostIds : ℕ
-mostIds = 8
-
-abbrev pub mostBytes : ℕ
-mostBytes = 512
 
 -- The invalid ID, all ones.
 abbrev pub invalidId : HandleId

@@ -57,17 +57,11 @@ fn digit_of(v: u8) -> u8
     if v < 10 { 48 + v } else { 87 + v }
 }
 
-fn least(a: usize, b: usize) -> usize
-    ensures { λ r. ⌜ r ≡ min a b ⌝ }
-{
-    if a < b { a } else { b }
-}
-
 // The place of the first character that is no digit, of the first 1,292.
 fn fault_place(s: &[u8]) -> usize
     ensures { λ r. ⌜ r ≡ faultPlace (now (s .entry)) ⌝ }
 {
-    let n = least(MOST_DIGITS, s.len());
+    let n = copies::least(MOST_DIGITS, s.len());
     let mut i = 0;
     while i < n {
         if !is_digit(s[i]) {
@@ -165,11 +159,11 @@ pub fn write_line(out: &mut [u8], at: usize, answer: &[u8]) -> Written
 pub fn carry_over(buf: &mut [u8], at: usize, end: usize) -> usize
     ensures { λ r. ⌜ (r ≡ length (carriedOf (now (buf .entry)) at end)) × (now (buf .exit) ≡ carriedOf (now (buf .entry)) at end ++ drop (length (carriedOf (now (buf .entry)) at end)) (now (buf .entry))) ⌝ }
 {
-    let e = least(end, buf.len());
+    let e = copies::least(end, buf.len());
     if e <= at {
         return 0;
     }
-    let n = least(MOST_CARRIED, e - at);
+    let n = copies::least(MOST_CARRIED, e - at);
     copies::down(buf, 0, at, n);
     n
 }

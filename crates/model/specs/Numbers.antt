@@ -1,17 +1,10 @@
--- The numbers of document 01 that a change request may change. The users and the limits of the resources stand in crate quota, the longest answer in crate answers.
+-- The numbers of document 01 that a change request may change. The peers and their slots stand in crate ids, the users and the limits of the resources in crate quota, the longest answer in crate answers.
 -- Assumes nothing.
 use Prim.Native.Nat.{ℕ, suc, _+_, _*_, _/_}
 use mathlib.Core.Path.{_≡_, refl}
 use Rattle.frames.specs.Frame.{lastPeer, lastUser, invalidId}
 use Rattle.quota.specs.Charges.{users}
-
--- "Peers 0 to 7."
-abbrev pub peers : ℕ
-peers = 8
-
--- "A peer owns at most 16 nodes." A node is a slot of its owner: the slots of the peer p are p * 16 to p * 16 + 15.
-abbrev pub slots : ℕ
-slots = 16
+pub use Rattle.ids.specs.Sizes.{peers, slots}
 
 -- The slots of all peers; as a slot, no node.
 abbrev pub nodes : ℕ

@@ -13,17 +13,11 @@ use Rattle.laws.specs.Build.{build}
 use Rattle.laws.specs.Rows.{rowIn}
 use Rattle.rings.specs.declared.Entry.{Entry}
 use Rattle.rings.specs.declared.Match.{Match}
+pub use Rattle.ids.specs.Sizes.{peers, slots}
 
--- "Peers 0 to 7", and the rows of one peer's ring.
-abbrev pub peers : ℕ
-peers = 8
-
+-- The rows of one peer's ring.
 abbrev pub ringSize : ℕ
 ringSize = 512
-
--- The slots of one owner: those of the peer p are p * slots to p * slots + 15.
-abbrev pub slots : ℕ
-slots = 16
 
 abbrev pub rowCount : ℕ
 rowCount = peers * ringSize

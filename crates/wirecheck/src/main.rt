@@ -93,12 +93,6 @@ fn carry_out(c: Command, frame: &[u8], charges: Charges) -> Answered {
     }
 }
 
-fn least(a: usize, b: usize) -> usize
-    ensures { λ r. ⌜ (r ≤ a) × (r ≤ b) ⌝ }
-{
-    if a < b { a } else { b }
-}
-
 // The attached IDs of a send; of another frame, IDs that its answer does not show.
 fn attached(frame: &[u8], nd: usize) -> [u64; 8]
     ensures { λ r. ⌜ length r ≡ 8 ⌝ }
@@ -134,7 +128,7 @@ fn ids_shown(answer: Answer) -> usize
     let Received::Message(h) = r else {
         return 0;
     };
-    least(h.nh, 8)
+    copies::least(h.nh, 8)
 }
 
 fn say(bytes: &[u8]) {
@@ -142,7 +136,7 @@ fn say(bytes: &[u8]) {
     let Written::Next(n) = lines::write_line(&mut line, 0, bytes) else {
         return;
     };
-    let end = least(n, 1184);
+    let end = copies::least(n, 1184);
     io::write_all(STDOUT_FILENO, &line[..end]);
 }
 
@@ -166,7 +160,7 @@ fn answer_frame(frame: &[u8], charges: Charges) -> Charges {
     let list = attached(frame, first_list(frame));
     let mut out = [0u8; 591];
     let o = answers::write_answer(&mut out, answer, &list[..shown], frames::payload(frame));
-    let len = least(o.len, 591);
+    let len = copies::least(o.len, 591);
     say(&out[..len]);
     let after = done.charges;
     after
@@ -184,7 +178,7 @@ fn answer_line(s: &[u8], charges: Charges) -> Turn
     let mut frame = [0u8; 646];
     match lines::read_line(s, &mut frame) {
         LineRead::Frame(m, next) => {
-            let n = least(m, 646);
+            let n = copies::least(m, 646);
             Turn {
                 used: next,
                 charges: answer_frame(&frame[..n], charges),
