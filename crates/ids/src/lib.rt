@@ -10,12 +10,32 @@ pub struct User(pub usize);
 pub struct HandleId(pub u64);
 
 // The refusal numbers of document 01's table; specs/Refusals.antt has the row of each.
+pub const EPERM: u8 = 1;
+
+pub const EIO: u8 = 5;
+
+pub const ENXIO: u8 = 6;
+
 pub const EBADF: u8 = 9;
+
+pub const EAGAIN: u8 = 11;
+
+pub const EEXIST: u8 = 17;
 
 pub const EINVAL: u8 = 22;
 
 pub const ENOTTY: u8 = 25;
 
+pub const ENOSPC: u8 = 28;
+
+pub const ERANGE: u8 = 34;
+
+pub const EOVERFLOW: u8 = 75;
+
 pub const EMSGSIZE: u8 = 90;
 
 pub const ESHUTDOWN: u8 = 108;
+
+pub const EHOSTUNREACH: u8 = 113;
+
+pub const EDQUOT: u8 = 122;

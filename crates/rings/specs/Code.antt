@@ -45,9 +45,9 @@ pub push-made : (d e c n : List ℕ) (p : ℕ) (x : Entry) {h k r : ℕ} {e′ c
 unfolding pushed
 push-made d e c n p x eh ek er t = rw (← eh, ← ek, ← er, ← t)
 
-pub pop-made : (d : List ℕ) (p : ℕ) {h k : ℕ} → h ≡ headOf d p → k ≡ lengthOf d p → set (set d (p * 2) ((h + 1) % ringSize)) (p * 2 + 1) (k - 1) ≡ popped d p
+pub pop-made : (d : List ℕ) (p : ℕ) {h k l : ℕ} → h ≡ headOf d p → k ≡ lengthOf d p → l ≡ k - 1 → set (set d (p * 2) ((h + 1) % ringSize)) (p * 2 + 1) l ≡ popped d p
 unfolding popped
-pop-made d p eh ek = rw (← eh, ← ek)
+pop-made d p eh ek el = rw (← eh, ← ek, el)
 
 pub first-made : (d e c n : List ℕ) (p : ℕ) {h r : ℕ} {x : Entry} → h ≡ headOf d p → r ≡ rowOf p h 0 → x ≡ entryAt (rowsOf e c n) r → x ≡ firstOf (ringsOf d e c n) p
 unfolding firstOf

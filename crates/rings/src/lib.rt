@@ -2,7 +2,7 @@
 // head on, oldest first. Row r of the peer p is row p * RING + r of the tables `entries` (5 numbers a row), `carried`
 // (8 slots a row) and `numbers` (the number of the command that queued it); `ends` has 2 numbers a peer, head and length.
 ghost use mathlib.Core.Path.{_≡_};
-ghost use Prim.Native.Nat.{_+_, _*_, _<_, _≤_};
+ghost use Prim.Native.Nat.{_+_, _*_, _-_, _<_, _≤_};
 ghost use lib.ListN.{length};
 ghost use lib.Seq.{sets};
 ghost use Rattle.laws.specs.Rows.{rowIn};
@@ -35,7 +35,8 @@ pub struct Match {
     pub mask: u16,
 }
 
-fn wide(x: u16) -> usize
+// A number of a table as an index.
+pub fn wide(x: u16) -> usize
     ensures { λ r. ⌜ (r ≡ x) × (r < 65536) ⌝ }
 {
     x as usize
@@ -158,16 +159,23 @@ pub fn push(
     ends[at] = (len + 1) as u16;
 }
 
-// The oldest entry dropped.
+// One less, at least 0.
+fn one_less(n: usize) -> usize
+    ensures { λ r. ⌜ r ≡ n - 1 ⌝ }
+{
+    if n == 0 { 0 } else { n - 1 }
+}
+
+// The oldest entry dropped; of an empty queue, nothing but its place.
 pub fn pop(ends: &mut [u16], p: Peer)
-    requires { ⌜ (length (now ends) ≡ endCount) × (p .0 < peers) × (0 < lengthOf (now ends) (p .0)) ⌝ }
+    requires { ⌜ (length (now ends) ≡ endCount) × (p .0 < peers) ⌝ }
     ensures { λ _. ⌜ now (ends .exit) ≡ popped (now (ends .entry)) (p .0) ⌝ }
 {
     let head = head_of(ends, p);
     let len = len_of(ends, p);
     let at = p.0 * 2;
     ends[at] = ((head + 1) % RING) as u16;
-    ends[at + 1] = (len - 1) as u16;
+    ends[at + 1] = one_less(len) as u16;
 }
 
 // All entries dropped.
@@ -180,7 +188,7 @@ pub fn clear(ends: &mut [u16], p: Peer)
 }
 
 // Is the k-th bit of x set?
-fn bit(x: usize, k: usize) -> bool
+pub fn bit(x: usize, k: usize) -> bool
     requires { ⌜ k < 64 ⌝ }
     ensures { λ r. ⌜ r ≡ bitAt x k ⌝ }
 {

@@ -1,7 +1,7 @@
--- `rings::pop` meets its contract: the head goes on by one place of the ring, and the length is one less. Assumes nothing.
+-- `rings::pop` meets its contract: the head goes on by one place of the ring, and the length is one less, at least 0. Assumes nothing.
+use native.Mathlib.Omega.{arith}
 use lib.ListN.{length-set}
 use Rattle.rings.specs.Code.{pop-made}
-use native.Mathlib.Omega.{arith}
 use borrow.Author.Needs.{needs}
 use Rattle.rings.proofs.pop.Statement.{statement}
 use Rattle.rings.proofs.pop.Tie as tie
@@ -27,8 +27,8 @@ mul-ends c = search needs
 slice-write-ends : tie.Need-slice-write-ends
 slice-write-ends c = search needs
 
-sub-ends : tie.Need-sub-ends
-sub-ends c = search needs
+one-less-requires : tie.Need-one-less-requires
+one-less-requires c κs = search needs
 
 cast-ends-2 : tie.Need-cast-ends-2
 cast-ends-2 c = search needs
@@ -46,7 +46,7 @@ same-length : tie.Need-same-length
 same-length c = search needs
 
 returns : tie.Need-returns
-returns c = pop-made ((c .before .before .before .before .before .before .args) .ends .now) ((c .before .before .before .before .before .before .args) .p .0) ((c .before .before .before .head-of) .ensures .0) ((c .before .len-of) .ensures .0)
+returns c = pop-made ((c .before .before .before .before .before .before .before .args) .ends .now) ((c .before .before .before .before .before .before .before .args) .p .0) ((c .before .before .before .before .head-of) .ensures .0) ((c .before .before .len-of) .ensures .0) ((c .one-less) .ensures)
 
 pub pop-spec : {M : Type 1} → statement M
 pop-spec =
@@ -59,7 +59,7 @@ pop-spec =
     cast-ends
     mul-ends
     slice-write-ends
-    sub-ends
+    one-less-requires
     cast-ends-2
     add-ends-2
     mul-ends-2

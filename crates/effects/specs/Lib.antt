@@ -1,0 +1,12 @@
+pub mod Effects
+pub mod CodeChanges
+pub mod CodeQueues
+pub mod After
+pub mod Good
+pub mod Counting
+pub mod Opening
+pub mod Sending
+pub mod Releasing
+pub mod Receiving
+pub mod Ranges
+pub mod Destroying

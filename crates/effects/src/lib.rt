@@ -1,0 +1,419 @@
+// What each order does to the tables. The command is counted first; no order fails.
+ghost use mathlib.Core.Path.{_≡_};
+ghost use Prim.Native.Nat.{_-_, _<_, _≤_};
+ghost use lib.ListN.{length};
+ghost use Rattle.rings.specs.Rings.{rowsOf, ringsOf, endCount, Sized, lengthOf, ringSize};
+ghost use Rattle.pool.specs.Pool.{poolSize};
+ghost use Rattle.answers.specs.Answer.{answerAfter, outcomeOf};
+ghost use Rattle.queues.specs.Queues.{queuesOf};
+ghost use Rattle.view.specs.View.{busOf};
+ghost use Rattle.grants.specs.Grants.{givenOf};
+ghost use Rattle.effects.specs.Effects.{countedOf, counted, openedPeers, createdOf, created, destroysOf, destroys, dropped, droppedOf, forgotten, notified, releasesOf, releases, transfers, messageTo, sentTo, sends, sendsOf, disconnectsOf, disconnects, messageAnswer, shownIds, shownBytes, receivedMessage, noticeTaken, noticeTakenOf, received, receivedOf};
+use answers::Answer;
+use answers::Header;
+use answers::Outcome;
+use answers::Received;
+use frames::Sizes;
+use ids::HandleId;
+use ids::Peer;
+use ids::User;
+use judges::Places;
+use notices::Asked;
+use rings::Entry;
+use rings::Match;
+
+const SLOTS: usize = 16;
+
+// The kinds of entry that a removal takes out, each a bit: notices; all.
+const NOTICES: u8 = 6;
+
+const ENTRIES: u8 = 7;
+
+// The command is counted: its number.
+fn next_number(peers: &mut [u64]) -> u64
+    requires { ⌜ (length (now peers) ≡ 25) ⌝ }
+    ensures { λ r. ⌜ countedOf r (now (peers .exit)) ≡ counted (now (peers .entry)) ⌝ }
+{
+    tables::count_command(peers);
+    tables::accepted(peers)
+}
+
+pub fn open_peer(peers: &mut [u64], p: Peer, u: User)
+    requires { ⌜ (length (now peers) ≡ 25) × (p .0 < 8) ⌝ }
+    ensures { λ _. ⌜ now (peers .exit) ≡ openedPeers (now (peers .entry)) (p .0) (u .0) ⌝ }
+{
+    tables::count_command(peers);
+    tables::set_open(peers, p, u);
+}
+
+pub fn create(
+    peers: &mut [u64],
+    nodes: &mut [u64],
+    handles: &mut [u64],
+    p: Peer,
+    i: HandleId,
+    s: usize,
+)
+    requires { ⌜ (length (now peers) ≡ 25) × (length (now nodes) ≡ 256) × (length (now handles) ≡ 2048) × (p .0 < 8) × (s < 128) ⌝ }
+    ensures { λ _. ⌜ createdOf (now (peers .exit)) (now (nodes .exit)) (now (handles .exit)) ≡ created (now (peers .entry)) (now (nodes .entry)) (now (handles .entry)) (p .0) (i .0) s ⌝ }
+{
+    tables::count_command(peers);
+    tables::set_live(nodes, s);
+    tables::put_handle(handles, p, s, i, 1);
+}
+
+pub fn destroy(
+    peers: &mut [u64],
+    nodes: &mut [u64],
+    handles: &[u64],
+    ends: &mut [u16],
+    entries: &mut [u16],
+    carried: &mut [u8],
+    numbers: &mut [u64],
+    p: Peer,
+    s: usize,
+)
+    requires { ⌜ (length (now peers) ≡ 25) × (length (now nodes) ≡ 256) × (length (now handles) ≡ 2048) × (length (now ends) ≡ endCount) × Sized (rowsOf (now entries) (now carried) (now numbers)) × (p .0 < 8) ⌝ }
+    ensures { λ _. ⌜ destroysOf (now (peers .exit)) (now (nodes .exit)) (ringsOf (now (ends .exit)) (now (entries .exit)) (now (carried .exit)) (now (numbers .exit))) ≡ destroys (now (peers .entry)) (now (nodes .entry)) (now (handles .entry)) (ringsOf (now (ends .entry)) (now (entries .entry)) (now (carried .entry)) (now (numbers .entry))) (p .0) s ⌝ }
+{
+    let n = next_number(peers);
+    let m = Match::one_slot(notices::RELEASED_BIT, s);
+    let set = m.mask;
+    notices::destroy_set(nodes, handles, ends, entries, carried, numbers, p, set, n);
+}
+
+// The peer's handle to the slot's node is gone: its notices go, and the messages for its own node.
+fn forget(
+    charges: &mut [u16],
+    ends: &mut [u16],
+    entries: &mut [u16],
+    carried: &mut [u8],
+    numbers: &mut [u64],
+    pool: &mut [u8],
+    p: Peer,
+    s: usize,
+)
+    requires { ⌜ (length (now charges) ≡ 96) × (length (now ends) ≡ endCount) × Sized (rowsOf (now entries) (now carried) (now numbers)) × (p .0 < 8) ⌝ }
+    ensures { λ _. ⌜ queuesOf (now (charges .exit)) (now (ends .exit)) (now (entries .exit)) (now (carried .exit)) (now (numbers .exit)) (now (pool .exit)) ≡ forgotten (queuesOf (now (charges .entry)) (now (ends .entry)) (now (entries .entry)) (now (carried .entry)) (now (numbers .entry)) (now (pool .entry))) (p .0) s ⌝ }
+{
+    let kinds = if s / SLOTS == p.0 { ENTRIES } else { NOTICES };
+    let m = Match::one_slot(kinds, s);
+    queues::remove(charges, ends, entries, carried, numbers, pool, p, m);
+}
+
+// One less, at least 0.
+fn one_less(c: u64) -> u64
+    ensures { λ r. ⌜ r ≡ c - 1 ⌝ }
+{
+    if c == 0 { 0 } else { c - 1 }
+}
+
+// One reference of the peer to the slot's node less: how many are left.
+fn drop_reference(handles: &mut [u64], p: Peer, s: usize) -> u64
+    requires { ⌜ (length (now handles) ≡ 2048) × (p .0 < 8) × (s < 128) ⌝ }
+    ensures { λ r. ⌜ droppedOf r (now (handles .exit)) ≡ dropped (now (handles .entry)) (p .0) s ⌝ }
+{
+    let left = one_less(tables::count_of(handles, p, s));
+    let id = tables::id_of(handles, p, s);
+    tables::put_handle(handles, p, s, id, left);
+    left
+}
+
+// The release notice at the owner, where the slot's node lives and the sum of counts is 1.
+fn notify(
+    nodes: &[u64],
+    handles: &[u64],
+    ends: &mut [u16],
+    entries: &mut [u16],
+    carried: &mut [u8],
+    numbers: &mut [u64],
+    s: usize,
+    n: u64,
+)
+    requires { ⌜ (length (now nodes) ≡ 256) × (length (now handles) ≡ 2048) × (length (now ends) ≡ endCount) × Sized (rowsOf (now entries) (now carried) (now numbers)) × (s < 128) ⌝ }
+    ensures { λ _. ⌜ ringsOf (now (ends .exit)) (now (entries .exit)) (now (carried .exit)) (now (numbers .exit)) ≡ notified (now (nodes .entry)) (now (handles .entry)) (ringsOf (now (ends .entry)) (now (entries .entry)) (now (carried .entry)) (now (numbers .entry))) s n ⌝ }
+{
+    if !tables::is_live(nodes, s) {
+        return;
+    }
+    if tables::total(handles, s) == 1 {
+        let e = notices::notice(notices::RELEASED, s, n);
+        queues::enter(ends, entries, carried, numbers, Peer(s / SLOTS), e);
+    }
+}
+
+pub fn release(
+    peers: &mut [u64],
+    nodes: &[u64],
+    handles: &mut [u64],
+    charges: &mut [u16],
+    ends: &mut [u16],
+    entries: &mut [u16],
+    carried: &mut [u8],
+    numbers: &mut [u64],
+    pool: &mut [u8],
+    p: Peer,
+    s: usize,
+)
+    requires { ⌜ (length (now peers) ≡ 25) × (length (now nodes) ≡ 256) × (length (now handles) ≡ 2048) × (length (now charges) ≡ 96) × (length (now ends) ≡ endCount) × Sized (rowsOf (now entries) (now carried) (now numbers)) × (p .0 < 8) × (s < 128) ⌝ }
+    ensures { λ _. ⌜ releasesOf (now (peers .exit)) (now (handles .exit)) (queuesOf (now (charges .exit)) (now (ends .exit)) (now (entries .exit)) (now (carried .exit)) (now (numbers .exit)) (now (pool .exit))) ≡ releases (now (peers .entry)) (now (nodes .entry)) (now (handles .entry)) (queuesOf (now (charges .entry)) (now (ends .entry)) (now (entries .entry)) (now (carried .entry)) (now (numbers .entry)) (now (pool .entry))) (p .0) s ⌝ }
+{
+    let n = next_number(peers);
+    let left = drop_reference(handles, p, s);
+    if left == 0 {
+        forget(charges, ends, entries, carried, numbers, pool, p, s);
+    }
+    notify(nodes, handles, ends, entries, carried, numbers, s, n);
+}
+
+pub fn transfer(
+    peers: &mut [u64],
+    nodes: &[u64],
+    handles: &mut [u64],
+    ends: &mut [u16],
+    entries: &mut [u16],
+    carried: &mut [u8],
+    numbers: &mut [u64],
+    q: Peer,
+    s: usize,
+) -> HandleId
+    requires { ⌜ (length (now peers) ≡ 25) × (length (now nodes) ≡ 256) × (length (now handles) ≡ 2048) × (length (now ends) ≡ endCount) × Sized (rowsOf (now entries) (now carried) (now numbers)) × (q .0 < 8) × (s < 128) ⌝ }
+    ensures { λ r. ⌜ givenOf (r .0) (now (peers .exit)) (now (handles .exit)) (ringsOf (now (ends .exit)) (now (entries .exit)) (now (carried .exit)) (now (numbers .exit))) ≡ transfers (now (peers .entry)) (now (nodes .entry)) (now (handles .entry)) (ringsOf (now (ends .entry)) (now (entries .entry)) (now (carried .entry)) (now (numbers .entry))) (q .0) s ⌝ }
+{
+    tables::count_command(peers);
+    HandleId(grants::give(peers, nodes, handles, ends, entries, carried, numbers, q, s))
+}
+
+// The message of a send to a slot.
+fn message_to(s: usize, u: User, nb: usize, nh: usize, slots: [u8; 8], n: u64) -> Entry
+    requires { ⌜ s < 128 ⌝ }
+    ensures { λ r. ⌜ r ≡ messageTo s (u .0) nb nh slots n ⌝ }
+{
+    Entry {
+        kind: 0,
+        slot: s as u16,
+        user: (u.0 % 4) as u16,
+        nb: (nb % 65536) as u16,
+        nh: (nh % 65536) as u16,
+        carried: slots,
+        number: n,
+    }
+}
+
+// A message for each destination, in order.
+fn deliver(
+    charges: &mut [u16],
+    ends: &mut [u16],
+    entries: &mut [u16],
+    carried: &mut [u8],
+    numbers: &mut [u64],
+    pool: &mut [u8],
+    u: User,
+    z: Sizes,
+    w: Places,
+    payload: &[u8],
+    n: u64,
+)
+    requires { ⌜ (length (now charges) ≡ 96) × (length (now ends) ≡ endCount) × Sized (rowsOf (now entries) (now carried) (now numbers)) × (z .nd ≤ 8) ⌝ }
+    ensures { λ _. ⌜ queuesOf (now (charges .exit)) (now (ends .exit)) (now (entries .exit)) (now (carried .exit)) (now (numbers .exit)) (now (pool .exit)) ≡ sentTo (queuesOf (now (charges .entry)) (now (ends .entry)) (now (entries .entry)) (now (carried .entry)) (now (numbers .entry)) (now (pool .entry))) (u .0) (z .nh) w (now (payload .entry)) n (z .nd) ⌝ }
+{
+    let to = w.to;
+    let slots = w.carried;
+    let mut k = 0;
+    while k < z.nd {
+        let s = to[k] as usize % 128;
+        let e = message_to(s, u, payload.len(), z.nh, slots, n);
+        queues::enqueue(
+            charges,
+            ends,
+            entries,
+            carried,
+            numbers,
+            pool,
+            Peer(s / SLOTS),
+            e,
+            payload,
+        );
+        k += 1;
+    }
+}
+
+pub fn send(
+    peers: &mut [u64],
+    charges: &mut [u16],
+    ends: &mut [u16],
+    entries: &mut [u16],
+    carried: &mut [u8],
+    numbers: &mut [u64],
+    pool: &mut [u8],
+    p: Peer,
+    z: Sizes,
+    w: Places,
+    payload: &[u8],
+)
+    requires { ⌜ (length (now peers) ≡ 25) × (length (now charges) ≡ 96) × (length (now ends) ≡ endCount) × Sized (rowsOf (now entries) (now carried) (now numbers)) × (p .0 < 8) × (z .nd ≤ 8) ⌝ }
+    ensures { λ _. ⌜ sendsOf (now (peers .exit)) (queuesOf (now (charges .exit)) (now (ends .exit)) (now (entries .exit)) (now (carried .exit)) (now (numbers .exit)) (now (pool .exit))) ≡ sends (now (peers .entry)) (queuesOf (now (charges .entry)) (now (ends .entry)) (now (entries .entry)) (now (carried .entry)) (now (numbers .entry)) (now (pool .entry))) (p .0) z w (now (payload .entry)) ⌝ }
+{
+    let n = next_number(peers);
+    let u = tables::user_of(peers, p);
+    deliver(
+        charges,
+        ends,
+        entries,
+        carried,
+        numbers,
+        pool,
+        u,
+        z,
+        w,
+        payload,
+        n,
+    );
+}
+
+pub fn disconnect(
+    peers: &mut [u64],
+    nodes: &mut [u64],
+    handles: &mut [u64],
+    charges: &mut [u16],
+    ends: &mut [u16],
+    entries: &mut [u16],
+    carried: &mut [u8],
+    numbers: &mut [u64],
+    p: Peer,
+)
+    requires { ⌜ (length (now peers) ≡ 25) × (length (now nodes) ≡ 256) × (length (now handles) ≡ 2048) × (length (now charges) ≡ 96) × (length (now ends) ≡ endCount) × Sized (rowsOf (now entries) (now carried) (now numbers)) × (p .0 < 8) ⌝ }
+    ensures { λ _. ⌜ disconnectsOf (now (peers .exit)) (now (nodes .exit)) (now (handles .exit)) (now (charges .exit)) (ringsOf (now (ends .exit)) (now (entries .exit)) (now (carried .exit)) (now (numbers .exit))) ≡ disconnects (now (peers .entry)) (now (nodes .entry)) (now (handles .entry)) (now (charges .entry)) (ringsOf (now (ends .entry)) (now (entries .entry)) (now (carried .entry)) (now (numbers .entry))) (p .0) ⌝ }
+{
+    let n = next_number(peers);
+    let set = notices::set_of(nodes, handles, p, Asked::Living);
+    notices::destroy_set(nodes, handles, ends, entries, carried, numbers, p, set, n);
+    queues::empty(charges, ends, p);
+    notices::tell_owners(nodes, handles, ends, entries, carried, numbers, p, n);
+    tables::clear_peer(handles, p);
+    tables::set_disconnected(peers, p);
+}
+
+// The answer of a message: its payload is read from the pool before it is taken out there.
+fn write_message(
+    out: &mut [u8],
+    charges: &[u16],
+    pool: &[u8],
+    p: Peer,
+    to: HandleId,
+    flag: bool,
+    e: Entry,
+    ids: [u64; 8],
+) -> Outcome
+    requires { ⌜ (length (now charges) ≡ 96) × (length (now pool) ≡ poolSize) × (p .0 < 8) ⌝ }
+    ensures { λ r. ⌜ (r ≡ outcomeOf (messageAnswer (now (charges .entry)) (p .0) to flag e) (shownIds e ids) (shownBytes (now (charges .entry)) (now (pool .entry)) (p .0) e) (now (out .entry))) × (now (out .exit) ≡ answerAfter (messageAnswer (now (charges .entry)) (p .0) to flag e) (shownIds e ids) (shownBytes (now (charges .entry)) (now (pool .entry)) (p .0) e) (now (out .entry))) ⌝ }
+{
+    let c = tables::load(charges, p);
+    let all = queues::used(c);
+    let nb = copies::least(rings::wide(e.nb), all);
+    let nh = copies::least(rings::wide(e.nh), 8);
+    let h = Header {
+        to,
+        user: User(rings::wide(e.user)),
+        flag,
+        nb,
+        nh,
+    };
+    answers::write_answer(
+        out,
+        Answer::Received(Received::Message(h)),
+        &ids[..nh],
+        pool::piece(pool, p, 0, nb),
+    )
+}
+
+// The oldest message is taken out, and what it carries is given.
+fn receive_message(
+    peers: &mut [u64],
+    nodes: &[u64],
+    handles: &mut [u64],
+    charges: &mut [u16],
+    ends: &mut [u16],
+    entries: &mut [u16],
+    carried: &mut [u8],
+    numbers: &mut [u64],
+    pool: &mut [u8],
+    p: Peer,
+    e: Entry,
+    out: &mut [u8],
+) -> Outcome
+    requires { ⌜ (length (now peers) ≡ 25) × (length (now nodes) ≡ 256) × (length (now handles) ≡ 2048) × (length (now charges) ≡ 96) × (length (now ends) ≡ endCount) × Sized (rowsOf (now entries) (now carried) (now numbers)) × (length (now pool) ≡ poolSize) × (p .0 < 8) × (lengthOf (now ends) (p .0) ≤ ringSize) ⌝ }
+    ensures { λ r. ⌜ receivedOf r (now (out .exit)) (now (peers .exit)) (now (handles .exit)) (queuesOf (now (charges .exit)) (now (ends .exit)) (now (entries .exit)) (now (carried .exit)) (now (numbers .exit)) (now (pool .exit))) ≡ receivedMessage (now (peers .entry)) (now (nodes .entry)) (now (handles .entry)) (queuesOf (now (charges .entry)) (now (ends .entry)) (now (entries .entry)) (now (carried .entry)) (now (numbers .entry)) (now (pool .entry))) (p .0) e (now (out .entry)) ⌝ }
+{
+    let flag = queues::follows(ends, entries, carried, numbers, p, e.number);
+    let to = grants::id_or_invalid(handles, p, rings::wide(e.slot) % 128);
+    rings::pop(ends, p);
+    let slots = e.carried;
+    let nh = copies::least(rings::wide(e.nh), 8);
+    let ids = grants::give_all(
+        peers,
+        nodes,
+        handles,
+        ends,
+        entries,
+        carried,
+        numbers,
+        p,
+        slots,
+        nh,
+    );
+    let o = write_message(out, charges, pool, p, to, flag, e, ids);
+    queues::settle(charges, pool, p, e);
+    o
+}
+
+// The oldest notice is taken out.
+fn receive_notice(handles: &[u64], ends: &mut [u16], p: Peer, e: Entry, out: &mut [u8]) -> Outcome
+    requires { ⌜ (length (now handles) ≡ 2048) × (length (now ends) ≡ endCount) × (p .0 < 8) ⌝ }
+    ensures { λ r. ⌜ noticeTakenOf r (now (out .exit)) (now (ends .exit)) ≡ noticeTaken (now (handles .entry)) (now (ends .entry)) (p .0) e (now (out .entry)) ⌝ }
+{
+    let id = grants::id_or_invalid(handles, p, rings::wide(e.slot) % 128);
+    rings::pop(ends, p);
+    if e.kind == notices::DESTROYED {
+        return answers::write_plain(out, Answer::Received(Received::Destroyed(id)));
+    }
+    answers::write_plain(out, Answer::Received(Received::Released(id)))
+}
+
+// The oldest entry is taken out and shown.
+pub fn receive(
+    peers: &mut [u64],
+    nodes: &[u64],
+    handles: &mut [u64],
+    charges: &mut [u16],
+    ends: &mut [u16],
+    entries: &mut [u16],
+    carried: &mut [u8],
+    numbers: &mut [u64],
+    pool: &mut [u8],
+    p: Peer,
+    out: &mut [u8],
+) -> Outcome
+    requires { ⌜ (length (now peers) ≡ 25) × (length (now nodes) ≡ 256) × (length (now handles) ≡ 2048) × (length (now charges) ≡ 96) × (length (now ends) ≡ endCount) × Sized (rowsOf (now entries) (now carried) (now numbers)) × (length (now pool) ≡ poolSize) × (p .0 < 8) × (lengthOf (now ends) (p .0) ≤ ringSize) ⌝ }
+    ensures { λ r. ⌜ receivedOf r (now (out .exit)) (now (peers .exit)) (now (handles .exit)) (queuesOf (now (charges .exit)) (now (ends .exit)) (now (entries .exit)) (now (carried .exit)) (now (numbers .exit)) (now (pool .exit))) ≡ received (now (peers .entry)) (now (nodes .entry)) (now (handles .entry)) (queuesOf (now (charges .entry)) (now (ends .entry)) (now (entries .entry)) (now (carried .entry)) (now (numbers .entry)) (now (pool .entry))) (p .0) (now (out .entry)) ⌝ }
+{
+    tables::count_command(peers);
+    let e = rings::first_entry(ends, entries, carried, numbers, p);
+    if !queues::is_message(e) {
+        return receive_notice(handles, ends, p, e, out);
+    }
+    receive_message(
+        peers,
+        nodes,
+        handles,
+        charges,
+        ends,
+        entries,
+        carried,
+        numbers,
+        pool,
+        p,
+        e,
+        out,
+    )
+}

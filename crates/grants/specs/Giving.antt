@@ -1,0 +1,343 @@
+-- What is given to a peer, in the model's words: the tables after a handle was given, and after several, stand for the state that the model gives.
+-- Assumes nothing.
+use Prim.Native.Nat.{ℕ, zero, suc, _+_, _/_, _%_, _≤_, _<_}
+use mathlib.Core.Path.{_≡_, refl, sym, ap, ap₂, _∙_}
+use mathlib.Core.Bool.{Bool, true, false, not}
+use mathlib.Core.List.{List, [], _∷_, _++_}
+use native.Mathlib.Omega.{arith}
+use lib.ListN.{length, getD, take, length-set}
+use lib.Seq.{take-suc, take-suc-set, getD-take, length-take-le}
+use lib.Dec.{eqb}
+use borrow.Author.Tests.{eqb-false, eq-eqb, ne-eqb}
+use Rattle.laws.specs.Tests.{pick, Seen, Seen.is-true, Seen.is-false, look, clash, pick-all, pick-cases, Same, Same.same, Same.other, same?}
+use Rattle.laws.specs.Tables.{upd, upd-same, upd-other, upd-self}
+use Rattle.laws.specs.Weights.{All, keep, all-imp, all-at}
+use Rattle.rings.specs.Rings.{slots, ringSize, Rings, Sized, endCount, lengthOf, oneSlot}
+use Rattle.tables.specs.Peers.{modulus, givenAt}
+use Rattle.tables.specs.PeersView.{statusV, userV, givenV, acceptedV, status-given, user-given, given-given, accepted-given, given-is, given-length}
+use Rattle.tables.specs.Nodes.{liveAt}
+use Rattle.tables.specs.NodesView.{lifeV, live-is}
+use Rattle.tables.specs.Handles.{idAt, countAt, totalAt}
+use Rattle.tables.specs.HandlesView.{handleV, handle-put, count-is, id-is, given-after, total-is, put-length}
+use Rattle.model.specs.Numbers.{owner, nextId}
+use Rattle.model.specs.State.{Life, isLive, Handle, handleOf, count, idOr, Entry, State, total}
+use Rattle.model.specs.State.Entry.{message, destroyed, released}
+use Rattle.model.specs.Tables.{withGiven, withHandles, withQueues}
+use Rattle.model.specs.Changes.{notReleased, withdraw, shown, givenAfter, give, giveAll, shownAll}
+use Rattle.model.specs.Notices.{Stands}
+use Rattle.model.specs.Occurs.{keep-imp}
+use Rattle.model.specs.Counts.{put, put-all, total-other, count-handle}
+use Rattle.model.specs.SimGive.{given-gives}
+use Rattle.model.specs.QueuesProof.{give-handle, give-dead}
+use Rattle.view.specs.View.{Bus, Shape, queueV, stateOf}
+use Rattle.queues.specs.Queues.{Short, withdrawn}
+use Rattle.queues.specs.Leaving.{withdraw-view, withdraw-rows, withdraw-ends, withdraw-length, withdraw-lengths, one-match, one-bytes}
+use Rattle.grants.specs.Grants.{Numbered, numberedOf, numbered, shownTo, referenced, Given, givenTo, Gives, oneMore, givesTo}
+
+-- A release notice in the queue of the peer q is for a node of q whose sum of counts is 1.
+abbrev pub LoneEntry : (ℕ → ℕ → Handle) → ℕ → Entry → Type 0
+LoneEntry h q (message n m) = Unit {0}
+LoneEntry h q (destroyed n s) = Unit {0}
+LoneEntry h q (released n s) = (owner s ≡ q) × (total h s ≡ 1)
+
+abbrev pub Lone : (ℕ → ℕ → Handle) → (ℕ → List Entry) → Type 0
+Lone h qs = (q : ℕ) → All (λ e. LoneEntry h q e) (qs q)
+
+pub lone-stands : (h : ℕ → ℕ → Handle) (l : ℕ → Life) (qs : ℕ → List Entry) → ((q : ℕ) → All (Stands h l q) (qs q)) → Lone h qs
+lone-stands h l qs a q = all-imp (Stands h l q) (λ e. LoneEntry h q e) one (qs q) (a q)
+  where
+    one : (e : Entry) → Stands h l q e → LoneEntry h q e
+    one (message n m) z = tt
+    one (destroyed n s) z = tt
+    one (released n s) z = (z .1, z .2)
+
+-- A handle given keeps this: the notice of its node is withdrawn at the owner, the sums of the other nodes stay.
+pub lone-give : (b : State) (p s : ℕ) → Lone (b .handle) (b .queue) → Lone (give b p s .handle) (give b p s .queue)
+unfolding give withdraw withQueues withHandles withGiven
+lone-give b p s a = go (look (isLive (b .life s)))
+  where
+    x : Handle
+    x = handleOf (shown b p s) (suc (count (b .handle p s)))
+
+    stay : (q : ℕ) (e : Entry) → notReleased (eqb s) e ≡ true → LoneEntry (b .handle) q e → LoneEntry (put (b .handle) p s x) q e
+    stay q (message n m) z l = tt
+    stay q (destroyed n t) z l = tt
+    stay q (released n t) z l = (l .0, total-other (b .handle) p s x t (λ y. clash (sym z ∙ ap not (eq-eqb s t y))) ∙ l .1)
+
+    elsewhere : (q : ℕ) → (owner s ≡ q → ⊥) → (e : Entry) → LoneEntry (b .handle) q e → LoneEntry (put (b .handle) p s x) q e
+    elsewhere q d (message n m) l = tt
+    elsewhere q d (destroyed n t) l = tt
+    elsewhere q d (released n t) l = (l .0, total-other (b .handle) p s x t (λ y. d (ap owner y ∙ l .0)) ∙ l .1)
+
+    at : (q : ℕ) → Same (owner s) q → All (λ e. LoneEntry (put (b .handle) p s x) q e) (upd (b .queue) (owner s) (keep (notReleased (eqb s)) (b .queue (owner s))) q)
+    at q (same e) =
+        rw (← e, upd-same)
+        (keep-imp (λ e. LoneEntry (b .handle) (owner s) e) (λ e. LoneEntry (put (b .handle) p s x) (owner s) e) (notReleased (eqb s)) (stay (owner s)) (b .queue (owner s)) (a (owner s)))
+    at q (other d) =
+        rw (upd-other (b .queue) (owner s) q (keep (notReleased (eqb s)) (b .queue (owner s))) d)
+        (all-imp (λ e. LoneEntry (b .handle) q e) (λ e. LoneEntry (put (b .handle) p s x) q e) (elsewhere q d) (b .queue q) (a q))
+
+    go : Seen (isLive (b .life s)) → Lone (give b p s .handle) (give b p s .queue)
+    go (is-false e) = rw e a
+    go (is-true e) = rw e (λ q. at q (same? (owner s) q))
+
+-- What passes everywhere is all kept.
+keep-whole : {A : Type 0} (t : A → Bool) (xs : List A) → All (λ x. t x ≡ true) xs → keep t xs ≡ xs
+keep-whole t [] h = refl
+keep-whole t (x ∷ xs) h = rw (h .0) (ap (_∷_ x) (keep-whole t xs (h .1)))
+
+-- The table of peers once an ID is shown.
+module _ (ps hs : List ℕ) (size : length ps ≡ 25) (p s : ℕ) (lp : p < 8) (ls : s < 128) where
+  shown-cases : (P : Numbered → Type 0) → (eqb (countAt hs p s) 0 ≡ true → P (numbered ps p)) → (eqb (countAt hs p s) 0 ≡ false → P (numberedOf (idAt hs p s) ps)) →
+      P (shownTo ps hs p s)
+  unfolding shownTo
+  shown-cases P h k = pick-cases P (eqb (countAt hs p s) 0) (numbered ps p) (numberedOf (idAt hs p s) ps) h k
+
+  shown-id : shownTo ps hs p s .id ≡ idOr (nextId (givenV ps p)) (handleV hs p s)
+  unfolding numbered
+  shown-id =
+      shown-cases (λ x. x .id ≡ idOr (nextId (givenV ps p)) (handleV hs p s)) (λ e. rw (id-is hs p s lp ls (nextId (givenV ps p)), e, given-is ps p lp))
+      (λ e. rw (id-is hs p s lp ls (nextId (givenV ps p)), e))
+
+  shown-status : statusV (shownTo ps hs p s .peers) ≡ statusV ps
+  unfolding numbered
+  shown-status = shown-cases (λ x. statusV (x .peers) ≡ statusV ps) (λ e. status-given ps size p lp (givenAt ps p + 1)) (λ e. refl)
+
+  shown-user : userV (shownTo ps hs p s .peers) ≡ userV ps
+  unfolding numbered
+  shown-user = shown-cases (λ x. userV (x .peers) ≡ userV ps) (λ e. user-given ps size p lp (givenAt ps p + 1)) (λ e. refl)
+
+  shown-accepted : acceptedV (shownTo ps hs p s .peers) ≡ acceptedV ps
+  unfolding numbered
+  shown-accepted = shown-cases (λ x. acceptedV (x .peers) ≡ acceptedV ps) (λ e. accepted-given ps size p lp (givenAt ps p + 1)) (λ e. refl)
+
+  shown-given : givenAt ps p + 1 < modulus → givenV (shownTo ps hs p s .peers) ≡ upd (givenV ps) p (givenAfter (handleV hs p s) (givenV ps p))
+  unfolding numbered
+  shown-given room =
+      shown-cases (λ x. givenV (x .peers) ≡ upd (givenV ps) p (givenAfter (handleV hs p s) (givenV ps p)))
+      (λ e.
+      let one : suc (givenV ps p) ≡ givenAt ps p + 1 = omega (arith, given-is ps p lp) in
+      rw (given-after hs p s lp ls (givenV ps p), e, one) (given-given ps size p lp (givenAt ps p + 1) room))
+      (λ e. rw (given-after hs p s lp ls (givenV ps p), e) (sym (upd-self (givenV ps) p (givenV ps p) refl)))
+
+shown-length : (ps hs : List ℕ) (p s : ℕ) → length (shownTo ps hs p s .peers) ≡ length ps
+unfolding shownTo numbered
+shown-length ps hs p s =
+    pick-all (λ (x : Numbered). length (x .peers) ≡ length ps) (eqb (countAt hs p s) 0) (numbered ps p) (numberedOf (idAt hs p s) ps) (given-length ps p (givenAt ps p + 1)) refl
+
+-- The rings once the release notice of a slot is withdrawn. Where the sum of counts is not 1 no such notice stands.
+abbrev unnotedRings : List ℕ → Rings → ℕ → Rings
+unnotedRings hs r s = pick (eqb (totalAt hs s) 1) (withdrawn r (s / slots) (oneSlot 4 s)) r
+
+module _ (hs : List ℕ) (r : Rings) (s : ℕ) where
+  unnoted-queue : (t : List ℕ) → Sized (r .rows) → length (r .ends) ≡ endCount → s < 128 → Lone (handleV hs) (queueV r t) → lengthOf (r .ends) (s / slots) ≤ ringSize →
+      queueV (unnotedRings hs r s) t ≡ upd (queueV r t) (owner s) (keep (notReleased (eqb s)) (queueV r t (owner s)))
+  unnoted-queue t rows ends ls lone short =
+      pick-cases (λ (x : Rings). queueV x t ≡ upd (queueV r t) (owner s) (keep (notReleased (eqb s)) (queueV r t (owner s)))) (eqb (totalAt hs s) 1)
+      (withdrawn r (s / slots) (oneSlot 4 s)) r
+      (λ e. withdraw-view r (s / slots) (oneSlot 4 s) short t (notReleased (eqb s)) rows ends (omega arith) (one-match s) (one-bytes s))
+      (λ e.
+      sym (upd-self (queueV r t) (owner s) (keep (notReleased (eqb s)) (queueV r t (owner s)))
+      (keep-whole (notReleased (eqb s)) (queueV r t (owner s))
+      (all-imp (λ d. LoneEntry (handleV hs) (owner s) d) (λ d. notReleased (eqb s) d ≡ true) (one (eqb-false (totalAt hs s) 1 e)) (queueV r t (owner s)) (lone (owner s))))))
+    where
+      one : (totalAt hs s ≡ 1 → ⊥) → (d : Entry) → LoneEntry (handleV hs) (owner s) d → notReleased (eqb s) d ≡ true
+      one f (message n m) z = refl
+      one f (destroyed n x) z = refl
+      one f (released n x) z = ap not (ne-eqb s x (λ y. f (total-is hs s ls ∙ ap (total (handleV hs)) y ∙ z .1)))
+
+  unnoted-rows : Sized (r .rows) → Sized (unnotedRings hs r s .rows)
+  unnoted-rows h =
+      pick-all (λ (x : Rings). Sized (x .rows)) (eqb (totalAt hs s) 1) (withdrawn r (s / slots) (oneSlot 4 s)) r (withdraw-rows r (s / slots) (oneSlot 4 s) h) h
+
+  unnoted-ends : length (unnotedRings hs r s .ends) ≡ length (r .ends)
+  unnoted-ends =
+      pick-all (λ (x : Rings). length (x .ends) ≡ length (r .ends)) (eqb (totalAt hs s) 1) (withdrawn r (s / slots) (oneSlot 4 s)) r
+      (withdraw-ends r (s / slots) (oneSlot 4 s)) refl
+
+  unnoted-lengths : length (r .ends) ≡ endCount → s < 128 → (o : ℕ) → lengthOf (unnotedRings hs r s .ends) o ≤ lengthOf (r .ends) o
+  unnoted-lengths ends ls o =
+      pick-all (λ (x : Rings). lengthOf (x .ends) o ≤ lengthOf (r .ends) o) (eqb (totalAt hs s) 1) (withdrawn r (s / slots) (oneSlot 4 s)) r (go (same? (s / slots) o)) (omega arith)
+    where
+      go : Same (s / slots) o → lengthOf (withdrawn r (s / slots) (oneSlot 4 s) .ends) o ≤ lengthOf (r .ends) o
+      go (same e) = rw (← e) (withdraw-length r (s / slots) (oneSlot 4 s) ends (omega arith))
+      go (other d) = omega (arith, withdraw-lengths r (s / slots) (oneSlot 4 s) o d)
+
+-- The buffers once a handle is given.
+abbrev pub givenBus : Bus → Given → Bus
+givenBus b g = record { peers = g .peers; nodes = b .nodes; handles = g .handles; charges = b .charges; rings = g .rings; pool = b .pool }
+
+abbrev pub givenOn : Bus → ℕ → ℕ → Given
+givenOn b p s = givenTo (b .nodes) (b .peers) (b .handles) (b .rings) p s
+
+module _ (b : Bus) (shape : Shape b) (p s : ℕ) (lp : p < 8) (ls : s < 128) (lone : Lone (handleV (b .handles)) (queueV (b .rings) (b .pool)))
+    (counts : countAt (b .handles) p s + 1 < modulus) (ids : givenAt (b .peers) p + 1 < modulus) (short : lengthOf (b .rings .ends) (s / 16) ≤ ringSize) where
+  pub given-view : stateOf (givenBus b (givenOn b p s)) ≡ give (stateOf b) p s
+  unfolding givenTo referenced give shown withdraw withQueues withHandles withGiven
+  given-view = go (look (liveAt (b .nodes) s))
+    where
+      live : liveAt (b .nodes) s ≡ isLive (lifeV (b .nodes) s)
+      live = live-is (b .nodes) s ls
+
+      go : Seen (liveAt (b .nodes) s) → stateOf (givenBus b (givenOn b p s)) ≡ give (stateOf b) p s
+      go (is-false e) = rw (← live, e)
+      go (is-true e) =
+          let more : countAt (b .handles) p s + 1 ≡ suc (count (handleV (b .handles) p s)) = omega (arith, count-is (b .handles) p s lp ls) in
+          rw (
+            ← live,
+            e,
+            shown-status (b .peers) (b .handles) (shape .peers) p s lp ls,
+            shown-user (b .peers) (b .handles) (shape .peers) p s lp ls,
+            shown-given (b .peers) (b .handles) (shape .peers) p s lp ls ids,
+            shown-accepted (b .peers) (b .handles) (shape .peers) p s lp ls,
+            handle-put (b .handles) (shape .handles) p s (shownTo (b .peers) (b .handles) p s .id) (countAt (b .handles) p s + 1) lp ls counts,
+            shown-id (b .peers) (b .handles) (shape .peers) p s lp ls,
+            more,
+            unnoted-queue (b .handles) (b .rings) s (b .pool) (shape .rows) (shape .ends) ls lone short,
+          )
+
+-- The ID shown is the model's.
+pub given-shown : (b : Bus) → Shape b → (p s : ℕ) → p < 8 → s < 128 → givenOn b p s .id ≡ shown (stateOf b) p s
+unfolding givenTo referenced shown
+given-shown b shape p s lp ls = go (look (liveAt (b .nodes) s))
+  where
+    live : liveAt (b .nodes) s ≡ isLive (lifeV (b .nodes) s)
+    live = live-is (b .nodes) s ls
+
+    go : Seen (liveAt (b .nodes) s) → givenOn b p s .id ≡ shown (stateOf b) p s
+    go (is-false e) = rw (← live, e)
+    go (is-true e) = rw (← live, e) (shown-id (b .peers) (b .handles) (shape .peers) p s lp ls)
+
+-- The buffers keep their lengths, and no queue becomes longer.
+pub given-shape : (b : Bus) → Shape b → (p s : ℕ) → Shape (givenBus b (givenOn b p s))
+unfolding givenTo referenced
+given-shape b shape p s = go (look (liveAt (b .nodes) s))
+  where
+    go : Seen (liveAt (b .nodes) s) → Shape (givenBus b (givenOn b p s))
+    go (is-false e) = rw e shape
+    go (is-true e) =
+        rw e
+        (record {
+          peers = shown-length (b .peers) (b .handles) p s ∙ shape .peers;
+          nodes = shape .nodes;
+          handles = put-length (b .handles) p s (shownTo (b .peers) (b .handles) p s .id) (countAt (b .handles) p s + 1) ∙ shape .handles;
+          charges = shape .charges;
+          ends = unnoted-ends (b .handles) (b .rings) s ∙ shape .ends;
+          rows = unnoted-rows (b .handles) (b .rings) s (shape .rows);
+          pool = shape .pool;
+        })
+
+pub given-lengths : (b : Bus) → Shape b → (p s : ℕ) → s < 128 → (o : ℕ) → lengthOf (givenOn b p s .rings .ends) o ≤ lengthOf (b .rings .ends) o
+unfolding givenTo
+given-lengths b shape p s ls o = go (look (liveAt (b .nodes) s))
+  where
+    go : Seen (liveAt (b .nodes) s) → lengthOf (givenOn b p s .rings .ends) o ≤ lengthOf (b .rings .ends) o
+    go (is-false e) = rw e (omega arith)
+    go (is-true e) = rw e (unnoted-lengths (b .handles) (b .rings) s (shape .ends) ls o)
+
+-- Several handles given: one more at the end.
+pub gives-snoc : (b : State) (p : ℕ) (xs : List ℕ) (s : ℕ) → giveAll b p (xs ++ (s ∷ [])) ≡ give (giveAll b p xs) p s
+gives-snoc b p [] s = refl
+gives-snoc b p (x ∷ xs) s = gives-snoc (give b p x) p xs s
+
+pub shows-snoc : (b : State) (p : ℕ) (xs : List ℕ) (s : ℕ) → shownAll b p (xs ++ (s ∷ [])) ≡ shownAll b p xs ++ (shown (giveAll b p xs) p s ∷ [])
+shows-snoc b p [] s = refl
+shows-snoc b p (x ∷ xs) s = ap (_∷_ (shown b p x)) (shows-snoc (give b p x) p xs s)
+
+pub lone-gives : (b : State) (p : ℕ) (ss : List ℕ) → Lone (b .handle) (b .queue) → Lone (giveAll b p ss .handle) (giveAll b p ss .queue)
+lone-gives b p [] a = a
+lone-gives b p (s ∷ ss) a = lone-gives (give b p s) p ss (lone-give b p s a)
+
+-- No count rises by more than the number of handles given.
+pub count-give : (b : State) (p s q t : ℕ) → count (give b p s .handle q t) ≤ count (b .handle q t) + 1
+count-give b p s q t = go (look (isLive (b .life s)))
+  where
+    go : Seen (isLive (b .life s)) → count (give b p s .handle q t) ≤ count (b .handle q t) + 1
+    go (is-false e) = rw (give-dead b p s e) (omega arith)
+    go (is-true e) =
+        rw (give-handle b p s e)
+        (put-all (λ q t y. count y ≤ count (b .handle q t) + 1) (b .handle) p s (handleOf (shown b p s) (suc (count (b .handle p s)))) (λ q t. omega arith)
+        (omega (arith, count-handle (shown b p s) (suc (count (b .handle p s))))) q t)
+
+pub count-gives : (b : State) (p : ℕ) (ss : List ℕ) (q t : ℕ) → count (giveAll b p ss .handle q t) ≤ count (b .handle q t) + length ss
+count-gives b p [] q t = omega arith
+count-gives b p (s ∷ ss) q t = omega (arith, count-gives (give b p s) p ss q t, count-give b p s q t)
+
+-- The buffers once several are given.
+abbrev pub givesBus : Bus → Gives → Bus
+givesBus b g = record { peers = g .peers; nodes = b .nodes; handles = g .handles; charges = b .charges; rings = g .rings; pool = b .pool }
+
+abbrev pub givesOn : Bus → ℕ → List ℕ → ℕ → Gives
+givesOn b p ss n = givesTo (b .nodes) (b .peers) (b .handles) (b .rings) p ss n
+
+-- What the first n of some slots given make of a bus.
+pub record Handed (b : Bus) (p : ℕ) (ss : List ℕ) (n : ℕ) (g : Gives) : Type 0 where
+  pub state : stateOf (givesBus b g) ≡ giveAll (stateOf b) p (take n ss)
+  pub shows : take n (g .ids) ≡ shownAll (stateOf b) p (take n ss)
+  pub eight : length (g .ids) ≡ 8
+  pub shape : Shape (givesBus b g)
+  pub lengths : (o : ℕ) → lengthOf (g .rings .ends) o ≤ lengthOf (b .rings .ends) o
+
+-- One more: the slot s after those before it.
+handed-next : (b : Bus) (p : ℕ) (ss : List ℕ) (n s : ℕ) (g : Gives) (x : Given) → take (suc n) ss ≡ take n ss ++ (s ∷ []) → n < 8 → Handed b p ss n g →
+    stateOf (givenBus (givesBus b g) x) ≡ give (stateOf (givesBus b g)) p s → x .id ≡ shown (stateOf (givesBus b g)) p s → Shape (givenBus (givesBus b g) x) →
+    ((o : ℕ) → lengthOf (x .rings .ends) o ≤ lengthOf (g .rings .ends) o) → Handed b p ss (suc n) (oneMore g n x)
+handed-next b p ss n s g x more ln h state id shape lengths =
+    record {
+      state = state ∙ ap (λ (a : State). give a p s) (h .state) ∙ sym (gives-snoc (stateOf b) p (take n ss) s) ∙ ap (giveAll (stateOf b) p) (sym more);
+      shows =
+          take-suc-set (g .ids) n (x .id) (omega (arith, h .eight))
+          ∙ ap₂ (λ (is : List ℕ) (i : ℕ). is ++ (i ∷ [])) (h .shows) (id ∙ ap (λ (a : State). shown a p s) (h .state))
+          ∙ sym (shows-snoc (stateOf b) p (take n ss) s)
+          ∙ ap (shownAll (stateOf b) p) (sym more);
+      eight = length-set (g .ids) n (x .id) ∙ h .eight;
+      shape = shape;
+      lengths = λ o. omega (arith, lengths o, h .lengths o);
+    }
+
+lone-of : (a c : State) → a ≡ c → Lone (c .handle) (c .queue) → Lone (a .handle) (a .queue)
+lone-of a c e l = rw e l
+
+module _ (b : Bus) (shape : Shape b) (p : ℕ) (ss : List ℕ) (lp : p < 8) (size : length ss ≡ 8) (lone : Lone (handleV (b .handles)) (queueV (b .rings) (b .pool)))
+    (short : Short (b .rings .ends)) where
+  handed : (n : ℕ) → n ≤ 8 → ((j : ℕ) → j < n → getD ss j 0 < 128) → ((q s : ℕ) → count (handleV (b .handles) q s) + n < modulus) → givenV (b .peers) p + n < modulus →
+      Handed b p ss n (givesOn b p ss n)
+  unfolding givesTo
+  handed zero ln low counts ids = record { state = refl; shows = refl; eight = refl; shape = shape; lengths = λ o. omega arith }
+  handed (suc n) ln low counts ids =
+      go (givesOn b p ss n) (handed n (omega arith) (λ j l. low j (omega arith)) (λ q s. omega (arith, counts q s)) (omega arith))
+    where
+      s : ℕ
+      s = getD ss n 0
+
+      ls : s < 128
+      ls = low n (omega arith)
+
+      same-slot : s % 128 ≡ s
+      same-slot = omega (arith, ls)
+
+      fewer : length (take n ss) ≡ n
+      fewer = length-take-le n ss (omega arith)
+
+      go : (g : Gives) → Handed b p ss n g → Handed b p ss (suc n) (oneMore g n (givenTo (b .nodes) (g .peers) (g .handles) (g .rings) p (getD ss n 0 % 128)))
+      go g h =
+          let old : State = giveAll (stateOf b) p (take n ss) in
+          let c = givesBus b g in
+          let many : countAt (g .handles) p s + 1 < modulus
+          = omega (arith, count-is (g .handles) p s lp ls, ap (λ (a : State). count (a .handle p s)) (h .state), count-gives (stateOf b) p (take n ss) p s, fewer, counts p s) in
+          let named : givenAt (g .peers) p + 1 < modulus
+          = omega (arith, given-is (g .peers) p lp, ap (λ (a : State). a .given p) (h .state), given-gives (stateOf b) p (take n ss) p, fewer, ids) in
+          let fit : lengthOf (g .rings .ends) (s / 16) ≤ ringSize = omega (arith, h .lengths (s / 16), short (s / 16) (omega (arith, ls))) in
+          let alone : Lone (handleV (g .handles)) (queueV (g .rings) (b .pool)) = lone-of (stateOf c) old (h .state) (lone-gives (stateOf b) p (take n ss) lone) in
+          rw same-slot
+          (handed-next b p ss n s g (givenOn c p s) (take-suc ss n 0 (omega arith)) (omega arith) h (given-view c (h .shape) p s lp ls alone many named fit)
+          (given-shown c (h .shape) p s lp ls)
+          (given-shape c (h .shape) p s)
+          (given-lengths c (h .shape) p s ls))
+
+  pub gives-view : (n : ℕ) → n ≤ 8 → All (λ s. s < 128) (take n ss) → ((q s : ℕ) → count (stateOf b .handle q s) + n < modulus) → stateOf b .given p + n < modulus →
+      Handed b p ss n (givesOn b p ss n)
+  gives-view n ln low counts ids = handed n ln each counts ids
+    where
+      each : (j : ℕ) → j < n → getD ss j 0 < 128
+      each j l = rw (getD-take n ss j 0 l) at (all-at (λ s. s < 128) (take n ss) j 0 low (omega (arith, length-take-le n ss (omega arith))))

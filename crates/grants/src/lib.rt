@@ -1,0 +1,115 @@
+// Handles given to a peer: the IDs shown, the counts, and the release notice that is withdrawn.
+ghost use mathlib.Core.Path.{_≡_};
+ghost use Prim.Native.Nat.{_<_, _≤_};
+ghost use lib.ListN.{length};
+ghost use Rattle.rings.specs.Rings.{rowsOf, ringsOf, endCount, Sized};
+ghost use Rattle.grants.specs.Grants.{numbered, numberedOf, shownTo, referencedOf, referenced, givenOf, givenTo, givesOf, givesTo, idOrInvalid};
+use ids::HandleId;
+use ids::Peer;
+use rings::Match;
+
+const INVALID: u64 = 18446744073709551615;
+
+const SLOTS: usize = 16;
+
+// A new ID for the peer.
+fn next_id(peers: &mut [u64], p: Peer) -> HandleId
+    requires { ⌜ (length (now peers) ≡ 25) × (p .0 < 8) ⌝ }
+    ensures { λ r. ⌜ numberedOf (r .0) (now (peers .exit)) ≡ numbered (now (peers .entry)) (p .0) ⌝ }
+{
+    let n = tables::given_of(peers, p) + 1;
+    tables::set_given(peers, p, n);
+    HandleId(4 * n + 3)
+}
+
+// The ID of the peer's handle to the slot's node, a new one where it has none.
+fn shown_id(peers: &mut [u64], handles: &[u64], p: Peer, s: usize) -> HandleId
+    requires { ⌜ (length (now peers) ≡ 25) × (length (now handles) ≡ 2048) × (p .0 < 8) × (s < 128) ⌝ }
+    ensures { λ r. ⌜ numberedOf (r .0) (now (peers .exit)) ≡ shownTo (now (peers .entry)) (now (handles .entry)) (p .0) s ⌝ }
+{
+    if tables::count_of(handles, p, s) == 0 {
+        return next_id(peers, p);
+    }
+    tables::id_of(handles, p, s)
+}
+
+// One more reference of the peer to the slot's node: the ID.
+fn add_reference(peers: &mut [u64], handles: &mut [u64], p: Peer, s: usize) -> u64
+    requires { ⌜ (length (now peers) ≡ 25) × (length (now handles) ≡ 2048) × (p .0 < 8) × (s < 128) ⌝ }
+    ensures { λ r. ⌜ referencedOf r (now (peers .exit)) (now (handles .exit)) ≡ referenced (now (peers .entry)) (now (handles .entry)) (p .0) s ⌝ }
+{
+    let id = shown_id(peers, handles, p, s);
+    let c = tables::count_of(handles, p, s);
+    tables::put_handle(handles, p, s, id, c + 1);
+    id.0
+}
+
+// A handle to the slot's node is given to the peer: the ID shown. The release notice, which stands only where the sum of
+// counts is 1, is withdrawn.
+pub fn give(
+    peers: &mut [u64],
+    nodes: &[u64],
+    handles: &mut [u64],
+    ends: &mut [u16],
+    entries: &mut [u16],
+    carried: &mut [u8],
+    numbers: &mut [u64],
+    p: Peer,
+    s: usize,
+) -> u64
+    requires { ⌜ (length (now peers) ≡ 25) × (length (now nodes) ≡ 256) × (length (now handles) ≡ 2048) × (length (now ends) ≡ endCount) × Sized (rowsOf (now entries) (now carried) (now numbers)) × (p .0 < 8) × (s < 128) ⌝ }
+    ensures { λ r. ⌜ givenOf r (now (peers .exit)) (now (handles .exit)) (ringsOf (now (ends .exit)) (now (entries .exit)) (now (carried .exit)) (now (numbers .exit))) ≡ givenTo (now (nodes .entry)) (now (peers .entry)) (now (handles .entry)) (ringsOf (now (ends .entry)) (now (entries .entry)) (now (carried .entry)) (now (numbers .entry))) (p .0) s ⌝ }
+{
+    if !tables::is_live(nodes, s) {
+        return INVALID;
+    }
+    if tables::total(handles, s) == 1 {
+        queues::withdraw(
+            ends,
+            entries,
+            carried,
+            numbers,
+            Peer(s / SLOTS),
+            Match::one_slot(4, s),
+        );
+    }
+    add_reference(peers, handles, p, s)
+}
+
+// The first n of the slots that a message carries, given in order: the IDs shown.
+pub fn give_all(
+    peers: &mut [u64],
+    nodes: &[u64],
+    handles: &mut [u64],
+    ends: &mut [u16],
+    entries: &mut [u16],
+    carried: &mut [u8],
+    numbers: &mut [u64],
+    p: Peer,
+    slots: [u8; 8],
+    n: usize,
+) -> [u64; 8]
+    requires { ⌜ (length (now peers) ≡ 25) × (length (now nodes) ≡ 256) × (length (now handles) ≡ 2048) × (length (now ends) ≡ endCount) × Sized (rowsOf (now entries) (now carried) (now numbers)) × (p .0 < 8) × (n ≤ 8) ⌝ }
+    ensures { λ r. ⌜ givesOf r (now (peers .exit)) (now (handles .exit)) (ringsOf (now (ends .exit)) (now (entries .exit)) (now (carried .exit)) (now (numbers .exit))) ≡ givesTo (now (nodes .entry)) (now (peers .entry)) (now (handles .entry)) (ringsOf (now (ends .entry)) (now (entries .entry)) (now (carried .entry)) (now (numbers .entry))) (p .0) slots n ⌝ }
+{
+    let mut ids = [0u64; 8];
+    let mut k = 0;
+    while k < n {
+        let s = slots[k] as usize % 128;
+        let id = give(peers, nodes, handles, ends, entries, carried, numbers, p, s);
+        ids[k] = id;
+        k += 1;
+    }
+    ids
+}
+
+// The ID of the peer's handle to the slot's node, all ones where it has none.
+pub fn id_or_invalid(handles: &[u64], p: Peer, s: usize) -> HandleId
+    requires { ⌜ (length (now handles) ≡ 2048) × (p .0 < 8) × (s < 128) ⌝ }
+    ensures { λ r. ⌜ r ≡ record { 0 = idOrInvalid (now (handles .entry)) (p .0) s } ⌝ }
+{
+    if tables::count_of(handles, p, s) == 0 {
+        return HandleId(INVALID);
+    }
+    tables::id_of(handles, p, s)
+}

@@ -1,0 +1,286 @@
+-- The laws that the proofs of the judgements cite, one for each return, over plain variables: each is shaped like what the callees ensure.
+-- Assumes nothing.
+use Prim.Native.Nat.{ℕ, _+_, _*_, _/_, min, _≤_, _<_}
+use mathlib.Core.Path.{_≡_, refl, sym, ap, _∙_}
+use mathlib.Core.Bool.{Bool, true, false}
+use mathlib.Core.List.{List, []}
+use native.Mathlib.Omega.{arith}
+use lib.ListN.{length}
+use lib.Dec.{eqb, ltb, leb}
+use borrow.Author.Tests.{ne-eqb, eq-eqb, lt-ltb, le-ltb, leb-true, leb-false}
+use Rattle.laws.specs.Tests.{pick, Seen, Seen.is-true, Seen.is-false, look}
+use Rattle.ids.specs.Refusals.{EOVERFLOW, ESHUTDOWN, EEXIST, ENXIO, EPERM, EHOSTUNREACH, EAGAIN, ERANGE}
+use Rattle.ids.specs.declared.Peer.{Peer}
+use Rattle.ids.specs.declared.User.{User}
+use Rattle.ids.specs.declared.HandleId.{HandleId}
+use Rattle.rings.specs.declared.Entry.{Entry}
+use Rattle.rings.specs.Rings.{Rings, endCount, lengthOf, firstOf}
+use Rattle.tables.specs.declared.Status.{Status}
+use Rattle.tables.specs.declared.Status.the-variants.{Unopened, Open, Disconnected}
+use Rattle.tables.specs.declared.Found.{Found}
+use Rattle.tables.specs.declared.Found.the-variants.{At, Nothing}
+use Rattle.tables.specs.Peers.{acceptedAt, statusAt, standingAt}
+use Rattle.tables.specs.PeersView.{statusV, acceptedV, status-is, present-is, accepted-is}
+use Rattle.tables.specs.Nodes.{liveAt}
+use Rattle.tables.specs.NodesView.{live-is}
+use Rattle.tables.specs.Handles.{countAt, lookup}
+use Rattle.tables.specs.HandlesView.{handleV, count-is, lookup-at, lookup-nothing}
+use Rattle.queues.specs.Queues.{isMessage}
+use Rattle.queues.specs.Asking.{takeable-view}
+use Rattle.model.specs.Numbers.{mostCommands}
+use Rattle.model.specs.State.{slot, slotOf}
+use Rattle.model.specs.Refusals.{present, pinned, refusesOpen, refusesDisconnect, refusesDestroy, refusesRelease, refusesTransfer, refusesReceive, refusesQuota, refusesHolders}
+use Rattle.judges.specs.declared.Order.{Order}
+use Rattle.judges.specs.declared.Order.the-variants as order
+use Rattle.judges.specs.Orders.{unless, seen, noRings, startsAt, tooLarge}
+
+-- A number that is a refusal, and one that is none.
+pub refused : {x n : ℕ} (o : Order) → x ≡ n → (n ≡ 0 → ⊥) → order.Refuse n ≡ unless x o
+refused {x} {n} o e ne = rw (e, ne-eqb n 0 ne)
+
+pub granted : {x : ℕ} (o : Order) → x ≡ 0 → o ≡ unless x o
+granted o e = rw e
+
+-- The front of a cascade.
+module _ (ps : List ℕ) (p : ℕ) (l : p < 8) where
+  pub front : (r : ℕ) → pick (ltb (acceptedV ps) mostCommands) (present (statusV ps p) r) EOVERFLOW ≡ pick (eqb (startsAt ps p) 0) r (startsAt ps p)
+  unfolding startsAt
+  front r = rw (accepted-is ps, present-is ps p l r) (go (ltb (acceptedAt ps) mostCommands))
+    where
+      go : (b : Bool) → pick b (pick (eqb (standingAt ps p) 0) r (standingAt ps p)) EOVERFLOW ≡ pick (eqb (pick b (standingAt ps p) EOVERFLOW) 0) r (pick b (standingAt ps p) EOVERFLOW)
+      go true = refl
+      go false = refl
+
+-- starts
+module _ (ps : List ℕ) (p : ℕ) {a : ℕ} (e : a ≡ acceptedAt ps) where
+  pub starts-counted : {n : ℕ} → a < mostCommands → n ≡ standingAt ps p → n ≡ startsAt ps p
+  unfolding startsAt
+  starts-counted l f = rw (← e, lt-ltb a mostCommands l) f
+
+  pub starts-over : mostCommands ≤ a → EOVERFLOW ≡ startsAt ps p
+  unfolding startsAt
+  starts-over l = rw (← e, le-ltb a mostCommands l)
+
+-- judge_open
+module _ (ps : List ℕ) (p : Peer) (u : User) (l : p .0 < 8) {a : ℕ} (e : a ≡ acceptedAt ps) where
+  pub open-over : mostCommands ≤ a → order.Refuse EOVERFLOW ≡ unless (refusesOpen (seen ps [] [] [] noRings) (p .0)) (order.Open p u)
+  unfolding refusesOpen
+  open-over h = rw (accepted-is ps, ← e, le-ltb a mostCommands h)
+
+  module _ (h : a < mostCommands) {x : Status} (ex : x ≡ statusAt ps (p .0)) where
+    pub open-new : x ≡ Unopened → order.Open p u ≡ unless (refusesOpen (seen ps [] [] [] noRings) (p .0)) (order.Open p u)
+    unfolding refusesOpen
+    open-new f = rw (accepted-is ps, ← e, lt-ltb a mostCommands h, status-is ps (p .0) l, ← ex, f)
+
+    pub open-again : x ≡ Open → order.Refuse EEXIST ≡ unless (refusesOpen (seen ps [] [] [] noRings) (p .0)) (order.Open p u)
+    unfolding refusesOpen
+    open-again f = rw (accepted-is ps, ← e, lt-ltb a mostCommands h, status-is ps (p .0) l, ← ex, f)
+
+    pub open-gone : x ≡ Disconnected → order.Refuse ESHUTDOWN ≡ unless (refusesOpen (seen ps [] [] [] noRings) (p .0)) (order.Open p u)
+    unfolding refusesOpen
+    open-gone f = rw (accepted-is ps, ← e, lt-ltb a mostCommands h, status-is ps (p .0) l, ← ex, f)
+
+-- What a lookup found.
+module _ (hs : List ℕ) (p : ℕ) (l : p < 8) (i : ℕ) {x : Found} (ex : x ≡ lookup hs p i) where
+  pub missing : x ≡ Nothing → slotOf (handleV hs p) i ≡ 128
+  missing f = lookup-nothing hs p i l (sym ex ∙ f)
+
+  pub found : (s : ℕ) → x ≡ At s → (s ≡ slotOf (handleV hs p) i) × (s < 128)
+  found s f = lookup-at hs p i l s (sym ex ∙ f)
+
+-- pinned
+module _ (ns hs : List ℕ) (p s : ℕ) (l : p < 8) (ls : s < 128) {b : Bool} (eb : b ≡ liveAt ns s) where
+  pub pinned-dead : b ≡ false → false ≡ pinned (seen [] ns hs [] noRings) p s
+  pinned-dead f = rw (← live-is ns s ls, ← eb, f)
+
+  module _ (f : b ≡ true) where
+    pub pinned-foreign : (s / 16 ≡ p → ⊥) → false ≡ pinned (seen [] ns hs [] noRings) p s
+    pinned-foreign ne = rw (← live-is ns s ls, ← eb, f, ne-eqb (s / 16) p ne)
+
+    pub pinned-own : s / 16 ≡ p → {c : ℕ} → c ≡ countAt hs p s → eqb c 1 ≡ pinned (seen [] ns hs [] noRings) p s
+    pinned-own e ec = rw (← live-is ns s ls, ← eb, f, eq-eqb (s / 16) p e, ← count-is hs p s l ls, ← ec)
+
+-- The counted commands.
+module _ (ps : List ℕ) (p : Peer) (l : p .0 < 8) {n : ℕ} (e : n ≡ startsAt ps (p .0)) where
+  pub stop : (n ≡ 0 → ⊥) → (r : ℕ) → pick (ltb (acceptedV ps) mostCommands) (present (statusV ps (p .0)) r) EOVERFLOW ≡ n
+  stop ne r = front ps (p .0) l r ∙ rw (← e, ne-eqb n 0 ne)
+
+  pub pass : n ≡ 0 → (r : ℕ) → pick (ltb (acceptedV ps) mostCommands) (present (statusV ps (p .0)) r) EOVERFLOW ≡ r
+  pass z r = front ps (p .0) l r ∙ rw (← e, z)
+
+  -- judge_disconnect
+  pub disconnect-refused : (n ≡ 0 → ⊥) → order.Refuse n ≡ unless (refusesDisconnect (seen ps [] [] [] noRings) (p .0)) (order.Disconnect p)
+  unfolding refusesDisconnect
+  disconnect-refused ne = refused (order.Disconnect p) (stop ne 0) ne
+
+  pub disconnect-granted : n ≡ 0 → order.Disconnect p ≡ unless (refusesDisconnect (seen ps [] [] [] noRings) (p .0)) (order.Disconnect p)
+  unfolding refusesDisconnect
+  disconnect-granted z = granted (order.Disconnect p) (pass z 0)
+
+  -- judge_destroy
+  module _ (ns hs : List ℕ) (i : HandleId) where
+    pub destroy-refused : (n ≡ 0 → ⊥) → order.Refuse n ≡ unless (refusesDestroy (seen ps ns hs [] noRings) (p .0) (i .0)) (order.Destroy p (slot (seen ps ns hs [] noRings) (p .0) (i .0)))
+    unfolding refusesDestroy
+    destroy-refused ne = refused _ (stop ne _) ne
+
+    module _ (z : n ≡ 0) {x : Found} (ex : x ≡ lookup hs (p .0) (i .0)) where
+      pub destroy-missing : x ≡ Nothing → order.Refuse ENXIO ≡ unless (refusesDestroy (seen ps ns hs [] noRings) (p .0) (i .0)) (order.Destroy p (slot (seen ps ns hs [] noRings) (p .0) (i .0)))
+      unfolding refusesDestroy
+      destroy-missing f = refused _ (pass z _ ∙ rw (missing hs (p .0) l (i .0) ex f)) (λ y. absurd (omega arith))
+
+      module _ (s : ℕ) (f : x ≡ At s) where
+        pub destroy-foreign : (s / 16 ≡ p .0 → ⊥) → order.Refuse EPERM ≡ unless (refusesDestroy (seen ps ns hs [] noRings) (p .0) (i .0)) (order.Destroy p (slot (seen ps ns hs [] noRings) (p .0) (i .0)))
+        unfolding refusesDestroy
+        destroy-foreign ne =
+            let w = found hs (p .0) l (i .0) ex s f in
+            refused _ (pass z _ ∙ rw (← w .0, lt-ltb s 128 (w .1), ne-eqb (s / 16) (p .0) ne)) (λ y. absurd (omega arith))
+
+        module _ (o : s / 16 ≡ p .0) {b : Bool} (eb : b ≡ liveAt ns s) where
+          pub destroy-dead : b ≡ false → order.Refuse EHOSTUNREACH ≡ unless (refusesDestroy (seen ps ns hs [] noRings) (p .0) (i .0)) (order.Destroy p (slot (seen ps ns hs [] noRings) (p .0) (i .0)))
+          unfolding refusesDestroy
+          destroy-dead g =
+              let w = found hs (p .0) l (i .0) ex s f in
+              refused _ (pass z _ ∙ rw (← w .0, lt-ltb s 128 (w .1), eq-eqb (s / 16) (p .0) o, ← live-is ns s (w .1), ← eb, g)) (λ y. absurd (omega arith))
+
+          pub destroy-granted : b ≡ true → order.Destroy p s ≡ unless (refusesDestroy (seen ps ns hs [] noRings) (p .0) (i .0)) (order.Destroy p (slot (seen ps ns hs [] noRings) (p .0) (i .0)))
+          unfolding refusesDestroy
+          destroy-granted g =
+              let w = found hs (p .0) l (i .0) ex s f in
+              ap (order.Destroy p) (w .0)
+              ∙ granted _ (pass z _ ∙ rw (← w .0, lt-ltb s 128 (w .1), eq-eqb (s / 16) (p .0) o, ← live-is ns s (w .1), ← eb, g))
+
+    -- judge_release
+    pub release-refused : (n ≡ 0 → ⊥) → order.Refuse n ≡ unless (refusesRelease (seen ps ns hs [] noRings) (p .0) (i .0)) (order.Release p (slot (seen ps ns hs [] noRings) (p .0) (i .0)))
+    unfolding refusesRelease
+    release-refused ne = refused _ (stop ne _) ne
+
+    module _ (z : n ≡ 0) {x : Found} (ex : x ≡ lookup hs (p .0) (i .0)) where
+      pub release-missing : x ≡ Nothing → order.Refuse ENXIO ≡ unless (refusesRelease (seen ps ns hs [] noRings) (p .0) (i .0)) (order.Release p (slot (seen ps ns hs [] noRings) (p .0) (i .0)))
+      unfolding refusesRelease
+      release-missing f = refused _ (pass z _ ∙ rw (missing hs (p .0) l (i .0) ex f)) (λ y. absurd (omega arith))
+
+      module _ (s : ℕ) (f : x ≡ At s) {b : Bool} (eb : b ≡ pinned (seen [] ns hs [] noRings) (p .0) s) where
+        pub release-pinned : b ≡ true → order.Refuse EPERM ≡ unless (refusesRelease (seen ps ns hs [] noRings) (p .0) (i .0)) (order.Release p (slot (seen ps ns hs [] noRings) (p .0) (i .0)))
+        unfolding refusesRelease
+        release-pinned g =
+            let w = found hs (p .0) l (i .0) ex s f in
+            refused _ (pass z _ ∙ rw (← w .0, lt-ltb s 128 (w .1), ← eb, g)) (λ y. absurd (omega arith))
+
+        pub release-granted : b ≡ false → order.Release p s ≡ unless (refusesRelease (seen ps ns hs [] noRings) (p .0) (i .0)) (order.Release p (slot (seen ps ns hs [] noRings) (p .0) (i .0)))
+        unfolding refusesRelease
+        release-granted g =
+            let w = found hs (p .0) l (i .0) ex s f in
+            ap (order.Release p) (w .0) ∙ granted _ (pass z _ ∙ rw (← w .0, lt-ltb s 128 (w .1), ← eb, g))
+
+    -- judge_transfer
+    module _ (q : Peer) (lq : q .0 < 8) where
+      pub transfer-refused : (n ≡ 0 → ⊥) → order.Refuse n ≡ unless (refusesTransfer (seen ps ns hs [] noRings) (p .0) (i .0) (q .0)) (order.Transfer q (slot (seen ps ns hs [] noRings) (p .0) (i .0)))
+      unfolding refusesTransfer
+      transfer-refused ne = refused _ (stop ne _) ne
+
+      module _ (z : n ≡ 0) {m : ℕ} (em : m ≡ standingAt ps (q .0)) where
+        pub transfer-absent : (m ≡ 0 → ⊥) → order.Refuse m ≡ unless (refusesTransfer (seen ps ns hs [] noRings) (p .0) (i .0) (q .0)) (order.Transfer q (slot (seen ps ns hs [] noRings) (p .0) (i .0)))
+        unfolding refusesTransfer
+        transfer-absent ne = refused _ (pass z _ ∙ present-is ps (q .0) lq _ ∙ rw (← em, ne-eqb m 0 ne)) ne
+
+        module _ (zm : m ≡ 0) {x : Found} (ex : x ≡ lookup hs (p .0) (i .0)) where
+          there : (r : ℕ) → present (statusV ps (q .0)) r ≡ r
+          there r = present-is ps (q .0) lq r ∙ rw (← em, zm)
+
+          pub transfer-missing : x ≡ Nothing → order.Refuse ENXIO ≡ unless (refusesTransfer (seen ps ns hs [] noRings) (p .0) (i .0) (q .0)) (order.Transfer q (slot (seen ps ns hs [] noRings) (p .0) (i .0)))
+          unfolding refusesTransfer
+          transfer-missing f = refused _ (pass z _ ∙ there _ ∙ rw (missing hs (p .0) l (i .0) ex f)) (λ y. absurd (omega arith))
+
+          module _ (s : ℕ) (f : x ≡ At s) {b : Bool} (eb : b ≡ liveAt ns s) where
+            pub transfer-dead : b ≡ false → order.Refuse EHOSTUNREACH ≡ unless (refusesTransfer (seen ps ns hs [] noRings) (p .0) (i .0) (q .0)) (order.Transfer q (slot (seen ps ns hs [] noRings) (p .0) (i .0)))
+            unfolding refusesTransfer
+            transfer-dead g =
+                let w = found hs (p .0) l (i .0) ex s f in
+                refused _ (pass z _ ∙ there _ ∙ rw (← w .0, lt-ltb s 128 (w .1), ← live-is ns s (w .1), ← eb, g)) (λ y. absurd (omega arith))
+
+            pub transfer-granted : b ≡ true → order.Transfer q s ≡ unless (refusesTransfer (seen ps ns hs [] noRings) (p .0) (i .0) (q .0)) (order.Transfer q (slot (seen ps ns hs [] noRings) (p .0) (i .0)))
+            unfolding refusesTransfer
+            transfer-granted g =
+                let w = found hs (p .0) l (i .0) ex s f in
+                ap (order.Transfer q) (w .0) ∙ granted _ (pass z _ ∙ there _ ∙ rw (← w .0, lt-ltb s 128 (w .1), ← live-is ns s (w .1), ← eb, g))
+
+  -- judge_receive
+  module _ (rs : Rings) (size : length (rs .ends) ≡ endCount) (room : ℕ) where
+    pub receive-refused : (n ≡ 0 → ⊥) → order.Refuse n ≡ unless (refusesReceive (seen ps [] [] [] rs) (p .0) room) (order.Receive p)
+    unfolding refusesReceive
+    receive-refused ne = refused _ (stop ne _) ne
+
+    module _ (z : n ≡ 0) {k : ℕ} (ek : k ≡ lengthOf (rs .ends) (p .0)) where
+      pub receive-empty : k ≡ 0 → order.Refuse EAGAIN ≡ unless (refusesReceive (seen ps [] [] [] rs) (p .0) room) (order.Receive p)
+      unfolding refusesReceive
+      receive-empty f = refused _ (pass z _ ∙ takeable-view rs [] (p .0) room size l ∙ rw (← ek, f)) (λ y. absurd (omega arith))
+
+      module _ (some : k ≡ 0 → ⊥) {x : Entry} (ex : x ≡ firstOf rs (p .0)) {b : Bool} (eb : b ≡ tooLarge x room) where
+        -- the oldest entry fits, or does not
+        large : pick (isMessage x) (pick (leb (x .nb + 8 * min (x .nh) 8) room) 0 ERANGE) 0 ≡ pick b ERANGE 0
+        unfolding tooLarge
+        large = rw eb (go (isMessage x) (look (leb (x .nb + 8 * min (x .nh) 8) room)))
+          where
+            go : (m : Bool) → Seen (leb (x .nb + 8 * min (x .nh) 8) room) →
+                pick m (pick (leb (x .nb + 8 * min (x .nh) 8) room) 0 ERANGE) 0 ≡ pick (pick m (ltb room (x .nb + 8 * min (x .nh) 8)) false) ERANGE 0
+            go true (is-true f) = rw (f, le-ltb room (x .nb + 8 * min (x .nh) 8) (leb-true _ _ f))
+            go true (is-false f) = rw (f, lt-ltb room (x .nb + 8 * min (x .nh) 8) (leb-false _ _ f))
+            go false f = refl
+
+        pub receive-large : b ≡ true → order.Refuse ERANGE ≡ unless (refusesReceive (seen ps [] [] [] rs) (p .0) room) (order.Receive p)
+        unfolding refusesReceive
+        receive-large f = refused _ (pass z _ ∙ takeable-view rs [] (p .0) room size l ∙ rw (← ek, ne-eqb k 0 some, ← ex, large, f)) (λ y. absurd (omega arith))
+
+        pub receive-granted : b ≡ false → order.Receive p ≡ unless (refusesReceive (seen ps [] [] [] rs) (p .0) room) (order.Receive p)
+        unfolding refusesReceive
+        receive-granted f = granted _ (pass z _ ∙ takeable-view rs [] (p .0) room size l ∙ rw (← ek, ne-eqb k 0 some, ← ex, large, f))
+
+-- The questions.
+module _ (ps : List ℕ) (p : Peer) (l : p .0 < 8) {n : ℕ} (e : n ≡ standingAt ps (p .0)) where
+  absent : (n ≡ 0 → ⊥) → (r : ℕ) → present (statusV ps (p .0)) r ≡ n
+  absent ne r = present-is ps (p .0) l r ∙ rw (← e, ne-eqb n 0 ne)
+
+  here : n ≡ 0 → (r : ℕ) → present (statusV ps (p .0)) r ≡ r
+  here z r = present-is ps (p .0) l r ∙ rw (← e, z)
+
+  -- judge_quota
+  pub quota-refused : (u : User) → (n ≡ 0 → ⊥) → order.Refuse n ≡ unless (refusesQuota (seen ps [] [] [] noRings) (p .0)) (order.Quota p u)
+  unfolding refusesQuota
+  quota-refused u ne = refused (order.Quota p u) (absent ne 0) ne
+
+  pub quota-granted : (u : User) → n ≡ 0 → order.Quota p u ≡ unless (refusesQuota (seen ps [] [] [] noRings) (p .0)) (order.Quota p u)
+  unfolding refusesQuota
+  quota-granted u z = granted (order.Quota p u) (here z 0)
+
+  -- judge_holders
+  module _ (hs : List ℕ) (i : HandleId) where
+    pub holders-refused : (n ≡ 0 → ⊥) → order.Refuse n ≡ unless (refusesHolders (seen ps [] hs [] noRings) (p .0) (i .0)) (order.Holders (slot (seen ps [] hs [] noRings) (p .0) (i .0)))
+    unfolding refusesHolders
+    holders-refused ne = refused _ (absent ne _) ne
+
+    module _ (z : n ≡ 0) {x : Found} (ex : x ≡ lookup hs (p .0) (i .0)) where
+      pub holders-missing : x ≡ Nothing → order.Refuse ENXIO ≡ unless (refusesHolders (seen ps [] hs [] noRings) (p .0) (i .0)) (order.Holders (slot (seen ps [] hs [] noRings) (p .0) (i .0)))
+      unfolding refusesHolders
+      holders-missing f = refused _ (here z _ ∙ rw (missing hs (p .0) l (i .0) ex f)) (λ y. absurd (omega arith))
+
+      module _ (s : ℕ) (f : x ≡ At s) where
+        pub holders-foreign : (s / 16 ≡ p .0 → ⊥) → order.Refuse EPERM ≡ unless (refusesHolders (seen ps [] hs [] noRings) (p .0) (i .0)) (order.Holders (slot (seen ps [] hs [] noRings) (p .0) (i .0)))
+        unfolding refusesHolders
+        holders-foreign ne =
+            let w = found hs (p .0) l (i .0) ex s f in
+            refused _ (here z _ ∙ rw (← w .0, lt-ltb s 128 (w .1), ne-eqb (s / 16) (p .0) ne)) (λ y. absurd (omega arith))
+
+        pub holders-granted : s / 16 ≡ p .0 → order.Holders s ≡ unless (refusesHolders (seen ps [] hs [] noRings) (p .0) (i .0)) (order.Holders (slot (seen ps [] hs [] noRings) (p .0) (i .0)))
+        unfolding refusesHolders
+        holders-granted o =
+            let w = found hs (p .0) l (i .0) ex s f in
+            ap order.Holders (w .0) ∙ granted _ (here z _ ∙ rw (← w .0, lt-ltb s 128 (w .1), eq-eqb (s / 16) (p .0) o))
+
+-- too_large
+pub large-notice : (e : Entry) (room : ℕ) {b : Bool} → b ≡ isMessage e → b ≡ false → false ≡ tooLarge e room
+unfolding tooLarge
+large-notice e room eb f = rw (← eb, f)
+
+pub large-message : (e : Entry) (room : ℕ) {b : Bool} {x y m : ℕ} → b ≡ isMessage e → b ≡ true → x ≡ e .nb → y ≡ e .nh → m ≡ min y 8 → ltb room (x + 8 * m) ≡ tooLarge e room
+unfolding tooLarge
+large-message e room eb f ex ey em = rw (← eb, f, em, ex, ey)

@@ -1,0 +1,490 @@
+// What the bus says to a command, before anything is changed: its refusal, or the order that carries it out, in which
+// each ID is the slot that the acting peer knows by it.
+ghost use mathlib.Core.Path.{_≡_};
+ghost use mathlib.Core.List.{[]};
+ghost use Prim.Native.Nat.{_+_, _*_, _<_, _≤_};
+ghost use lib.ListN.{length, take};
+ghost use Rattle.frames.specs.Frame.{payloadOf};
+ghost use Rattle.frames.specs.Legal.{Legal, Sized as Sent};
+ghost use Rattle.rings.specs.Rings.{rowsOf, ringsOf, endCount, Sized};
+ghost use Rattle.model.specs.Numbers.{slots};
+ghost use Rattle.model.specs.State.{slot, freePlace, counts as countsFor};
+ghost use Rattle.model.specs.Requests.{destinations, attached};
+ghost use Rattle.model.specs.Refusals.{placesAt, pinned as isPinned, refusesOpen, refusesDisconnect, refusesCreate, refusesDestroy, refusesRelease, refusesTransfer, refusesSend, refusesReceive, refusesQuota, refusesHolders};
+ghost use Rattle.queues.specs.Queues.{Short};
+ghost use Rattle.judges.specs.Orders.{placesOf, unless, unlessAt, plainly, rulingOf, seen, noRings, startsAt, placeFound, idsFrom, slotsAt, livingAt, allowedAt, affordableAt, tooLarge};
+ghost use Rattle.judges.specs.declared.Order.the-variants as order;
+use frames::Command;
+use frames::Sizes;
+use ids::EAGAIN;
+use ids::EDQUOT;
+use ids::EEXIST;
+use ids::EHOSTUNREACH;
+use ids::ENOSPC;
+use ids::ENXIO;
+use ids::EOVERFLOW;
+use ids::EPERM;
+use ids::ERANGE;
+use ids::ESHUTDOWN;
+use ids::HandleId;
+use ids::Peer;
+use ids::User;
+use quota::Charge;
+use rings::Entry;
+use tables::Found;
+use tables::Status;
+
+const MOST_COMMANDS: u64 = 1099511627775;
+
+// A send's slots: its destinations and what it carries, 0 behind them and for every other command.
+pub struct Places {
+    pub to: [u8; 8],
+    pub carried: [u8; 8],
+}
+
+// What is to be done.
+pub enum Order {
+    Refuse(u8),
+    Open(Peer, User),
+    Disconnect(Peer),
+    Create(Peer, HandleId, usize),
+    Destroy(Peer, usize),
+    Release(Peer, usize),
+    Transfer(Peer, usize),
+    Send(Peer, Sizes),
+    Receive(Peer),
+    Quota(Peer, User),
+    Holders(usize),
+}
+
+// What the bus says: the order, and a send's slots.
+pub struct Ruling {
+    pub order: Order,
+    pub places: Places,
+}
+
+// An order without slots.
+fn plain(order: Order) -> Ruling
+    ensures { λ r. ⌜ r ≡ plainly order ⌝ }
+{
+    Ruling {
+        order,
+        places: Places {
+            to: [0u8; 8],
+            carried: [0u8; 8],
+        },
+    }
+}
+
+// The refusal of a counted command before its IDs are looked up, 0 where there is none.
+fn starts(peers: &[u64], p: Peer) -> u8
+    requires { ⌜ (length (now peers) ≡ 25) × (p .0 < 8) ⌝ }
+    ensures { λ r. ⌜ r ≡ startsAt (now (peers .entry)) (p .0) ⌝ }
+{
+    if tables::accepted(peers) < MOST_COMMANDS {
+        return tables::standing(peers, p);
+    }
+    EOVERFLOW
+}
+
+fn judge_open(peers: &[u64], p: Peer, u: User) -> Order
+    requires { ⌜ (length (now peers) ≡ 25) × (p .0 < 8) ⌝ }
+    ensures { λ r. ⌜ r ≡ unless (refusesOpen (seen (now (peers .entry)) [] [] [] noRings) (p .0)) (order.Open p u) ⌝ }
+{
+    if MOST_COMMANDS <= tables::accepted(peers) {
+        return Order::Refuse(EOVERFLOW);
+    }
+    match tables::status_of(peers, p) {
+        Status::Unopened => Order::Open(p, u),
+        Status::Open => Order::Refuse(EEXIST),
+        Status::Disconnected => Order::Refuse(ESHUTDOWN),
+    }
+}
+
+fn judge_disconnect(peers: &[u64], p: Peer) -> Order
+    requires { ⌜ (length (now peers) ≡ 25) × (p .0 < 8) ⌝ }
+    ensures { λ r. ⌜ r ≡ unless (refusesDisconnect (seen (now (peers .entry)) [] [] [] noRings) (p .0)) (order.Disconnect p) ⌝ }
+{
+    let n = starts(peers, p);
+    if n != 0 {
+        return Order::Refuse(n);
+    }
+    Order::Disconnect(p)
+}
+
+// Does the slot's node count against its owner?
+fn counts(
+    nodes: &[u64],
+    handles: &[u64],
+    ends: &[u16],
+    entries: &[u16],
+    carried: &[u8],
+    numbers: &[u64],
+    s: usize,
+) -> bool
+    requires { ⌜ (length (now nodes) ≡ 256) × (length (now handles) ≡ 2048) × (length (now ends) ≡ endCount) × Sized (rowsOf (now entries) (now carried) (now numbers)) × Short (now ends) × (s < 128) ⌝ }
+    ensures { λ r. ⌜ r ≡ countsFor (seen [] (now (nodes .entry)) (now (handles .entry)) [] (ringsOf (now (ends .entry)) (now (entries .entry)) (now (carried .entry)) (now (numbers .entry)))) s ⌝ }
+{
+    if tables::is_live(nodes, s) {
+        return true;
+    }
+    if tables::holders(handles, s) != 0 {
+        return true;
+    }
+    queues::named(ends, entries, carried, numbers, s)
+}
+
+// The first slot of a peer whose node does not count.
+fn free_slot(
+    nodes: &[u64],
+    handles: &[u64],
+    ends: &[u16],
+    entries: &[u16],
+    carried: &[u8],
+    numbers: &[u64],
+    p: Peer,
+) -> Found
+    requires { ⌜ (length (now nodes) ≡ 256) × (length (now handles) ≡ 2048) × (length (now ends) ≡ endCount) × Sized (rowsOf (now entries) (now carried) (now numbers)) × Short (now ends) × (p .0 < 8) ⌝ }
+    ensures { λ r. ⌜ r ≡ placeFound (p .0) (freePlace (seen [] (now (nodes .entry)) (now (handles .entry)) [] (ringsOf (now (ends .entry)) (now (entries .entry)) (now (carried .entry)) (now (numbers .entry)))) (p .0)) ⌝ }
+{
+    let mut k = 0;
+    while k < 16 {
+        let s = p.0 * 16 + k;
+        if !counts(nodes, handles, ends, entries, carried, numbers, s) {
+            return Found::At(s);
+        }
+        k += 1;
+    }
+    Found::Nothing
+}
+
+fn judge_create(
+    peers: &[u64],
+    nodes: &[u64],
+    handles: &[u64],
+    ends: &[u16],
+    entries: &[u16],
+    carried: &[u8],
+    numbers: &[u64],
+    p: Peer,
+    i: HandleId,
+) -> Order
+    requires { ⌜ (length (now peers) ≡ 25) × (length (now nodes) ≡ 256) × (length (now handles) ≡ 2048) × (length (now ends) ≡ endCount) × Sized (rowsOf (now entries) (now carried) (now numbers)) × Short (now ends) × (p .0 < 8) ⌝ }
+    ensures { λ r. ⌜ r ≡ unless (refusesCreate (seen (now (peers .entry)) (now (nodes .entry)) (now (handles .entry)) [] (ringsOf (now (ends .entry)) (now (entries .entry)) (now (carried .entry)) (now (numbers .entry)))) (p .0) (i .0)) (order.Create p i (p .0 * slots + freePlace (seen (now (peers .entry)) (now (nodes .entry)) (now (handles .entry)) [] (ringsOf (now (ends .entry)) (now (entries .entry)) (now (carried .entry)) (now (numbers .entry)))) (p .0))) ⌝ }
+{
+    let n = starts(peers, p);
+    if n != 0 {
+        return Order::Refuse(n);
+    }
+    let Found::Nothing = tables::find(handles, p, i) else {
+        return Order::Refuse(EEXIST);
+    };
+    let Found::At(s) = free_slot(nodes, handles, ends, entries, carried, numbers, p) else {
+        return Order::Refuse(ENOSPC);
+    };
+    Order::Create(p, i, s)
+}
+
+fn judge_destroy(peers: &[u64], nodes: &[u64], handles: &[u64], p: Peer, i: HandleId) -> Order
+    requires { ⌜ (length (now peers) ≡ 25) × (length (now nodes) ≡ 256) × (length (now handles) ≡ 2048) × (p .0 < 8) ⌝ }
+    ensures { λ r. ⌜ r ≡ unless (refusesDestroy (seen (now (peers .entry)) (now (nodes .entry)) (now (handles .entry)) [] noRings) (p .0) (i .0)) (order.Destroy p (slot (seen (now (peers .entry)) (now (nodes .entry)) (now (handles .entry)) [] noRings) (p .0) (i .0))) ⌝ }
+{
+    let n = starts(peers, p);
+    if n != 0 {
+        return Order::Refuse(n);
+    }
+    let Found::At(s) = tables::find(handles, p, i) else {
+        return Order::Refuse(ENXIO);
+    };
+    if s / 16 != p.0 {
+        return Order::Refuse(EPERM);
+    }
+    if !tables::is_live(nodes, s) {
+        return Order::Refuse(EHOSTUNREACH);
+    }
+    Order::Destroy(p, s)
+}
+
+// Is the handle the last one of a live node's owner?
+fn pinned(nodes: &[u64], handles: &[u64], p: Peer, s: usize) -> bool
+    requires { ⌜ (length (now nodes) ≡ 256) × (length (now handles) ≡ 2048) × (p .0 < 8) × (s < 128) ⌝ }
+    ensures { λ r. ⌜ r ≡ isPinned (seen [] (now (nodes .entry)) (now (handles .entry)) [] noRings) (p .0) s ⌝ }
+{
+    if !tables::is_live(nodes, s) {
+        return false;
+    }
+    if s / 16 != p.0 {
+        return false;
+    }
+    tables::count_of(handles, p, s) == 1
+}
+
+fn judge_release(peers: &[u64], nodes: &[u64], handles: &[u64], p: Peer, i: HandleId) -> Order
+    requires { ⌜ (length (now peers) ≡ 25) × (length (now nodes) ≡ 256) × (length (now handles) ≡ 2048) × (p .0 < 8) ⌝ }
+    ensures { λ r. ⌜ r ≡ unless (refusesRelease (seen (now (peers .entry)) (now (nodes .entry)) (now (handles .entry)) [] noRings) (p .0) (i .0)) (order.Release p (slot (seen (now (peers .entry)) (now (nodes .entry)) (now (handles .entry)) [] noRings) (p .0) (i .0))) ⌝ }
+{
+    let n = starts(peers, p);
+    if n != 0 {
+        return Order::Refuse(n);
+    }
+    let Found::At(s) = tables::find(handles, p, i) else {
+        return Order::Refuse(ENXIO);
+    };
+    if pinned(nodes, handles, p, s) {
+        return Order::Refuse(EPERM);
+    }
+    Order::Release(p, s)
+}
+
+fn judge_transfer(
+    peers: &[u64],
+    nodes: &[u64],
+    handles: &[u64],
+    p: Peer,
+    i: HandleId,
+    q: Peer,
+) -> Order
+    requires { ⌜ (length (now peers) ≡ 25) × (length (now nodes) ≡ 256) × (length (now handles) ≡ 2048) × (p .0 < 8) × (q .0 < 8) ⌝ }
+    ensures { λ r. ⌜ r ≡ unless (refusesTransfer (seen (now (peers .entry)) (now (nodes .entry)) (now (handles .entry)) [] noRings) (p .0) (i .0) (q .0)) (order.Transfer q (slot (seen (now (peers .entry)) (now (nodes .entry)) (now (handles .entry)) [] noRings) (p .0) (i .0))) ⌝ }
+{
+    let n = starts(peers, p);
+    if n != 0 {
+        return Order::Refuse(n);
+    }
+    let m = tables::standing(peers, q);
+    if m != 0 {
+        return Order::Refuse(m);
+    }
+    let Found::At(s) = tables::find(handles, p, i) else {
+        return Order::Refuse(ENXIO);
+    };
+    if !tables::is_live(nodes, s) {
+        return Order::Refuse(EHOSTUNREACH);
+    }
+    Order::Transfer(q, s)
+}
+
+// The slots of some IDs of a frame, and 0; or the refusal where one of them is not held.
+struct Slots {
+    number: u8,
+    at: [u8; 8],
+}
+
+// The slots of the n IDs from the place `from` of a send's lists on.
+fn slots_of(handles: &[u64], frame: &[u8], p: Peer, from: usize, n: usize) -> Slots
+    requires { ⌜ (length (now handles) ≡ 2048) × (p .0 < 8) × (from ≤ 8) × (n ≤ 8) ⌝ }
+    ensures { λ r. ⌜ r ≡ slotsAt (now (handles .entry)) (p .0) (idsFrom (now (frame .entry)) from n) ⌝ }
+{
+    let mut at = [0u8; 8];
+    let mut k = 0;
+    while k < n {
+        let Found::At(s) = tables::find(handles, p, frames::send_id(frame, from + k)) else {
+            return Slots {
+                number: ENXIO,
+                at: [0u8; 8],
+            };
+        };
+        at[k] = s as u8;
+        k += 1;
+    }
+    Slots { number: 0, at }
+}
+
+// Do the nodes of the first n slots live?
+fn living(nodes: &[u64], to: [u8; 8], n: usize) -> bool
+    requires { ⌜ (length (now nodes) ≡ 256) × (n ≤ 8) ⌝ }
+    ensures { λ r. ⌜ r ≡ livingAt (now (nodes .entry)) (take n to) ⌝ }
+{
+    let mut k = 0;
+    while k < n {
+        if !tables::is_live(nodes, to[k] as usize % 128) {
+            return false;
+        }
+        k += 1;
+    }
+    true
+}
+
+// How many of the first n slots the peer owns.
+fn places_at(to: [u8; 8], n: usize, p: Peer) -> u16
+    requires { ⌜ n ≤ 8 ⌝ }
+    ensures { λ r. ⌜ (r ≡ placesAt (p .0) (take n to)) × (r ≤ 8) ⌝ }
+{
+    let mut k = 0;
+    let mut m = 0u16;
+    while k < n {
+        if to[k] as usize / 16 == p.0 {
+            m += 1;
+        }
+        k += 1;
+    }
+    m
+}
+
+// Does quota allow what a send adds at the peer?
+fn allowed_at(charges: &[u16], u: User, to: [u8; 8], z: Sizes, p: Peer) -> bool
+    requires { ⌜ (length (now charges) ≡ 96) × (z .nd ≤ 8) × (z .nh ≤ 8) × (z .nb ≤ 512) × (p .0 < 8) ⌝ }
+    ensures { λ r. ⌜ r ≡ allowedAt (now (charges .entry)) u (take (z .nd) to) (z .nb) (z .nh) (p .0) ⌝ }
+{
+    let m = places_at(to, z.nd, p);
+    let c = tables::load(charges, p);
+    c.allows(
+        u,
+        Charge {
+            messages: m,
+            bytes: m * z.nb as u16,
+            handles: m * z.nh as u16,
+        },
+    )
+}
+
+// Does quota allow what a send adds at each of its destinations?
+fn affordable(charges: &[u16], u: User, to: [u8; 8], z: Sizes) -> bool
+    requires { ⌜ (length (now charges) ≡ 96) × (z .nd ≤ 8) × (z .nh ≤ 8) × (z .nb ≤ 512) ⌝ }
+    ensures { λ r. ⌜ r ≡ affordableAt (now (charges .entry)) u (take (z .nd) to) (z .nb) (z .nh) ⌝ }
+{
+    let mut k = 0;
+    while k < z.nd {
+        if !allowed_at(charges, u, to, z, Peer(to[k] as usize / 16 % 8)) {
+            return false;
+        }
+        k += 1;
+    }
+    true
+}
+
+fn judge_send(
+    peers: &[u64],
+    nodes: &[u64],
+    handles: &[u64],
+    charges: &[u16],
+    frame: &[u8],
+    p: Peer,
+    z: Sizes,
+) -> Ruling
+    requires { ⌜ (length (now peers) ≡ 25) × (length (now nodes) ≡ 256) × (length (now handles) ≡ 2048) × (length (now charges) ≡ 96) × (p .0 < 8) × Sent (now frame) z ⌝ }
+    ensures { λ r. ⌜ r ≡ unlessAt (refusesSend (seen (now (peers .entry)) (now (nodes .entry)) (now (handles .entry)) (now (charges .entry)) noRings) (p .0) (destinations (now (frame .entry)) z) (attached (now (frame .entry)) z) (length (payloadOf (now (frame .entry))))) (order.Send p z) (placesOf (seen (now (peers .entry)) (now (nodes .entry)) (now (handles .entry)) (now (charges .entry)) noRings) (p .0) (now (frame .entry)) z) ⌝ }
+{
+    let n = starts(peers, p);
+    if n != 0 {
+        return plain(Order::Refuse(n));
+    }
+    let d = slots_of(handles, frame, p, 0, z.nd);
+    if d.number != 0 {
+        return plain(Order::Refuse(d.number));
+    }
+    let h = slots_of(handles, frame, p, z.nd, z.nh);
+    if h.number != 0 {
+        return plain(Order::Refuse(h.number));
+    }
+    let to = d.at;
+    if !living(nodes, to, z.nd) {
+        return plain(Order::Refuse(EHOSTUNREACH));
+    }
+    let u = tables::user_of(peers, p);
+    if !affordable(charges, u, to, z) {
+        return plain(Order::Refuse(EDQUOT));
+    }
+    let carried = h.at;
+    Ruling {
+        order: Order::Send(p, z),
+        places: Places { to, carried },
+    }
+}
+
+// Does the entry need more room than there is?
+fn too_large(e: Entry, room: usize) -> bool
+    ensures { λ r. ⌜ r ≡ tooLarge e room ⌝ }
+{
+    if !queues::is_message(e) {
+        return false;
+    }
+    room < rings::wide(e.nb) + 8 * copies::least(rings::wide(e.nh), 8)
+}
+
+fn judge_receive(
+    peers: &[u64],
+    ends: &[u16],
+    entries: &[u16],
+    carried: &[u8],
+    numbers: &[u64],
+    p: Peer,
+    room: usize,
+) -> Order
+    requires { ⌜ (length (now peers) ≡ 25) × (length (now ends) ≡ endCount) × Sized (rowsOf (now entries) (now carried) (now numbers)) × (p .0 < 8) ⌝ }
+    ensures { λ r. ⌜ r ≡ unless (refusesReceive (seen (now (peers .entry)) [] [] [] (ringsOf (now (ends .entry)) (now (entries .entry)) (now (carried .entry)) (now (numbers .entry)))) (p .0) room) (order.Receive p) ⌝ }
+{
+    let n = starts(peers, p);
+    if n != 0 {
+        return Order::Refuse(n);
+    }
+    if rings::len_of(ends, p) == 0 {
+        return Order::Refuse(EAGAIN);
+    }
+    if too_large(rings::first_entry(ends, entries, carried, numbers, p), room) {
+        return Order::Refuse(ERANGE);
+    }
+    Order::Receive(p)
+}
+
+fn judge_quota(peers: &[u64], p: Peer, u: User) -> Order
+    requires { ⌜ (length (now peers) ≡ 25) × (p .0 < 8) ⌝ }
+    ensures { λ r. ⌜ r ≡ unless (refusesQuota (seen (now (peers .entry)) [] [] [] noRings) (p .0)) (order.Quota p u) ⌝ }
+{
+    let n = tables::standing(peers, p);
+    if n != 0 {
+        return Order::Refuse(n);
+    }
+    Order::Quota(p, u)
+}
+
+fn judge_holders(peers: &[u64], handles: &[u64], p: Peer, i: HandleId) -> Order
+    requires { ⌜ (length (now peers) ≡ 25) × (length (now handles) ≡ 2048) × (p .0 < 8) ⌝ }
+    ensures { λ r. ⌜ r ≡ unless (refusesHolders (seen (now (peers .entry)) [] (now (handles .entry)) [] noRings) (p .0) (i .0)) (order.Holders (slot (seen (now (peers .entry)) [] (now (handles .entry)) [] noRings) (p .0) (i .0))) ⌝ }
+{
+    let n = tables::standing(peers, p);
+    if n != 0 {
+        return Order::Refuse(n);
+    }
+    let Found::At(s) = tables::find(handles, p, i) else {
+        return Order::Refuse(ENXIO);
+    };
+    if s / 16 != p.0 {
+        return Order::Refuse(EPERM);
+    }
+    Order::Holders(s)
+}
+
+// What the bus says to a command.
+pub fn judge(
+    peers: &[u64],
+    nodes: &[u64],
+    handles: &[u64],
+    charges: &[u16],
+    ends: &[u16],
+    entries: &[u16],
+    carried: &[u8],
+    numbers: &[u64],
+    frame: &[u8],
+    c: Command,
+) -> Ruling
+    requires { ⌜ (length (now peers) ≡ 25) × (length (now nodes) ≡ 256) × (length (now handles) ≡ 2048) × (length (now charges) ≡ 96) × (length (now ends) ≡ endCount) × Sized (rowsOf (now entries) (now carried) (now numbers)) × Short (now ends) × Legal (now frame) c ⌝ }
+    ensures { λ r. ⌜ r ≡ rulingOf (seen (now (peers .entry)) (now (nodes .entry)) (now (handles .entry)) (now (charges .entry)) (ringsOf (now (ends .entry)) (now (entries .entry)) (now (carried .entry)) (now (numbers .entry)))) (now (frame .entry)) c ⌝ }
+{
+    match c {
+        Command::Open(p, u) => plain(judge_open(peers, p, u)),
+        Command::Disconnect(p) => plain(judge_disconnect(peers, p)),
+        Command::Create(p, i) => {
+            plain(judge_create(peers, nodes, handles, ends, entries, carried, numbers, p, i))
+        }
+        Command::Destroy(p, i) => plain(judge_destroy(peers, nodes, handles, p, i)),
+        Command::Release(p, i) => plain(judge_release(peers, nodes, handles, p, i)),
+        Command::Transfer(p, i, q) => plain(judge_transfer(peers, nodes, handles, p, i, q)),
+        Command::Send(p, z) => judge_send(peers, nodes, handles, charges, frame, p, z),
+        Command::Receive(p, room) => {
+            plain(judge_receive(peers, ends, entries, carried, numbers, p, room))
+        }
+        Command::Quota(p, u) => plain(judge_quota(peers, p, u)),
+        Command::Holders(p, i) => plain(judge_holders(peers, handles, p, i)),
+    }
+}

@@ -1,0 +1,4 @@
+pub mod Notices
+pub mod Code
+pub mod Rising
+pub mod Telling

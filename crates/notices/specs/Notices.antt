@@ -1,0 +1,109 @@
+-- What the functions of the notices do: sets of a peer's slots, places by ascending ID, and notices queued at their peers.
+-- Assumes nothing.
+use Prim.Native.Nat.{ℕ, zero, suc, _+_, _*_, _-_, _/_, _%_, _^_, _<_}
+use mathlib.Core.Bool.{Bool, false}
+use mathlib.Core.List.{List}
+use lib.ListN.{replicate}
+use lib.Count.{trailingZeros}
+use lib.Dec.{eqb, ltb}
+use Rattle.laws.specs.Tests.{pick}
+use Rattle.laws.specs.Bits.{bits}
+use Rattle.rings.specs.declared.Entry.{Entry}
+use Rattle.rings.specs.declared.Match.{Match}
+use Rattle.rings.specs.Rings.{slots, Rings, bitAt}
+use Rattle.tables.specs.declared.Found.{Found}
+use Rattle.tables.specs.declared.Found.the-variants.{At, Nothing}
+use Rattle.tables.specs.Nodes.{liveAt, setDead}
+use Rattle.tables.specs.Handles.{idAt, countAt, totalAt, holdersAt}
+use Rattle.queues.specs.Queues.{entered, withdrawn}
+use Rattle.notices.specs.declared.Asked.{Asked}
+use Rattle.notices.specs.declared.Asked.the-variants.{Living, Falling, Above}
+
+-- A notice about a slot: kind 1 of its destruction, 2 of its release.
+unfoldable pub noticeOf : ℕ → ℕ → ℕ → Entry
+noticeOf kind s n = record { kind = kind; slot = s; user = 0; nb = 0; nh = 0; carried = replicate 8 0; number = n }
+
+-- The sum of counts of a live node falls to 1 when the peer's handle goes.
+unfoldable pub fallsAt : List ℕ → List ℕ → ℕ → ℕ → Bool
+fallsAt ns hs p s = pick (liveAt ns s) (pick (eqb (countAt hs p s) 0) false (eqb (totalAt hs s) (countAt hs p s + 1))) false
+
+-- The ID of the peer's own slot at a place.
+abbrev pub keyAt : List ℕ → ℕ → ℕ → ℕ
+keyAt hs q k = idAt hs q (q * slots + k)
+
+-- The place k is in the set and its ID is above the one at the place j.
+unfoldable pub aboveAt : List ℕ → ℕ → ℕ → ℕ → ℕ → Bool
+aboveAt hs q set j k = pick (bitAt set k) (ltb (keyAt hs q (j % slots)) (keyAt hs q k)) false
+
+-- What is asked about a peer is about one of the eight.
+abbrev pub Fair : Asked → Type 0
+Fair Living = Unit {0}
+Fair (Falling p) = p .0 < 8
+Fair (Above set j) = Unit {0}
+
+abbrev pub asks : List ℕ → List ℕ → ℕ → Asked → ℕ → Bool
+asks ns hs q Living k = liveAt ns (q * slots + k)
+asks ns hs q (Falling p) k = fallsAt ns hs (p .0) (q * slots + k)
+asks ns hs q (Above set j) k = aboveAt hs q set j k
+
+-- The places of the peer's slots that are asked for, each a bit.
+unfoldable pub setOf : List ℕ → List ℕ → ℕ → Asked → ℕ
+setOf ns hs q a = bits (asks ns hs q a) slots
+
+-- The place with the least ID among the places of the set below n.
+abbrev pub lowerOf : List ℕ → ℕ → Found → ℕ → Found
+lowerOf hs q Nothing k = At k
+lowerOf hs q (At j) k = pick (ltb (keyAt hs q k) (keyAt hs q (j % slots))) (At k) (At j)
+
+unfoldable pub leastAt : List ℕ → ℕ → ℕ → ℕ → Found
+leastAt hs q set zero = Nothing
+leastAt hs q set (suc k) = pick (bitAt set k) (lowerOf hs q (leastAt hs q set k) k) (leastAt hs q set k)
+
+-- An entry queued at each peer of a set, in ascending order.
+unfoldable pub postedTo : Rings → Entry → ℕ → ℕ → Rings
+postedTo r e set zero = r
+postedTo r e set (suc f) =
+    let q = trailingZeros 8 set % 8 in
+    let rest = postedTo (entered r q e) e (set - 2 ^ q) f in
+    pick (eqb set 0) r rest
+
+-- Who is told: "Destroy queues a notice at every holder, owner included"; "a release notice is queued at the owner".
+unfoldable pub addressees : List ℕ → ℕ → ℕ → ℕ
+addressees hs kind s = pick (eqb kind 1) (holdersAt hs s) (2 ^ (s / slots))
+
+-- The notices about the peer's own slots in a set, by ascending ID.
+abbrev pub following : Found → (ℕ → Rings) → Rings → Rings
+following Nothing more r = r
+following (At j) more r = more j
+
+unfoldable pub told : List ℕ → ℕ → ℕ → ℕ → Rings → ℕ → ℕ → Rings
+told hs q kind n r set zero = r
+told hs q kind n r set (suc f) =
+    following (leastAt hs q set 16)
+    (λ j. told hs q kind n (postedTo r (noticeOf kind (q * slots + j % slots) n) (addressees hs kind (q * slots + j % slots)) 8) (bits (aboveAt hs q set j) slots) f)
+    r
+
+-- The nodes of the peer's own slots in a set are dead.
+unfoldable pub deadAll : List ℕ → ℕ → ℕ → ℕ → ℕ → List ℕ
+deadAll ns p set n zero = ns
+deadAll ns p set n (suc k) = pick (bitAt set k) (setDead (deadAll ns p set n k) (p * slots + k) n) (deadAll ns p set n k)
+
+-- The peer's own nodes in a set are destroyed.
+pub record Destroyed : Type 0 where
+  pub nodes : List ℕ
+  pub rings : Rings
+
+abbrev pub destroyedOf : List ℕ → Rings → Destroyed
+destroyedOf ns r = record { nodes = ns; rings = r }
+
+-- The release notices of the peer's own slots in a set.
+abbrev pub releasedIn : ℕ → ℕ → Match
+releasedIn p set = record { kinds = 4; first = p * slots; mask = set }
+
+unfoldable pub destroyedSet : List ℕ → List ℕ → Rings → ℕ → ℕ → ℕ → Destroyed
+destroyedSet ns hs r p set n = destroyedOf (deadAll ns p set n 16) (told hs p 1 n (withdrawn r p (releasedIn p set)) set 16)
+
+-- The release notices at the owners below q, when all handles of the peer p go.
+unfoldable pub toldOwners : List ℕ → List ℕ → ℕ → ℕ → Rings → ℕ → Rings
+toldOwners ns hs p n r zero = r
+toldOwners ns hs p n r (suc q) = told hs q 2 n (toldOwners ns hs p n r q) (setOf ns hs q (Falling (record { 0 = p }))) 16

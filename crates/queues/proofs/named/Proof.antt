@@ -1,0 +1,54 @@
+-- `queues::named` meets its contract: the loop's invariant is that no queue passed names the slot; the measure is the peers left. Assumes nothing.
+use Rattle.queues.specs.Queues.{namesIn}
+use Rattle.model.specs.Lists.{any}
+use mathlib.Core.Bool.{false}
+use mathlib.Core.Path.{_≡_, sym, _∙_}
+use borrow.Author.Count.{below-more}
+use Prim.Native.Nat.{ℕ, _-_, _≤_, _<_}
+use Rattle.rings.specs.Rings.{ringsOf, queueOf}
+use Rattle.queues.specs.Code.{named-found, named-none}
+use native.Mathlib.Omega.{arith}
+use borrow.Author.Needs.{needs}
+use Rattle.queues.proofs.named.Statement.{statement}
+use Rattle.queues.proofs.named.Tie as tie
+
+abbrev Inv-loop : tie.InvT-loop
+Inv-loop ends entries carried numbers s q₀ q = (q ≤ 8) × ((k : ℕ) → k < q → any (namesIn s) (queueOf (ringsOf ends entries carried numbers) k) ≡ false)
+
+abbrev μ-loop : tie.MeasureT-loop
+μ-loop ends entries carried numbers s q₀ q = 8 - q
+
+loop-holds : tie.Need-loop-holds Inv-loop μ-loop
+loop-holds c = (omega arith, λ k h. absurd (omega arith))
+
+named-at-requires : tie.Need-named-at-requires Inv-loop μ-loop
+named-at-requires c κs = (c .before .before .before .before .before .before .pre .0, c .before .before .before .before .before .before .pre .1, omega arith, c .before .before .before .before .before .before .pre .2 (c .before .loop .q) (omega arith))
+
+returns : tie.Need-returns Inv-loop μ-loop
+returns c = let a = (c .before .before .before .before .before .before .before .before .args) in named-found (ringsOf (a .ends .now) (a .entries .now) (a .carried .now) (a .numbers .now)) (a .s) ((c .before .before .before .loop) .q) ((c .before .before .loop-test) .taken) ((c .before .named-at) .ensures) ((c .if1) .taken)
+
+add-q : tie.Need-add-q Inv-loop μ-loop
+add-q c = search needs
+
+loop-less : tie.Need-loop-less Inv-loop μ-loop
+loop-less c = search needs
+
+loop-again : tie.Need-loop-again Inv-loop μ-loop
+loop-again c = (omega arith, below-more _ _ ((c .before .before .before .loop) .inv .1) (sym ((c .before .named-at) .ensures) ∙ (c .if1) .left))
+
+returns-2 : tie.Need-returns-2 Inv-loop μ-loop
+returns-2 c = let a = (c .before .before .before .before .before .before .args) in named-none (ringsOf (a .ends .now) (a .entries .now) (a .carried .now) (a .numbers .now)) (a .s) (λ j l. (c .before .loop) .inv .1 j (omega arith))
+
+pub named-spec : {M : Type 1} → statement M
+named-spec =
+    tie.close
+    (tie.spec
+    Inv-loop
+    μ-loop
+    loop-holds
+    named-at-requires
+    returns
+    add-q
+    loop-less
+    loop-again
+    returns-2)

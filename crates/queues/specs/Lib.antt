@@ -1,0 +1,5 @@
+pub mod Queues
+pub mod Code
+pub mod Entering
+pub mod Asking
+pub mod Leaving

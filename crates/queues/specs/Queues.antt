@@ -1,0 +1,126 @@
+-- What the functions of the queues do to the rings, the pool and the table of charges.
+-- Assumes nothing.
+use Prim.Native.Nat.{ℕ, suc, _+_, min, _≤_, _<_}
+use mathlib.Core.Path.{_≡_}
+use mathlib.Core.Bool.{Bool, true, false, not}
+use mathlib.Core.List.{List, [], _∷_}
+use lib.ListN.{length, getD, take, drop}
+use lib.Dec.{eqb, ltb, leb}
+use Rattle.laws.specs.Tests.{pick}
+use Rattle.ids.specs.declared.User.{User}
+use Rattle.quota.specs.declared.Charge.{Charge}
+use Rattle.quota.specs.declared.Charges.{Charges}
+use Rattle.quota.specs.Charges.{nothing, freshCharges, charged, discharged}
+use Rattle.rings.specs.declared.Entry.{Entry}
+use Rattle.rings.specs.declared.Match.{Match}
+use Rattle.rings.specs.Rings.{peers, ringSize, Rings, ringsOf, lengthOf, queueOf, matches, pushed, popped, removed}
+use Rattle.rings.specs.Rings.{cleared as clearedEnds}
+use Rattle.pool.specs.Pool.{areaSize, appended, closed, keptPieces}
+use Rattle.tables.specs.Charges.{chargesAt, putCharges}
+use Rattle.model.specs.Lists.{either, any, anyBelow}
+
+-- The queues with what belongs to their messages: the users' charges and the payloads.
+pub record Queues : Type 0 where
+  pub charges : List ℕ
+  pub rings : Rings
+  pub pool : List ℕ
+
+abbrev pub queuesOf : List ℕ → List ℕ → List ℕ → List ℕ → List ℕ → List ℕ → Queues
+queuesOf charges ends entries carried numbers pool = record { charges = charges; rings = ringsOf ends entries carried numbers; pool = pool }
+
+-- No queue is longer than its ring.
+abbrev pub Short : List ℕ → Type 0
+Short ends = (q : ℕ) → q < peers → lengthOf ends q ≤ ringSize
+
+-- The payload bytes that a peer's area uses: the sum of what its users have queued there, at most the area.
+unfoldable pub usedOf : Charges → ℕ
+usedOf c =
+    min (getD (c .by) 0 nothing .bytes + getD (c .by) 1 nothing .bytes + getD (c .by) 2 nothing .bytes + getD (c .by) 3 nothing .bytes) areaSize
+
+unfoldable pub isMessage : Entry → Bool
+isMessage e = pick (eqb (e .kind) 1) false (not (eqb (e .kind) 2))
+
+-- What a message counts, of the eight slots of its row at most eight handles, and whom it is counted under.
+abbrev pub chargeIn : Entry → Charge
+chargeIn e = record { messages = 1; bytes = e .nb; handles = min (e .nh) 8 }
+
+abbrev pub userIn : Entry → User
+userIn e = record { 0 = e .user }
+
+-- An entry appended; to a full queue, nothing.
+unfoldable pub entered : Rings → ℕ → Entry → Rings
+entered r p e = pick (ltb (lengthOf (r .ends) p) ringSize) (pushed r p e) r
+
+-- A message appended with its payload, and charged.
+unfoldable pub enqueued : Queues → ℕ → Entry → List ℕ → Queues
+enqueued q p e bytes =
+    record {
+      charges = putCharges (q .charges) p (charged (chargesAt (q .charges) p) (userIn e) (chargeIn e));
+      rings = entered (q .rings) p e;
+      pool = appended (q .pool) p (usedOf (chargesAt (q .charges) p)) bytes;
+    }
+
+-- The charge of a message taken off; the payload of the oldest message taken out of the pool.
+unfoldable pub settledCharges : List ℕ → ℕ → Entry → List ℕ
+settledCharges t p e = putCharges t p (discharged (chargesAt t p) (userIn e) (chargeIn e))
+
+unfoldable pub settledPool : List ℕ → List ℕ → ℕ → Entry → List ℕ
+settledPool t pool p e = closed pool p 0 (min (e .nb) (usedOf (chargesAt t p))) (usedOf (chargesAt t p))
+
+-- The oldest entry taken out of a queue: a message with its payload and its charge, a notice alone.
+unfoldable pub takenOut : Queues → ℕ → Entry → Queues
+takenOut q p e =
+    let after : Rings = record { ends = popped (q .rings .ends) p; rows = q .rings .rows } in
+    pick (isMessage e)
+    (record { charges = settledCharges (q .charges) p e; rings = after; pool = settledPool (q .charges) (q .pool) p e })
+    (record { charges = q .charges; rings = after; pool = q .pool })
+
+-- The charges after a message that a removal takes out; after all those of some entries.
+unfoldable pub lessened : Charges → Match → Entry → Charges
+lessened c m e = pick (isMessage e) (pick (matches m e) (discharged c (userIn e) (chargeIn e)) c) c
+
+unfoldable pub lessenedAll : Charges → Match → List Entry → Charges
+lessenedAll c m [] = c
+lessenedAll c m (e ∷ es) = lessenedAll (lessened c m e) m es
+
+-- What matches is taken out of a queue: no payload and no charge with it; with both.
+unfoldable pub withdrawn : Rings → ℕ → Match → Rings
+withdrawn r p m = pick (leb (lengthOf (r .ends) p) ringSize) (removed r p m) r
+
+unfoldable pub removedFrom : Queues → ℕ → Match → Queues
+removedFrom q p m =
+    pick (leb (lengthOf (q .rings .ends) p) ringSize)
+    (record {
+      charges = putCharges (q .charges) p (lessenedAll (chargesAt (q .charges) p) m (queueOf (q .rings) p));
+      rings = removed (q .rings) p m;
+      pool = keptPieces (q .pool) p 0 0 m (queueOf (q .rings) p) .table;
+    })
+    q
+
+-- All entries dropped, with their charges; the payloads are those of no message then.
+unfoldable pub emptiedCharges : List ℕ → ℕ → List ℕ
+emptiedCharges t p = putCharges t p freshCharges
+
+unfoldable pub emptied : Queues → ℕ → Queues
+emptied q p =
+    record {
+      charges = emptiedCharges (q .charges) p;
+      rings = record { ends = clearedEnds (q .rings .ends) p; rows = q .rings .rows };
+      pool = q .pool;
+    }
+
+-- Of the entries from the front that the command n queued, is one a message?
+unfoldable pub leads : ℕ → List Entry → Bool
+leads n [] = false
+leads n (e ∷ es) = pick (eqb (e .number) n) (either (isMessage e) (leads n es)) false
+
+-- Behind the oldest entry of a queue.
+unfoldable pub followsIn : Rings → ℕ → ℕ → Bool
+followsIn r p n = leads n (drop 1 (queueOf r p))
+
+-- A message names a slot, as destination or attached.
+unfoldable pub namesIn : ℕ → Entry → Bool
+namesIn s e = pick (isMessage e) (either (eqb s (e .slot)) (any (eqb s) (take (e .nh) (e .carried)))) false
+
+unfoldable pub namedIn : Rings → ℕ → Bool
+namedIn r s = anyBelow (λ q. any (namesIn s) (queueOf r q)) peers

@@ -1,0 +1,306 @@
+// The queues with what belongs to their messages: a queue's rows, its payloads in the pool, and the users' charges at
+// its peer change together. A function requires the sizes of the tables that it is lent and that the peer is one of the
+// eight; any contents have a meaning.
+ghost use mathlib.Core.Path.{_≡_};
+ghost use mathlib.Core.Bool.{false};
+ghost use Prim.Native.Nat.{_<_, _≤_};
+ghost use lib.ListN.{length, take};
+ghost use Rattle.rings.specs.Rings.{peers, ringSize, rowsOf, ringsOf, endCount, Sized, lengthOf, queueOf, cleared};
+ghost use Rattle.pool.specs.Pool.{areaSize, poolSize};
+ghost use Rattle.model.specs.Lists.{any};
+ghost use lib.Dec.{eqb};
+ghost use Rattle.queues.specs.Queues.{queuesOf, Short, usedOf, isMessage, chargeIn, entered, enqueued, settledCharges, settledPool, lessened, lessenedAll, withdrawn, removedFrom, emptiedCharges, followsIn, namesIn, namedIn};
+use ids::Peer;
+use ids::User;
+use quota::Charge;
+use quota::Charges;
+use rings::Entry;
+use rings::Match;
+
+// The rows of one peer's ring.
+const RING: usize = 512;
+
+// The bytes of one peer's area in the pool.
+const AREA: usize = 4096;
+
+fn wide(x: u16) -> usize
+    ensures { λ r. ⌜ (r ≡ x) × (r < 65536) ⌝ }
+{
+    x as usize
+}
+
+fn byte_wide(x: u8) -> usize
+    ensures { λ r. ⌜ r ≡ x ⌝ }
+{
+    x as usize
+}
+
+// The payload bytes that a peer's area uses: what the users have queued there.
+pub fn used(c: Charges) -> usize
+    ensures { λ r. ⌜ (r ≡ usedOf c) × (r ≤ areaSize) ⌝ }
+{
+    let by = c.by;
+    let sum = wide(by[0].bytes) + wide(by[1].bytes) + wide(by[2].bytes) + wide(by[3].bytes);
+    copies::least(sum, AREA)
+}
+
+// Is the entry a message, and no notice?
+pub fn is_message(e: Entry) -> bool
+    ensures { λ r. ⌜ r ≡ isMessage e ⌝ }
+{
+    if e.kind == 1 {
+        return false;
+    }
+    e.kind != 2
+}
+
+// What a message counts under its sender's user.
+fn charge_of(e: Entry) -> Charge
+    ensures { λ r. ⌜ r ≡ chargeIn e ⌝ }
+{
+    Charge {
+        messages: 1,
+        bytes: e.nb,
+        handles: copies::least(wide(e.nh), 8) as u16,
+    }
+}
+
+// An entry appended to a queue; to a full one, nothing.
+pub fn enter(
+    ends: &mut [u16],
+    entries: &mut [u16],
+    carried: &mut [u8],
+    numbers: &mut [u64],
+    p: Peer,
+    e: Entry,
+)
+    requires { ⌜ (length (now ends) ≡ endCount) × Sized (rowsOf (now entries) (now carried) (now numbers)) × (p .0 < peers) ⌝ }
+    ensures { λ _. ⌜ ringsOf (now (ends .exit)) (now (entries .exit)) (now (carried .exit)) (now (numbers .exit)) ≡ entered (ringsOf (now (ends .entry)) (now (entries .entry)) (now (carried .entry)) (now (numbers .entry))) (p .0) e ⌝ }
+{
+    if rings::len_of(ends, p) < RING {
+        rings::push(ends, entries, carried, numbers, p, e);
+    }
+}
+
+// A message appended to a queue with its payload, and charged.
+pub fn enqueue(
+    charges: &mut [u16],
+    ends: &mut [u16],
+    entries: &mut [u16],
+    carried: &mut [u8],
+    numbers: &mut [u64],
+    pool: &mut [u8],
+    p: Peer,
+    e: Entry,
+    payload: &[u8],
+)
+    requires { ⌜ (length (now charges) ≡ 96) × (length (now ends) ≡ endCount) × Sized (rowsOf (now entries) (now carried) (now numbers)) × (p .0 < peers) ⌝ }
+    ensures { λ _. ⌜ queuesOf (now (charges .exit)) (now (ends .exit)) (now (entries .exit)) (now (carried .exit)) (now (numbers .exit)) (now (pool .exit)) ≡ enqueued (queuesOf (now (charges .entry)) (now (ends .entry)) (now (entries .entry)) (now (carried .entry)) (now (numbers .entry)) (now (pool .entry))) (p .0) e (now (payload .entry)) ⌝ }
+{
+    let c = tables::load(charges, p);
+    pool::append(pool, p, used(c), payload);
+    enter(ends, entries, carried, numbers, p, e);
+    tables::store(charges, p, c.charge(User(wide(e.user)), charge_of(e)));
+}
+
+// The oldest message's payload taken out of the pool, and its charge taken off.
+pub fn settle(charges: &mut [u16], pool: &mut [u8], p: Peer, e: Entry)
+    requires { ⌜ (length (now charges) ≡ 96) × (p .0 < peers) ⌝ }
+    ensures { λ _. ⌜ (now (charges .exit) ≡ settledCharges (now (charges .entry)) (p .0) e) × (now (pool .exit) ≡ settledPool (now (charges .entry)) (now (pool .entry)) (p .0) e) ⌝ }
+{
+    let c = tables::load(charges, p);
+    let all = used(c);
+    let n = copies::least(wide(e.nb), all);
+    pool::close(pool, p, 0, n, all);
+    tables::store(charges, p, c.discharge(User(wide(e.user)), charge_of(e)));
+}
+
+// The charges after an entry, if it is a message that a removal takes out.
+fn lessen(c: Charges, e: Entry, m: Match) -> Charges
+    ensures { λ r. ⌜ r ≡ lessened c m e ⌝ }
+{
+    if !is_message(e) {
+        return c;
+    }
+    if !rings::is_match(m, e) {
+        return c;
+    }
+    c.discharge(User(wide(e.user)), charge_of(e))
+}
+
+// The charges after all messages of a queue that a removal takes out.
+fn lessen_all(
+    c: Charges,
+    ends: &[u16],
+    entries: &[u16],
+    carried: &[u8],
+    numbers: &[u64],
+    p: Peer,
+    m: Match,
+) -> Charges
+    requires { ⌜ (length (now ends) ≡ endCount) × Sized (rowsOf (now entries) (now carried) (now numbers)) × (p .0 < peers) × (lengthOf (now ends) (p .0) ≤ ringSize) ⌝ }
+    ensures { λ r. ⌜ r ≡ lessenedAll c m (queueOf (ringsOf (now (ends .entry)) (now (entries .entry)) (now (carried .entry)) (now (numbers .entry))) (p .0)) ⌝ }
+{
+    let head = rings::head_of(ends, p);
+    let len = rings::len_of(ends, p);
+    let mut rest = c;
+    let mut i = 0;
+    while i < len {
+        let row = rings::row_of(p, head, i);
+        let e = rings::get_entry(entries, carried, numbers, row);
+        rest = lessen(rest, e, m);
+        i += 1;
+    }
+    rest
+}
+
+// Every entry that matches taken out of a queue, no payload and no charge with it: notices alone.
+pub fn withdraw(
+    ends: &mut [u16],
+    entries: &mut [u16],
+    carried: &mut [u8],
+    numbers: &mut [u64],
+    p: Peer,
+    m: Match,
+)
+    requires { ⌜ (length (now ends) ≡ endCount) × Sized (rowsOf (now entries) (now carried) (now numbers)) × (p .0 < peers) ⌝ }
+    ensures { λ _. ⌜ ringsOf (now (ends .exit)) (now (entries .exit)) (now (carried .exit)) (now (numbers .exit)) ≡ withdrawn (ringsOf (now (ends .entry)) (now (entries .entry)) (now (carried .entry)) (now (numbers .entry))) (p .0) m ⌝ }
+{
+    if rings::len_of(ends, p) <= RING {
+        rings::remove(ends, entries, carried, numbers, p, m);
+    }
+}
+
+// Every entry that matches taken out of a queue, with its payload and its charge.
+pub fn remove(
+    charges: &mut [u16],
+    ends: &mut [u16],
+    entries: &mut [u16],
+    carried: &mut [u8],
+    numbers: &mut [u64],
+    pool: &mut [u8],
+    p: Peer,
+    m: Match,
+)
+    requires { ⌜ (length (now charges) ≡ 96) × (length (now ends) ≡ endCount) × Sized (rowsOf (now entries) (now carried) (now numbers)) × (p .0 < peers) ⌝ }
+    ensures { λ _. ⌜ queuesOf (now (charges .exit)) (now (ends .exit)) (now (entries .exit)) (now (carried .exit)) (now (numbers .exit)) (now (pool .exit)) ≡ removedFrom (queuesOf (now (charges .entry)) (now (ends .entry)) (now (entries .entry)) (now (carried .entry)) (now (numbers .entry)) (now (pool .entry))) (p .0) m ⌝ }
+{
+    if RING < rings::len_of(ends, p) {
+        return;
+    }
+    let c = tables::load(charges, p);
+    let d = lessen_all(c, ends, entries, carried, numbers, p, m);
+    tables::store(charges, p, d);
+    pool::remove(pool, ends, entries, carried, numbers, p, m);
+    rings::remove(ends, entries, carried, numbers, p, m);
+}
+
+// All entries of a queue dropped, with their charges.
+pub fn empty(charges: &mut [u16], ends: &mut [u16], p: Peer)
+    requires { ⌜ (length (now charges) ≡ 96) × (length (now ends) ≡ endCount) × (p .0 < peers) ⌝ }
+    ensures { λ _. ⌜ (now (charges .exit) ≡ emptiedCharges (now (charges .entry)) (p .0)) × (now (ends .exit) ≡ cleared (now (ends .entry)) (p .0)) ⌝ }
+{
+    tables::store(charges, p, Charges::fresh());
+    rings::clear(ends, p);
+}
+
+// Behind the oldest entry, is there another message that the command of the number n queued? A queue is in the order of
+// these numbers.
+pub fn follows(
+    ends: &[u16],
+    entries: &[u16],
+    carried: &[u8],
+    numbers: &[u64],
+    p: Peer,
+    n: u64,
+) -> bool
+    requires { ⌜ (length (now ends) ≡ endCount) × Sized (rowsOf (now entries) (now carried) (now numbers)) × (p .0 < peers) × (lengthOf (now ends) (p .0) ≤ ringSize) ⌝ }
+    ensures { λ r. ⌜ r ≡ followsIn (ringsOf (now (ends .entry)) (now (entries .entry)) (now (carried .entry)) (now (numbers .entry))) (p .0) n ⌝ }
+{
+    let head = rings::head_of(ends, p);
+    let len = rings::len_of(ends, p);
+    let mut i = 1;
+    while i < len {
+        let row = rings::row_of(p, head, i);
+        let e = rings::get_entry(entries, carried, numbers, row);
+        if e.number != n {
+            return false;
+        }
+        if is_message(e) {
+            return true;
+        }
+        i += 1;
+    }
+    false
+}
+
+// Is the slot among the first n?
+fn is_among(slots: [u8; 8], n: usize, s: usize) -> bool
+    requires { ⌜ n ≤ 8 ⌝ }
+    ensures { λ r. ⌜ r ≡ any (eqb s) (take n slots) ⌝ }
+{
+    let mut k = 0;
+    while k < n {
+        if byte_wide(slots[k]) == s {
+            return true;
+        }
+        k += 1;
+    }
+    false
+}
+
+// Is the entry a message that names the slot, as destination or attached?
+fn names(e: Entry, s: usize) -> bool
+    ensures { λ r. ⌜ r ≡ namesIn s e ⌝ }
+{
+    if !is_message(e) {
+        return false;
+    }
+    if wide(e.slot) == s {
+        return true;
+    }
+    let slots = e.carried;
+    let n = copies::least(wide(e.nh), 8);
+    is_among(slots, n, s)
+}
+
+// Does a message in the peer's queue name the slot?
+fn named_at(
+    ends: &[u16],
+    entries: &[u16],
+    carried: &[u8],
+    numbers: &[u64],
+    p: Peer,
+    s: usize,
+) -> bool
+    requires { ⌜ (length (now ends) ≡ endCount) × Sized (rowsOf (now entries) (now carried) (now numbers)) × (p .0 < peers) × (lengthOf (now ends) (p .0) ≤ ringSize) ⌝ }
+    ensures { λ r. ⌜ r ≡ any (namesIn s) (queueOf (ringsOf (now (ends .entry)) (now (entries .entry)) (now (carried .entry)) (now (numbers .entry))) (p .0)) ⌝ }
+{
+    let head = rings::head_of(ends, p);
+    let len = rings::len_of(ends, p);
+    let mut i = 0;
+    while i < len {
+        let row = rings::row_of(p, head, i);
+        let e = rings::get_entry(entries, carried, numbers, row);
+        if names(e, s) {
+            return true;
+        }
+        i += 1;
+    }
+    false
+}
+
+// Does a queued message name the slot?
+pub fn named(ends: &[u16], entries: &[u16], carried: &[u8], numbers: &[u64], s: usize) -> bool
+    requires { ⌜ (length (now ends) ≡ endCount) × Sized (rowsOf (now entries) (now carried) (now numbers)) × Short (now ends) ⌝ }
+    ensures { λ r. ⌜ r ≡ namedIn (ringsOf (now (ends .entry)) (now (entries .entry)) (now (carried .entry)) (now (numbers .entry))) s ⌝ }
+{
+    let mut q = 0;
+    while q < 8 {
+        if named_at(ends, entries, carried, numbers, Peer(q), s) {
+            return true;
+        }
+        q += 1;
+    }
+    false
+}
