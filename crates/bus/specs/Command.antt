@@ -1,0 +1,137 @@
+-- What a command does to the lent buffers, for any contents: the number, the bus and the answer buffer afterwards. And what a fresh bus is.
+-- Assumes nothing.
+use Prim.Native.Nat.{ℕ, zero, suc, _+_, _*_, _<_, _≤_}
+use mathlib.Core.Path.{_≡_}
+use mathlib.Core.Bool.{Bool, true}
+use mathlib.Core.List.{List, []}
+use lib.ListN.{length, getD, replicate}
+use lib.Dec.{eqb, ltb, leb}
+use Rattle.laws.specs.Tests.{pick}
+use Rattle.ids.specs.Refusals.{EINVAL, EIO}
+use Rattle.frames.specs.declared.Parsed.{Parsed}
+use Rattle.frames.specs.declared.Parsed.the-variants.{Read, Refused}
+use Rattle.frames.specs.Frame.{parse, payloadOf}
+use Rattle.quota.specs.Charges.{balanceOf}
+use Rattle.answers.specs.declared.Answer.{Answer}
+use Rattle.answers.specs.declared.Answer.the-variants.{Refused as isRefused, Done as isDone, Transferred as isTransferred, Quota as isQuota, Holders as isHolders}
+use Rattle.answers.specs.declared.Outcome.{Outcome}
+use Rattle.answers.specs.Answer.{answerSize, answerAfter, outcomeOf}
+use Rattle.rings.specs.Rings.{ringSize, rowCount, endCount, headOf, lengthOf}
+use Rattle.pool.specs.Pool.{poolSize}
+use Rattle.tables.specs.Peers.{stateAt, userAt, peerRow}
+use Rattle.tables.specs.Handles.{holdersAt}
+use Rattle.tables.specs.Charges.{chargesAt}
+use Rattle.model.specs.Lists.{both}
+use Rattle.view.specs.View.{Bus, busOf, stateOf}
+use Rattle.judges.specs.declared.Order.{Order}
+use Rattle.judges.specs.declared.Order.the-variants as order
+use Rattle.judges.specs.declared.Places.{Places}
+use Rattle.judges.specs.declared.Ruling.{Ruling}
+use Rattle.judges.specs.Orders.{seen, rulingOf}
+use Rattle.effects.specs.Effects.{transfers, received}
+use Rattle.effects.specs.After.{queuesIn, afterOpen, afterCreate, afterDestroy, afterRelease, afterTransfer, afterSend, afterReceive, afterDisconnect}
+
+-- Every buffer has its exact length.
+unfoldable pub sizedOk : Bus → Bool
+sizedOk b =
+    both (eqb (length (b .peers)) 25)
+    (both (eqb (length (b .nodes)) 256)
+    (both (eqb (length (b .handles)) 2048)
+    (both (eqb (length (b .charges)) 96)
+    (both (eqb (length (b .rings .ends)) 16)
+    (both (eqb (length (b .rings .rows .entries)) 20480)
+    (both (eqb (length (b .rings .rows .carried)) 32768)
+    (both (eqb (length (b .rings .rows .numbers)) 4096)
+    (eqb (length (b .pool)) 32768))))))))
+
+-- The numbers of a peer that steer everything are in their ranges: state, user, given IDs, the head and the length of its queue.
+unfoldable pub peerOk : List ℕ → List ℕ → ℕ → Bool
+peerOk ps ends p =
+    both (leb (stateAt ps p) 2)
+    (both (leb (userAt ps p) 3)
+    (both (ltb (getD ps (peerRow p + 2) 0) 17592186044416)
+    (both (ltb (headOf ends p) ringSize)
+    (leb (lengthOf ends p) ringSize))))
+
+-- So are those of the peers below n; of all, and the number of accepted commands.
+unfoldable pub peersOk : List ℕ → List ℕ → ℕ → Bool
+peersOk ps ends zero = true
+peersOk ps ends (suc p) = both (peersOk ps ends p) (peerOk ps ends p)
+
+unfoldable pub rangesOk : List ℕ → List ℕ → Bool
+rangesOk ps ends = both (peersOk ps ends 8) (ltb (getD ps 0 0) 1099511627776)
+
+-- No test for EIO fails.
+unfoldable pub soundOk : Bus → Bool
+soundOk b = both (sizedOk b) (rangesOk (b .peers) (b .rings .ends))
+
+-- What comes of a command: the number with the answer's length, the bus, the answer buffer.
+pub record Done : Type 0 where
+  pub outcome : Outcome
+  pub bus : Bus
+  pub out : List ℕ
+
+abbrev pub doneOf : Outcome → Bus → List ℕ → Done
+doneOf o b out = record { outcome = o; bus = b; out = out }
+
+-- An answer that shows no message; a refusal leaves the bus alone.
+abbrev pub answered : Answer → Bus → List ℕ → Done
+answered a b out = doneOf (outcomeOf a [] [] out) b (answerAfter a [] [] out)
+
+abbrev pub refusedBy : ℕ → Bus → List ℕ → Done
+refusedBy n b out = answered (isRefused n) b out
+
+-- An order carried out.
+abbrev pub carried : Bus → List ℕ → List ℕ → Order → Places → Done
+carried b f out (order.Refuse n) w = refusedBy n b out
+carried b f out (order.Open p u) w = answered isDone (afterOpen b (p .0) (u .0)) out
+carried b f out (order.Disconnect p) w = answered isDone (afterDisconnect b (p .0)) out
+carried b f out (order.Create p i s) w = answered isDone (afterCreate b (p .0) (i .0) s) out
+carried b f out (order.Destroy p s) w = answered isDone (afterDestroy b (p .0) s) out
+carried b f out (order.Release p s) w = answered isDone (afterRelease b (p .0) s) out
+carried b f out (order.Transfer q s) w =
+    answered (isTransferred (record { 0 = transfers (b .peers) (b .nodes) (b .handles) (b .rings) (q .0) s .id })) (afterTransfer b (q .0) s) out
+carried b f out (order.Send p z) w = answered isDone (afterSend b (p .0) z w (payloadOf f)) out
+carried b f out (order.Receive p) w =
+    let x = received (b .peers) (b .nodes) (b .handles) (queuesIn b) (p .0) out in
+    doneOf (x .outcome) (afterReceive b (p .0) out) (x .out)
+carried b f out (order.Quota p u) w = answered (isQuota (balanceOf (chargesAt (b .charges) (p .0)) u)) b out
+carried b f out (order.Holders s) w = answered (isHolders (holdersAt (b .handles) s)) b out
+
+unfoldable pub carriedOut : Bus → List ℕ → List ℕ → Ruling → Done
+carriedOut b f out r = carried b f out (r .order) (r .places)
+
+-- A frame's command judged and carried out, or the frame's refusal.
+abbrev pub obeyed : Bus → List ℕ → List ℕ → Parsed → Done
+obeyed b f out (Refused n) = refusedBy n b out
+obeyed b f out (Read c) = carriedOut b f out (rulingOf (seen (b .peers) (b .nodes) (b .handles) (b .charges) (b .rings)) f c)
+
+-- "Order: answer buffer; EIO; .."
+unfoldable pub commandOf : Bus → List ℕ → List ℕ → Done
+commandOf b f out =
+    pick (ltb (length out) answerSize) (doneOf (record { number = EINVAL; len = 0 }) b out)
+    (pick (soundOk b) (obeyed b f out (parse f)) (refusedBy EIO b out))
+
+-- "Making a fresh bus (no peer opened) refuses only a wrong length, returning 5 and writing nothing."
+unfoldable pub freshBus : Bus
+freshBus = busOf (replicate 25 0) (replicate 256 0) (replicate 2048 0) (replicate 96 0) (replicate 16 0) (replicate 20480 0) (replicate 32768 0) (replicate 4096 0) (replicate 32768 0)
+
+unfoldable pub freshOf : Bus → Bus
+freshOf b = pick (sizedOk b) freshBus b
+
+unfoldable pub freshNumber : Bus → ℕ
+freshNumber b = pick (sizedOk b) 0 EIO
+
+-- The numbers of an order are in their bounds.
+abbrev pub Fair : Order → Type 0
+Fair (order.Refuse n) = Unit {0}
+Fair (order.Open p u) = p .0 < 8
+Fair (order.Disconnect p) = p .0 < 8
+Fair (order.Create p i s) = (p .0 < 8) × (s < 128)
+Fair (order.Destroy p s) = p .0 < 8
+Fair (order.Release p s) = (p .0 < 8) × (s < 128)
+Fair (order.Transfer q s) = (q .0 < 8) × (s < 128)
+Fair (order.Send p z) = (p .0 < 8) × (z .nd ≤ 8)
+Fair (order.Receive p) = p .0 < 8
+Fair (order.Quota p u) = p .0 < 8
+Fair (order.Holders s) = s < 128

@@ -1,0 +1,10 @@
+pub mod Command
+pub mod Seen
+pub mod Fairness
+pub mod Carried
+pub mod Tie
+pub mod Ran
+pub mod Demands
+pub mod Code
+pub mod Orderly
+pub mod Marked

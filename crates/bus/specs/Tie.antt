@@ -1,0 +1,149 @@
+-- The buffers of a run, seen, are the model's state: a fresh bus is the model's start, and each command does what the model's step does, to the number, the state and every
+-- byte of the answer buffer. So no command of a run is answered 5.
+-- Assumes nothing.
+use Prim.Native.Nat.{ℕ, zero, suc, _+_, _*_, _≤_, _<_}
+use mathlib.Core.Path.{_≡_, refl, sym, ap, ap₂, _∙_, fun-ext}
+use mathlib.Core.Bool.{Bool, true, false}
+use mathlib.Core.List.{List, [], _∷_, _++_, map}
+use native.Mathlib.Omega.{arith}
+use lib.ListN.{length, getD, replicate, length-replicate}
+use lib.Dec.{eqb, ltb, leb}
+use borrow.Author.Tests.{eq-eqb, lt-ltb, le-leb, eqb-true, ltb-false}
+use Rattle.laws.specs.Tests.{pick, Seen, Seen.is-true, Seen.is-false, look}
+use Rattle.laws.specs.Tables.{zeros-at}
+use Rattle.laws.specs.Guards.{upto-ext, upto-const}
+use Rattle.frames.specs.declared.Command.{Command}
+use Rattle.frames.specs.declared.Parsed.{Parsed}
+use Rattle.frames.specs.declared.Parsed.the-variants.{Read, Refused}
+use Rattle.frames.specs.Frame.{parse}
+use Rattle.frames.specs.Legal.{Legal, legal-command}
+use Rattle.answers.specs.declared.Answer.the-variants.{Refused as isRefused}
+use Rattle.answers.specs.Answer.{answerSize, answerAfter, outcomeOf}
+use Rattle.rings.specs.Rings.{lengthOf, queueOf, ringsOf}
+use Rattle.rings.specs.Laws.{queue-empty}
+use Rattle.pool.specs.Pool.{paired}
+use Rattle.tables.specs.Fresh.{status-fresh, user-fresh, given-fresh, accepted-fresh, life-fresh, handle-fresh, charges-fresh}
+use Rattle.model.specs.State.{State, Entry, start}
+use Rattle.model.specs.Refusals.{refusal}
+use Rattle.model.specs.Effects.{effect}
+use Rattle.model.specs.Replies.{reply}
+use Rattle.model.specs.Step.{Verdict, carryOut, judge, Call, Result, finish, step, runFrom, run}
+use Rattle.model.specs.Accepted.{run-append}
+use Rattle.view.specs.View.{Bus, Shape, entryV, rowsV, queueV, stateOf}
+use Rattle.judges.specs.declared.Ruling.{Ruling}
+use Rattle.judges.specs.Orders.{resolved, placesIn, unlessAt, rulingOf}
+use Rattle.effects.specs.Good.{Good, good}
+use Rattle.effects.specs.Ranges.{Raw, InRange, ranges-ok, ranges-accepted, raw-fresh}
+use Rattle.bus.specs.Command.{sizedOk, peerOk, peersOk, rangesOk, soundOk, Done, refusedBy, carriedOut, obeyed, commandOf, freshBus}
+use Rattle.bus.specs.Seen.{part, ruling-same}
+use Rattle.bus.specs.Carried.{Seen-as, carried-seen}
+
+-- A bus that stands for a state.
+pub record Tied (b : Bus) (st : State) : Type 0 where
+  pub shape : Shape b
+  pub raw : Raw b
+  pub view : stateOf b ≡ st
+
+-- What comes of a command is what comes of the model's step.
+pub record Same-as (d : Done) (r : Result) : Type 0 where
+  pub tied : Tied (d .bus) (r .state)
+  pub outcome : d .outcome ≡ r .outcome
+  pub buffer : d .out ≡ r .buffer
+
+-- The tests for EIO pass on a bus that stands for a state of a run.
+sized-true : (b : Bus) → Shape b → sizedOk b ≡ true
+unfolding sizedOk
+sized-true b s =
+    rw (
+      eq-eqb (length (b .peers)) 25 (s .peers),
+      eq-eqb (length (b .nodes)) 256 (s .nodes),
+      eq-eqb (length (b .handles)) 2048 (s .handles),
+      eq-eqb (length (b .charges)) 96 (s .charges),
+      eq-eqb (length (b .rings .ends)) 16 (s .ends),
+      eq-eqb (length (b .rings .rows .entries)) 20480 (s .rows .entries),
+      eq-eqb (length (b .rings .rows .carried)) 32768 (s .rows .carried),
+      eq-eqb (length (b .rings .rows .numbers)) 4096 (s .rows .numbers),
+      eq-eqb (length (b .pool)) 32768 (s .pool),
+    )
+
+peer-true : (b : Bus) (p : ℕ) → InRange b p → peerOk (b .peers) (b .rings .ends) p ≡ true
+unfolding peerOk
+peer-true b p r = rw (le-leb _ _ (r .state), le-leb _ _ (r .user), lt-ltb _ _ (r .given), lt-ltb _ _ (r .head), le-leb _ _ (r .short))
+
+peers-true : (b : Bus) → ((p : ℕ) → p < 8 → InRange b p) → (n : ℕ) → n ≤ 8 → peersOk (b .peers) (b .rings .ends) n ≡ true
+unfolding peersOk
+peers-true b r zero l = refl
+peers-true b r (suc n) l = rw (peers-true b r n (omega arith), peer-true b n (r n (omega arith)))
+
+pub sound-true : (b : Bus) → Shape b → Raw b → Good (stateOf b) → soundOk b ≡ true
+unfolding soundOk rangesOk
+sound-true b s r g = rw (sized-true b s, peers-true b (ranges-ok b r g) 8 (omega arith), lt-ltb _ _ (ranges-accepted b r g))
+
+module _ (b : Bus) (shape : Shape b) (raw : Raw b) (g : Good (stateOf b)) where
+  -- A refusal.
+  refused-same : (n : ℕ) (f out : List ℕ) → ltb (length out) answerSize ≡ false → Same-as (refusedBy n b out) (finish (stateOf b) out (record { reply = record { answer = isRefused n; ids = []; payload = [] }; state = stateOf b }))
+  unfolding finish
+  refused-same n f out e = record { tied = record { shape = shape; raw = raw; view = rw e }; outcome = refl; buffer = refl }
+
+  -- A command that was read.
+  read-same : (f out : List ℕ) (k : Command) → Legal f k → ltb (length out) answerSize ≡ false → Seen (eqb (refusal (stateOf b) f k) 0) →
+      Same-as (carriedOut b f out (rulingOf (stateOf b) f k)) (finish (stateOf b) out (carryOut (stateOf b) f k (refusal (stateOf b) f k)))
+  unfolding rulingOf carriedOut carryOut finish
+  read-same f out k l e (is-true z) =
+      let x = carried-seen b shape raw g f out k l (eqb-true (refusal (stateOf b) f k) 0 z) in
+      rw z (record { tied = record { shape = x .shape; raw = x .raw; view = rw e (x .state) }; outcome = x .outcome; buffer = x .buffer })
+  read-same f out k l e (is-false z) = rw z (refused-same (refusal (stateOf b) f k) f out e)
+
+  parsed-same : (f out : List ℕ) (x : Parsed) → parse f ≡ x → ltb (length out) answerSize ≡ false →
+      Same-as (obeyed b f out x) (finish (stateOf b) out (judge (stateOf b) f x))
+  parsed-same f out (Refused n) p e = refused-same n f out e
+  parsed-same f out (Read k) p e =
+      rw (ruling-same b shape f k (legal-command f k p)) (read-same f out k (legal-command f k p) e (look (eqb (refusal (stateOf b) f k) 0)))
+
+  -- A short answer buffer.
+  short-same : (out : List ℕ) (v : Verdict) → ltb (length out) answerSize ≡ true → Same-as (record { outcome = record { number = 22; len = 0 }; bus = b; out = out }) (finish (stateOf b) out v)
+  unfolding finish outcomeOf answerAfter
+  short-same out v e = record { tied = record { shape = shape; raw = raw; view = rw e }; outcome = rw e; buffer = rw e }
+
+  pub step-same : (c : Call) → Same-as (commandOf b (c .frame) (c .buffer)) (step (stateOf b) c)
+  unfolding commandOf step
+  step-same c = go (look (ltb (length (c .buffer)) answerSize))
+    where
+      go : Seen (ltb (length (c .buffer)) answerSize) → Same-as (commandOf b (c .frame) (c .buffer)) (step (stateOf b) c)
+      go (is-true e) = rw e (short-same (c .buffer) (judge (stateOf b) (c .frame) (parse (c .frame))) e)
+      go (is-false e) = rw (e, sound-true b shape raw g) (parsed-same (c .frame) (c .buffer) (parse (c .frame)) refl e)
+
+-- A fresh bus.
+queue-fresh : (n m : ℕ) (e c s t : List ℕ) → queueV (ringsOf (replicate n 0) e c s) t ≡ (λ p. [])
+unfolding queueV rowsV paired
+queue-fresh n m e c s t =
+    upto-ext 8 [] (λ p. map entryV (rowsV (ringsOf (replicate n 0) e c s) t p)) (λ p. []) (λ p l. rw (queue-empty (ringsOf (replicate n 0) e c s) p (zeros-at n (p * 2 + 1))))
+    ∙ upto-const 8 []
+
+pub fresh-tied : Tied freshBus start
+unfolding freshBus start
+fresh-tied =
+    record {
+      shape =
+          record {
+            peers = length-replicate {A = ℕ} 25 0;
+            nodes = length-replicate {A = ℕ} 256 0;
+            handles = length-replicate {A = ℕ} 2048 0;
+            charges = length-replicate {A = ℕ} 96 0;
+            ends = length-replicate {A = ℕ} 16 0;
+            rows = record { entries = length-replicate {A = ℕ} 20480 0; carried = length-replicate {A = ℕ} 32768 0; numbers = length-replicate {A = ℕ} 4096 0 };
+            pool = length-replicate {A = ℕ} 32768 0;
+          };
+      raw = raw-fresh freshBus 25 16 refl refl;
+      view =
+          rw (
+            status-fresh 25,
+            user-fresh 25,
+            given-fresh 25,
+            handle-fresh 2048,
+            queue-fresh 16 0 (replicate 20480 0) (replicate 32768 0) (replicate 4096 0) (replicate 32768 0),
+            charges-fresh 96,
+            life-fresh 256,
+            accepted-fresh 25,
+          );
+    }

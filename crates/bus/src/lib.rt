@@ -1,0 +1,417 @@
+// The bus: a fresh one, and one command in, one answer out, over nine lent tables and an answer buffer.
+ghost use mathlib.Core.Path.{_≡_};
+ghost use Prim.Native.Nat.{_<_};
+ghost use lib.ListN.{length, replicate};
+ghost use Rattle.frames.specs.Legal.{Legal};
+ghost use Rattle.view.specs.View.{busOf, Shape};
+ghost use Rattle.queues.specs.Queues.{Short};
+ghost use Rattle.judges.specs.Orders.{seen, rulingOf};
+ghost use Rattle.rings.specs.Rings.{ringsOf};
+ghost use Rattle.bus.specs.Command.{sizedOk, peerOk, rangesOk, soundOk, doneOf, carriedOut, commandOf, freshOf, freshNumber, Fair};
+use answers::Answer;
+use answers::Outcome;
+use frames::Command;
+use frames::Parsed;
+use ids::EINVAL;
+use ids::EIO;
+use judges::Order;
+use judges::Ruling;
+
+const ANSWER_SIZE: usize = 591;
+
+// Have the bus buffers their lengths?
+fn sized(
+    peers: &[u64],
+    nodes: &[u64],
+    handles: &[u64],
+    charges: &[u16],
+    ends: &[u16],
+    entries: &[u16],
+    carried: &[u8],
+    numbers: &[u64],
+    pool: &[u8],
+) -> bool
+    ensures { λ r. ⌜ r ≡ sizedOk (busOf (now (peers .entry)) (now (nodes .entry)) (now (handles .entry)) (now (charges .entry)) (now (ends .entry)) (now (entries .entry)) (now (carried .entry)) (now (numbers .entry)) (now (pool .entry))) ⌝ }
+{
+    if peers.len() != 25 {
+        return false;
+    }
+    if nodes.len() != 256 {
+        return false;
+    }
+    if handles.len() != 2048 {
+        return false;
+    }
+    if charges.len() != 96 {
+        return false;
+    }
+    if ends.len() != 16 {
+        return false;
+    }
+    if entries.len() != 20480 {
+        return false;
+    }
+    if carried.len() != 32768 {
+        return false;
+    }
+    if numbers.len() != 4096 {
+        return false;
+    }
+    pool.len() == 32768
+}
+
+// Are the numbers of a peer in their ranges?
+fn peer_in_range(peers: &[u64], ends: &[u16], p: usize) -> bool
+    requires { ⌜ (length (now peers) ≡ 25) × (length (now ends) ≡ 16) × (p < 8) ⌝ }
+    ensures { λ r. ⌜ r ≡ peerOk (now (peers .entry)) (now (ends .entry)) p ⌝ }
+{
+    let at = 1 + 3 * p;
+    if 2 < peers[at] {
+        return false;
+    }
+    if 3 < peers[at + 1] {
+        return false;
+    }
+    if 17592186044416 <= peers[at + 2] {
+        return false;
+    }
+    if 512 <= ends[p * 2] {
+        return false;
+    }
+    ends[p * 2 + 1] <= 512
+}
+
+// Are the numbers that steer everything in their ranges?
+fn in_range(peers: &[u64], ends: &[u16]) -> bool
+    requires { ⌜ (length (now peers) ≡ 25) × (length (now ends) ≡ 16) ⌝ }
+    ensures { λ r. ⌜ r ≡ rangesOk (now (peers .entry)) (now (ends .entry)) ⌝ }
+{
+    let mut p = 0;
+    while p < 8 {
+        if !peer_in_range(peers, ends, p) {
+            return false;
+        }
+        p += 1;
+    }
+    peers[0] < 1099511627776
+}
+
+// Have the buffers their lengths and their numbers their ranges?
+fn is_sound(
+    peers: &[u64],
+    nodes: &[u64],
+    handles: &[u64],
+    charges: &[u16],
+    ends: &[u16],
+    entries: &[u16],
+    carried: &[u8],
+    numbers: &[u64],
+    pool: &[u8],
+) -> bool
+    ensures { λ r. ⌜ r ≡ soundOk (busOf (now (peers .entry)) (now (nodes .entry)) (now (handles .entry)) (now (charges .entry)) (now (ends .entry)) (now (entries .entry)) (now (carried .entry)) (now (numbers .entry)) (now (pool .entry))) ⌝ }
+{
+    if !sized(
+        peers,
+        nodes,
+        handles,
+        charges,
+        ends,
+        entries,
+        carried,
+        numbers,
+        pool,
+    ) {
+        return false;
+    }
+    in_range(peers, ends)
+}
+
+// An order carried out; it cannot fail.
+fn carry_out(
+    peers: &mut [u64],
+    nodes: &mut [u64],
+    handles: &mut [u64],
+    charges: &mut [u16],
+    ends: &mut [u16],
+    entries: &mut [u16],
+    carried: &mut [u8],
+    numbers: &mut [u64],
+    pool: &mut [u8],
+    frame: &[u8],
+    r: Ruling,
+    out: &mut [u8],
+) -> Outcome
+    requires { ⌜ Shape (busOf (now peers) (now nodes) (now handles) (now charges) (now ends) (now entries) (now carried) (now numbers) (now pool)) × Short (now ends) × Fair (r .order) ⌝ }
+    ensures { λ o. ⌜ doneOf o (busOf (now (peers .exit)) (now (nodes .exit)) (now (handles .exit)) (now (charges .exit)) (now (ends .exit)) (now (entries .exit)) (now (carried .exit)) (now (numbers .exit)) (now (pool .exit))) (now (out .exit)) ≡ carriedOut (busOf (now (peers .entry)) (now (nodes .entry)) (now (handles .entry)) (now (charges .entry)) (now (ends .entry)) (now (entries .entry)) (now (carried .entry)) (now (numbers .entry)) (now (pool .entry))) (now (frame .entry)) (now (out .entry)) r ⌝ }
+{
+    let order = r.order;
+    let places = r.places;
+    match order {
+        Order::Refuse(n) => answers::write_plain(out, Answer::Refused(n)),
+        Order::Open(p, u) => {
+            effects::open_peer(peers, p, u);
+            answers::write_plain(out, Answer::Done)
+        }
+        Order::Disconnect(p) => {
+            effects::disconnect(
+                peers,
+                nodes,
+                handles,
+                charges,
+                ends,
+                entries,
+                carried,
+                numbers,
+                p,
+            );
+            answers::write_plain(out, Answer::Done)
+        }
+        Order::Create(p, i, s) => {
+            effects::create(peers, nodes, handles, p, i, s);
+            answers::write_plain(out, Answer::Done)
+        }
+        Order::Destroy(p, s) => {
+            effects::destroy(peers, nodes, handles, ends, entries, carried, numbers, p, s);
+            answers::write_plain(out, Answer::Done)
+        }
+        Order::Release(p, s) => {
+            effects::release(
+                peers,
+                nodes,
+                handles,
+                charges,
+                ends,
+                entries,
+                carried,
+                numbers,
+                pool,
+                p,
+                s,
+            );
+            answers::write_plain(out, Answer::Done)
+        }
+        Order::Transfer(q, s) => {
+            let id = effects::transfer(
+                peers,
+                nodes,
+                handles,
+                ends,
+                entries,
+                carried,
+                numbers,
+                q,
+                s,
+            );
+            answers::write_plain(out, Answer::Transferred(id))
+        }
+        Order::Send(p, z) => {
+            effects::send(
+                peers,
+                charges,
+                ends,
+                entries,
+                carried,
+                numbers,
+                pool,
+                p,
+                z,
+                places,
+                frames::payload(frame),
+            );
+            answers::write_plain(out, Answer::Done)
+        }
+        Order::Receive(p) => {
+            effects::receive(
+                peers,
+                nodes,
+                handles,
+                charges,
+                ends,
+                entries,
+                carried,
+                numbers,
+                pool,
+                p,
+                out,
+            )
+        }
+        Order::Quota(p, u) => {
+            let c = tables::load(charges, p);
+            answers::write_plain(out, Answer::Quota(c.balance(u)))
+        }
+        Order::Holders(s) => {
+            let set = tables::holders(handles, s);
+            answers::write_plain(out, Answer::Holders(set))
+        }
+    }
+}
+
+// A command judged and carried out.
+fn execute(
+    peers: &mut [u64],
+    nodes: &mut [u64],
+    handles: &mut [u64],
+    charges: &mut [u16],
+    ends: &mut [u16],
+    entries: &mut [u16],
+    carried: &mut [u8],
+    numbers: &mut [u64],
+    pool: &mut [u8],
+    frame: &[u8],
+    c: Command,
+    out: &mut [u8],
+) -> Outcome
+    requires { ⌜ Shape (busOf (now peers) (now nodes) (now handles) (now charges) (now ends) (now entries) (now carried) (now numbers) (now pool)) × Short (now ends) × Legal (now frame) c ⌝ }
+    ensures { λ o. ⌜ doneOf o (busOf (now (peers .exit)) (now (nodes .exit)) (now (handles .exit)) (now (charges .exit)) (now (ends .exit)) (now (entries .exit)) (now (carried .exit)) (now (numbers .exit)) (now (pool .exit))) (now (out .exit)) ≡ carriedOut (busOf (now (peers .entry)) (now (nodes .entry)) (now (handles .entry)) (now (charges .entry)) (now (ends .entry)) (now (entries .entry)) (now (carried .entry)) (now (numbers .entry)) (now (pool .entry))) (now (frame .entry)) (now (out .entry)) (rulingOf (seen (now (peers .entry)) (now (nodes .entry)) (now (handles .entry)) (now (charges .entry)) (ringsOf (now (ends .entry)) (now (entries .entry)) (now (carried .entry)) (now (numbers .entry)))) (now (frame .entry)) c) ⌝ }
+{
+    let r = judges::judge(
+        peers,
+        nodes,
+        handles,
+        charges,
+        ends,
+        entries,
+        carried,
+        numbers,
+        frame,
+        c,
+    );
+    carry_out(
+        peers,
+        nodes,
+        handles,
+        charges,
+        ends,
+        entries,
+        carried,
+        numbers,
+        pool,
+        frame,
+        r,
+        out,
+    )
+}
+
+// One command. Its answer is written into the answer buffer; the number, 0 or the refusal, and the answer's length come
+// back.
+pub fn command(
+    peers: &mut [u64],
+    nodes: &mut [u64],
+    handles: &mut [u64],
+    charges: &mut [u16],
+    ends: &mut [u16],
+    entries: &mut [u16],
+    carried: &mut [u8],
+    numbers: &mut [u64],
+    pool: &mut [u8],
+    frame: &[u8],
+    out: &mut [u8],
+) -> Outcome
+    ensures { λ o. ⌜ doneOf o (busOf (now (peers .exit)) (now (nodes .exit)) (now (handles .exit)) (now (charges .exit)) (now (ends .exit)) (now (entries .exit)) (now (carried .exit)) (now (numbers .exit)) (now (pool .exit))) (now (out .exit)) ≡ commandOf (busOf (now (peers .entry)) (now (nodes .entry)) (now (handles .entry)) (now (charges .entry)) (now (ends .entry)) (now (entries .entry)) (now (carried .entry)) (now (numbers .entry)) (now (pool .entry))) (now (frame .entry)) (now (out .entry)) ⌝ }
+{
+    if out.len() < ANSWER_SIZE {
+        return Outcome {
+            number: EINVAL,
+            len: 0,
+        };
+    }
+    if !is_sound(
+        peers,
+        nodes,
+        handles,
+        charges,
+        ends,
+        entries,
+        carried,
+        numbers,
+        pool,
+    ) {
+        return answers::write_plain(out, Answer::Refused(EIO));
+    }
+    match frames::parse(frame) {
+        Parsed::Refused(n) => answers::write_plain(out, Answer::Refused(n)),
+        Parsed::Read(c) => execute(
+            peers,
+            nodes,
+            handles,
+            charges,
+            ends,
+            entries,
+            carried,
+            numbers,
+            pool,
+            frame,
+            c,
+            out,
+        ),
+    }
+}
+
+fn clear_words(t: &mut [u64])
+    ensures { λ _. ⌜ now (t .exit) ≡ replicate (length (now (t .entry))) 0 ⌝ }
+{
+    let mut i = 0;
+    while i < t.len() {
+        t[i] = 0;
+        i += 1;
+    }
+}
+
+fn clear_shorts(t: &mut [u16])
+    ensures { λ _. ⌜ now (t .exit) ≡ replicate (length (now (t .entry))) 0 ⌝ }
+{
+    let mut i = 0;
+    while i < t.len() {
+        t[i] = 0;
+        i += 1;
+    }
+}
+
+fn clear_bytes(t: &mut [u8])
+    ensures { λ _. ⌜ now (t .exit) ≡ replicate (length (now (t .entry))) 0 ⌝ }
+{
+    let mut i = 0;
+    while i < t.len() {
+        t[i] = 0;
+        i += 1;
+    }
+}
+
+// A fresh bus, no peer opened. The number is 0, or 5 where a buffer lacks its length: then nothing is written.
+pub fn fresh(
+    peers: &mut [u64],
+    nodes: &mut [u64],
+    handles: &mut [u64],
+    charges: &mut [u16],
+    ends: &mut [u16],
+    entries: &mut [u16],
+    carried: &mut [u8],
+    numbers: &mut [u64],
+    pool: &mut [u8],
+) -> u8
+    ensures { λ r. ⌜ (r ≡ freshNumber (busOf (now (peers .entry)) (now (nodes .entry)) (now (handles .entry)) (now (charges .entry)) (now (ends .entry)) (now (entries .entry)) (now (carried .entry)) (now (numbers .entry)) (now (pool .entry)))) × (busOf (now (peers .exit)) (now (nodes .exit)) (now (handles .exit)) (now (charges .exit)) (now (ends .exit)) (now (entries .exit)) (now (carried .exit)) (now (numbers .exit)) (now (pool .exit)) ≡ freshOf (busOf (now (peers .entry)) (now (nodes .entry)) (now (handles .entry)) (now (charges .entry)) (now (ends .entry)) (now (entries .entry)) (now (carried .entry)) (now (numbers .entry)) (now (pool .entry)))) ⌝ }
+{
+    if !sized(
+        peers,
+        nodes,
+        handles,
+        charges,
+        ends,
+        entries,
+        carried,
+        numbers,
+        pool,
+    ) {
+        return EIO;
+    }
+    clear_words(peers);
+    clear_words(nodes);
+    clear_words(handles);
+    clear_shorts(charges);
+    clear_shorts(ends);
+    clear_shorts(entries);
+    clear_bytes(carried);
+    clear_words(numbers);
+    clear_bytes(pool);
+    0
+}

@@ -1,0 +1,75 @@
+// The bus as a static library: its two functions under C names, each with the contract of the function that it calls.
+ghost use mathlib.Core.Path.{_≡_};
+ghost use Rattle.view.specs.View.{busOf};
+ghost use Rattle.bus.specs.Command.{doneOf, commandOf, freshOf, freshNumber};
+
+// What comes back of a command: the number, 0 or the refusal, and the answer's length.
+#[repr(C)]
+pub struct BusOutcome {
+    pub number: u8,
+    pub len: usize,
+}
+
+// A fresh bus, no peer opened. The number is 0, or 5 where a buffer lacks its length: then nothing is written.
+#[no_mangle]
+pub extern "C" fn bus_fresh(
+    peers: &mut [u64],
+    nodes: &mut [u64],
+    handles: &mut [u64],
+    charges: &mut [u16],
+    ends: &mut [u16],
+    entries: &mut [u16],
+    carried: &mut [u8],
+    numbers: &mut [u64],
+    pool: &mut [u8],
+) -> u8
+    ensures { λ r. ⌜ (r ≡ freshNumber (busOf (now (peers .entry)) (now (nodes .entry)) (now (handles .entry)) (now (charges .entry)) (now (ends .entry)) (now (entries .entry)) (now (carried .entry)) (now (numbers .entry)) (now (pool .entry)))) × (busOf (now (peers .exit)) (now (nodes .exit)) (now (handles .exit)) (now (charges .exit)) (now (ends .exit)) (now (entries .exit)) (now (carried .exit)) (now (numbers .exit)) (now (pool .exit)) ≡ freshOf (busOf (now (peers .entry)) (now (nodes .entry)) (now (handles .entry)) (now (charges .entry)) (now (ends .entry)) (now (entries .entry)) (now (carried .entry)) (now (numbers .entry)) (now (pool .entry)))) ⌝ }
+{
+    bus::fresh(
+        peers,
+        nodes,
+        handles,
+        charges,
+        ends,
+        entries,
+        carried,
+        numbers,
+        pool,
+    )
+}
+
+// One command. Its answer is written into the answer buffer.
+#[no_mangle]
+pub extern "C" fn bus_command(
+    peers: &mut [u64],
+    nodes: &mut [u64],
+    handles: &mut [u64],
+    charges: &mut [u16],
+    ends: &mut [u16],
+    entries: &mut [u16],
+    carried: &mut [u8],
+    numbers: &mut [u64],
+    pool: &mut [u8],
+    frame: &[u8],
+    out: &mut [u8],
+) -> BusOutcome
+    ensures { λ o. ⌜ doneOf (record { number = o .number; len = o .len }) (busOf (now (peers .exit)) (now (nodes .exit)) (now (handles .exit)) (now (charges .exit)) (now (ends .exit)) (now (entries .exit)) (now (carried .exit)) (now (numbers .exit)) (now (pool .exit))) (now (out .exit)) ≡ commandOf (busOf (now (peers .entry)) (now (nodes .entry)) (now (handles .entry)) (now (charges .entry)) (now (ends .entry)) (now (entries .entry)) (now (carried .entry)) (now (numbers .entry)) (now (pool .entry))) (now (frame .entry)) (now (out .entry)) ⌝ }
+{
+    let o = bus::command(
+        peers,
+        nodes,
+        handles,
+        charges,
+        ends,
+        entries,
+        carried,
+        numbers,
+        pool,
+        frame,
+        out,
+    );
+    BusOutcome {
+        number: o.number,
+        len: o.len,
+    }
+}

@@ -1,0 +1,128 @@
+/*
+ * The message bus core, for C. Link libexport.a (rt staticlib export).
+ *
+ * A bus lives in nine buffers that the caller lends to each call. The library
+ * has no state of its own, allocates nothing and calls nothing of the host but
+ * memset. Calls on different buses may run at the same time, calls on one bus
+ * may not.
+ *
+ * Every buffer is passed as a pointer and its number of elements (not bytes).
+ * Duties of the caller:
+ *   - A pointer is not null, also at length 0, and aligned for its type.
+ *   - All elements of the length passed may be read, and written where the
+ *     parameter is not const. Nobody else writes them during the call.
+ *   - No two buffers of a call overlap, frame and answer included. The library
+ *     cannot test this; overlapping buffers are forbidden.
+ * All else is tested. Any length and any contents are safe: a call returns, and
+ * writes only where this file says.
+ *
+ * The archive is for x86-64 and its System V calling convention.
+ */
+#ifndef EIKELZWIER_H
+#define EIKELZWIER_H
+
+#include <stddef.h>
+#include <stdint.h>
+
+#ifdef __cplusplus
+extern "C" {
+#endif
+
+/* The exact length of each bus buffer, in elements. docs/BUFFERS.md says what
+ * stands in each. Together they have 158,120 bytes. */
+#define BUS_PEERS_LEN 25      /* uint64_t,    200 bytes */
+#define BUS_NODES_LEN 256     /* uint64_t,  2,048 bytes */
+#define BUS_HANDLES_LEN 2048  /* uint64_t, 16,384 bytes */
+#define BUS_CHARGES_LEN 96    /* uint16_t,    192 bytes */
+#define BUS_ENDS_LEN 16       /* uint16_t,     32 bytes */
+#define BUS_ENTRIES_LEN 20480 /* uint16_t, 40,960 bytes */
+#define BUS_CARRIED_LEN 32768 /* uint8_t,  32,768 bytes */
+#define BUS_NUMBERS_LEN 4096  /* uint64_t, 32,768 bytes */
+#define BUS_POOL_LEN 32768    /* uint8_t,  32,768 bytes */
+
+/* The least length of an answer buffer, which is that of the longest answer,
+ * and the length of the longest frame that is not refused; both in bytes. */
+#define BUS_ANSWER_LEN 591
+#define BUS_FRAME_MAX 646
+
+/* The numbers that a call returns. A refused command leaves the bus alone. */
+#define BUS_DONE 0           /* carried out, or the question answered */
+#define BUS_EPERM 1          /* destroy or holders question by a peer not the owner;
+                                release of a live node's owner handle at count 1 */
+#define BUS_EIO 5            /* a bus buffer lacks its exact length, or a number stored
+                                there is out of its range (docs/BUFFERS.md); never in a
+                                run from a fresh bus */
+#define BUS_ENXIO 6          /* an ID that the acting peer does not hold */
+#define BUS_EBADF 9          /* peer never opened */
+#define BUS_EAGAIN 11        /* receive, nothing queued */
+#define BUS_EEXIST 17        /* open of an open peer; create with an ID the peer holds */
+#define BUS_EINVAL 22        /* answer buffer under 591 bytes; empty frame; wrong length;
+                                peer over 7; user over 3; send without destination;
+                                create with ID bit 0 or 1 set */
+#define BUS_ENOTTY 25        /* command byte unknown */
+#define BUS_ENOSPC 28        /* create with 16 nodes counted */
+#define BUS_ERANGE 34        /* the next message is over the room of the receive */
+#define BUS_EOVERFLOW 75     /* 2^40 - 1 commands accepted already; not for questions */
+#define BUS_EMSGSIZE 90      /* send with over 8 destinations, 8 handles or 512 bytes */
+#define BUS_ESHUTDOWN 108    /* peer disconnected */
+#define BUS_EHOSTUNREACH 113 /* destroy of, transfer of, or send to a destroyed node */
+#define BUS_EDQUOT 122       /* quota */
+
+/* What comes back of a command. */
+typedef struct BusOutcome {
+    uint8_t number; /* BUS_DONE or the refusal */
+    size_t len;     /* the answer's length: how many bytes of the answer buffer were
+                       written; the bytes behind it are not touched */
+} BusOutcome;
+
+/*
+ * Makes a fresh bus, no peer opened, whatever the buffers held before.
+ *
+ * Returns BUS_DONE; or BUS_EIO where a buffer lacks its exact length: then
+ * nothing is written.
+ */
+uint8_t bus_fresh(
+    uint64_t *peers, size_t peers_len,
+    uint64_t *nodes, size_t nodes_len,
+    uint64_t *handles, size_t handles_len,
+    uint16_t *charges, size_t charges_len,
+    uint16_t *ends, size_t ends_len,
+    uint16_t *entries, size_t entries_len,
+    uint8_t *carried, size_t carried_len,
+    uint64_t *numbers, size_t numbers_len,
+    uint8_t *pool, size_t pool_len);
+
+/*
+ * Carries out one command on a bus that bus_fresh made and other commands left.
+ *
+ * The frame is the command in bytes, of any length. The answer is written to
+ * the front of the answer buffer. Its first byte is the number returned; a
+ * refusal writes that byte alone and changes nothing else.
+ *
+ * Two refusals come before all others, in this order:
+ *   - answer_len under BUS_ANSWER_LEN: BUS_EINVAL and length 0, nothing is
+ *     written.
+ *   - a bus buffer of another length, or a stored number out of its range:
+ *     BUS_EIO and length 1.
+ *
+ * On buffers that no run from a fresh bus left, the call is as safe, but what
+ * its answer means is not said here.
+ */
+BusOutcome bus_command(
+    uint64_t *peers, size_t peers_len,
+    uint64_t *nodes, size_t nodes_len,
+    uint64_t *handles, size_t handles_len,
+    uint16_t *charges, size_t charges_len,
+    uint16_t *ends, size_t ends_len,
+    uint16_t *entries, size_t entries_len,
+    uint8_t *carried, size_t carried_len,
+    uint64_t *numbers, size_t numbers_len,
+    uint8_t *pool, size_t pool_len,
+    const uint8_t *frame, size_t frame_len,
+    uint8_t *answer, size_t answer_len);
+
+#ifdef __cplusplus
+}
+#endif
+
+#endif

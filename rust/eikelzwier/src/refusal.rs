@@ -1,0 +1,72 @@
+//! The refusal numbers.
+
+/// Why a command was refused; the discriminant is the number answered.
+#[derive(Clone, Copy, PartialEq, Eq, Hash, Debug)]
+#[repr(u8)]
+pub enum Refusal {
+    /// EPERM: destroy or holders question by a peer not the owner; release of a
+    /// live node's owner handle at count 1.
+    NotPermitted = 1,
+    /// EIO: a bus buffer lacks its length, or a number stored there is out of
+    /// its range. Never answered by a [`Bus`](crate::Bus).
+    Damaged = 5,
+    /// ENXIO: an ID that the acting peer does not hold.
+    NoHandle = 6,
+    /// EBADF: a peer never opened.
+    NeverOpened = 9,
+    /// EAGAIN: receive, nothing queued.
+    NothingQueued = 11,
+    /// EEXIST: open of an open peer, or create with an ID that the peer holds.
+    Exists = 17,
+    /// EINVAL: an answer buffer under 591 bytes, an empty frame, a wrong
+    /// length, a peer over 7, a user over 3, a send without destination, or
+    /// create with ID bit 0 or 1 set.
+    Invalid = 22,
+    /// ENOTTY: command byte unknown.
+    UnknownCommand = 25,
+    /// ENOSPC: create with 16 nodes counted.
+    NoRoom = 28,
+    /// ERANGE: the next message is over the room of the receive.
+    OverRoom = 34,
+    /// EOVERFLOW: 2^40 - 1 commands accepted already.
+    Overflow = 75,
+    /// EMSGSIZE: send with over 8 destinations, 8 handles or 512 bytes.
+    TooLarge = 90,
+    /// ESHUTDOWN: a peer that has disconnected.
+    Disconnected = 108,
+    /// EHOSTUNREACH: destroy of, transfer of, or send to a destroyed node.
+    Destroyed = 113,
+    /// EDQUOT: quota.
+    Quota = 122,
+}
+
+impl Refusal {
+    /// Every refusal, by its number.
+    pub const ALL: [Refusal; 15] = [
+        Refusal::NotPermitted,
+        Refusal::Damaged,
+        Refusal::NoHandle,
+        Refusal::NeverOpened,
+        Refusal::NothingQueued,
+        Refusal::Exists,
+        Refusal::Invalid,
+        Refusal::UnknownCommand,
+        Refusal::NoRoom,
+        Refusal::OverRoom,
+        Refusal::Overflow,
+        Refusal::TooLarge,
+        Refusal::Disconnected,
+        Refusal::Destroyed,
+        Refusal::Quota,
+    ];
+
+    /// The number answered.
+    pub fn number(self) -> u8 {
+        self as u8
+    }
+
+    /// The refusal of this number, if it is one's.
+    pub fn from_number(number: u8) -> Option<Refusal> {
+        Refusal::ALL.into_iter().find(|r| r.number() == number)
+    }
+}

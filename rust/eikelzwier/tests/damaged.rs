@@ -1,0 +1,359 @@
+//! The raw functions on buffers of wrong lengths, with numbers out of their
+//! ranges, and with random contents. Every buffer stands between guard
+//! elements, which no call may change.
+
+use std::fmt::Debug;
+
+use eikelzwier::raw::{self, BusOutcome};
+use eikelzwier::ANSWER_LEN;
+use reference::script::Random;
+
+const GUARD: usize = 16;
+
+/// A buffer between guard elements.
+#[derive(Clone, PartialEq, Debug)]
+struct Buffer<T>(Vec<T>);
+
+impl<T: Copy + PartialEq + Debug> Buffer<T> {
+    fn new(len: usize, guard: T, mut draw: impl FnMut() -> T) -> Buffer<T> {
+        let mut all = vec![guard; len + 2 * GUARD];
+        all[GUARD..GUARD + len].fill_with(&mut draw);
+        Buffer(all)
+    }
+
+    fn len(&self) -> usize {
+        self.0.len() - 2 * GUARD
+    }
+
+    fn get(&mut self) -> &mut [T] {
+        let end = self.0.len() - GUARD;
+        &mut self.0[GUARD..end]
+    }
+
+    fn pointer(&mut self) -> *mut T {
+        self.get().as_mut_ptr()
+    }
+
+    fn check(&self, guard: T) {
+        let (front, back) = (&self.0[..GUARD], &self.0[self.0.len() - GUARD..]);
+        assert!(front.iter().chain(back).all(|x| *x == guard), "guards");
+    }
+}
+
+/// The bus buffers.
+#[derive(Clone, PartialEq, Debug)]
+struct Tables {
+    peers: Buffer<u64>,
+    nodes: Buffer<u64>,
+    handles: Buffer<u64>,
+    charges: Buffer<u16>,
+    ends: Buffer<u16>,
+    entries: Buffer<u16>,
+    carried: Buffer<u8>,
+    numbers: Buffer<u64>,
+    pool: Buffer<u8>,
+}
+
+const LENGTHS: [usize; 9] = [
+    raw::PEERS_LEN,
+    raw::NODES_LEN,
+    raw::HANDLES_LEN,
+    raw::CHARGES_LEN,
+    raw::ENDS_LEN,
+    raw::ENTRIES_LEN,
+    raw::CARRIED_LEN,
+    raw::NUMBERS_LEN,
+    raw::POOL_LEN,
+];
+
+const WORD: u64 = 0xa5a5_a5a5_a5a5_a5a5;
+const SHORT: u16 = 0xa5a5;
+const BYTE: u8 = 0xa5;
+
+impl Tables {
+    /// Tables of these lengths with numbers of at most `most`.
+    fn new(lengths: [usize; 9], most: u64, random: &mut Random) -> Tables {
+        let mut draw = || match most {
+            u64::MAX => random.draw(),
+            _ => random.draw() % (most + 1),
+        };
+        let [peers, nodes, handles, charges, ends, entries, carried, numbers, pool] = lengths;
+        Tables {
+            peers: Buffer::new(peers, WORD, &mut draw),
+            nodes: Buffer::new(nodes, WORD, &mut draw),
+            handles: Buffer::new(handles, WORD, &mut draw),
+            charges: Buffer::new(charges, SHORT, || draw() as u16),
+            ends: Buffer::new(ends, SHORT, || draw() as u16),
+            entries: Buffer::new(entries, SHORT, || draw() as u16),
+            carried: Buffer::new(carried, BYTE, || draw() as u8),
+            numbers: Buffer::new(numbers, WORD, &mut draw),
+            pool: Buffer::new(pool, BYTE, || draw() as u8),
+        }
+    }
+
+    fn check(&self) {
+        for words in [&self.peers, &self.nodes, &self.handles, &self.numbers] {
+            words.check(WORD);
+        }
+        for shorts in [&self.charges, &self.ends, &self.entries] {
+            shorts.check(SHORT);
+        }
+        for bytes in [&self.carried, &self.pool] {
+            bytes.check(BYTE);
+        }
+    }
+
+    fn fresh(&mut self) -> u8 {
+        // Safety: pointers and lengths are those of nine vectors.
+        let number = unsafe {
+            raw::bus_fresh(
+                self.peers.pointer(),
+                self.peers.len(),
+                self.nodes.pointer(),
+                self.nodes.len(),
+                self.handles.pointer(),
+                self.handles.len(),
+                self.charges.pointer(),
+                self.charges.len(),
+                self.ends.pointer(),
+                self.ends.len(),
+                self.entries.pointer(),
+                self.entries.len(),
+                self.carried.pointer(),
+                self.carried.len(),
+                self.numbers.pointer(),
+                self.numbers.len(),
+                self.pool.pointer(),
+                self.pool.len(),
+            )
+        };
+        self.check();
+        number
+    }
+
+    /// One command, and what holds of every one.
+    fn command(&mut self, frame: &[u8], answer_len: usize) -> (BusOutcome, Vec<u8>) {
+        let before = self.clone();
+        let mut answer = Buffer::new(answer_len, BYTE, || 0xee);
+        // Safety: pointers and lengths are those of ten vectors and a slice.
+        let outcome = unsafe {
+            raw::bus_command(
+                self.peers.pointer(),
+                self.peers.len(),
+                self.nodes.pointer(),
+                self.nodes.len(),
+                self.handles.pointer(),
+                self.handles.len(),
+                self.charges.pointer(),
+                self.charges.len(),
+                self.ends.pointer(),
+                self.ends.len(),
+                self.entries.pointer(),
+                self.entries.len(),
+                self.carried.pointer(),
+                self.carried.len(),
+                self.numbers.pointer(),
+                self.numbers.len(),
+                self.pool.pointer(),
+                self.pool.len(),
+                frame.as_ptr(),
+                frame.len(),
+                answer.pointer(),
+                answer.len(),
+            )
+        };
+        self.check();
+        answer.check(BYTE);
+        let answer = answer.get();
+        assert!(outcome.len <= ANSWER_LEN);
+        assert!(answer[outcome.len..].iter().all(|b| *b == 0xee));
+        if answer_len < ANSWER_LEN {
+            assert_eq!(outcome, BusOutcome { number: 22, len: 0 });
+        } else {
+            assert_eq!(answer[0], outcome.number);
+        }
+        if outcome.number != 0 {
+            assert!(outcome.len <= 1);
+            assert!(*self == before, "a refusal changed the bus");
+        }
+        (outcome, answer[..outcome.len].to_vec())
+    }
+}
+
+const OPEN: [u8; 3] = [0x01, 0, 0];
+const EIO: BusOutcome = BusOutcome { number: 5, len: 1 };
+
+/// A bus in use: two open peers, a node that both hold, a queued message.
+fn in_use() -> Tables {
+    let mut tables = Tables::new(LENGTHS, u64::MAX, &mut Random::new(1));
+    assert_eq!(tables.fresh(), 0);
+    let frames: [&[u8]; 5] = [
+        &OPEN,
+        &[0x01, 1, 1],
+        &[0x03, 0, 0, 0, 0, 0, 0, 0, 0, 8],
+        &[0x06, 0, 0, 0, 0, 0, 0, 0, 0, 8, 1],
+        &[0x07, 1, 1, 0, 0, 1, 0, 0, 0, 0, 0, 0, 0, 7, 0x33],
+    ];
+    for frame in frames {
+        assert_eq!(tables.command(frame, ANSWER_LEN).0.number, 0);
+    }
+    tables
+}
+
+#[test]
+fn fresh_over_any_contents() {
+    let mut random = Random::new(2);
+    let mut first = Tables::new(LENGTHS, u64::MAX, &mut random);
+    let mut second = Tables::new(LENGTHS, 3, &mut random);
+    assert_eq!((first.fresh(), second.fresh()), (0, 0));
+    assert!(first == second);
+}
+
+#[test]
+fn wrong_lengths() {
+    let mut random = Random::new(3);
+    for table in 0..9 {
+        for len in [LENGTHS[table] - 1, LENGTHS[table] + 1, 0] {
+            for most in [u64::MAX, 0] {
+                let mut lengths = LENGTHS;
+                lengths[table] = len;
+                let mut tables = Tables::new(lengths, most, &mut random);
+                let before = tables.clone();
+                assert_eq!(tables.fresh(), 5, "table {table} of {len}");
+                assert!(tables == before, "table {table} of {len}: written");
+                for frame in [&OPEN[..], &[], &[0xff]] {
+                    let (outcome, answer) = tables.command(frame, ANSWER_LEN);
+                    assert_eq!((outcome, &answer[..]), (EIO, &[5][..]));
+                    // The answer buffer comes first.
+                    let (outcome, _) = tables.command(frame, ANSWER_LEN - 1);
+                    assert_eq!(outcome, BusOutcome { number: 22, len: 0 });
+                }
+                assert!(tables == before, "table {table} of {len}: written");
+            }
+        }
+    }
+}
+
+#[test]
+fn short_answer_buffer() {
+    let mut tables = in_use();
+    let before = tables.clone();
+    for len in [0, 1, ANSWER_LEN - 1] {
+        for frame in [&OPEN[..], &[], &[0xff], &[0x08, 0, 0, 1]] {
+            tables.command(frame, len);
+        }
+    }
+    assert!(tables == before);
+}
+
+/// Each number that a command tests, at its bound and one over it.
+#[test]
+fn ranges() {
+    let question = [0x09, 0, 0];
+    let tables = in_use();
+    let words = (0..8)
+        .flat_map(|p| [(1 + 3 * p, 2), (2 + 3 * p, 3), (3 + 3 * p, (1 << 44) - 1)])
+        .chain([(0, (1 << 40) - 1)]);
+    for (place, bound) in words {
+        let mut at = tables.clone();
+        at.peers.get()[place] = bound;
+        assert_ne!(at.command(&question, ANSWER_LEN).0, EIO, "peers {place}");
+        for over in [bound + 1, u64::MAX] {
+            at.peers.get()[place] = over;
+            assert_eq!(at.command(&question, ANSWER_LEN).0, EIO, "peers {place}");
+        }
+    }
+    for place in 0..16 {
+        let bound = 511 + place as u16 % 2;
+        let mut at = tables.clone();
+        at.ends.get()[place] = bound;
+        assert_ne!(at.command(&question, ANSWER_LEN).0, EIO, "ends {place}");
+        for over in [bound + 1, u16::MAX] {
+            at.ends.get()[place] = over;
+            assert_eq!(at.command(&question, ANSWER_LEN).0, EIO, "ends {place}");
+        }
+    }
+}
+
+/// The last command that is accepted, and what comes after it.
+#[test]
+fn last_command() {
+    let mut tables = in_use();
+    tables.peers.get()[0] = (1 << 40) - 2;
+    assert_eq!(tables.command(&[0x01, 2, 2], ANSWER_LEN).0.number, 0);
+    assert_eq!(tables.command(&[0x01, 3, 2], ANSWER_LEN).0.number, 75);
+    assert_eq!(tables.command(&[0x08, 0, 0, 1], ANSWER_LEN).0.number, 75);
+    assert_eq!(tables.command(&[0x09, 0, 1], ANSWER_LEN).0.number, 0);
+}
+
+/// Random contents and random frames: every call returns, and writes only
+/// what it may.
+#[test]
+fn random_contents() {
+    let mut random = Random::new(4);
+    let mut numbers = [0u64; 256];
+    for round in 0..600 {
+        let most = [u64::MAX, 15, 255, u64::MAX][round % 4];
+        let mut tables = match round % 8 {
+            7 => in_use(),
+            _ => Tables::new(LENGTHS, most, &mut random),
+        };
+        if round % 4 != 3 {
+            let peers = tables.peers.get();
+            peers[0] %= 1 << 40;
+            for p in 0..8 {
+                peers[1 + 3 * p] = if random.chance(90) { 1 } else { 2 };
+                peers[2 + 3 * p] %= 4;
+                peers[3 + 3 * p] %= 1 << 44;
+            }
+            let ends = tables.ends.get();
+            for p in 0..8 {
+                ends[2 * p] %= 512;
+                ends[2 * p + 1] %= 513;
+            }
+        }
+        for _ in 0..30 {
+            let frame = random_frame(&mut random, &mut tables);
+            let (outcome, _) = tables.command(&frame, ANSWER_LEN + random.below(3));
+            numbers[usize::from(outcome.number)] += 1;
+        }
+    }
+    println!("answers to random contents:");
+    for (number, times) in numbers.iter().enumerate().filter(|(_, n)| **n > 0) {
+        println!("{number}: {times}");
+    }
+    assert!(numbers[0] > 0 && numbers[5] > 0);
+}
+
+/// A frame of random bytes, or a command with IDs from the handle table.
+fn random_frame(random: &mut Random, tables: &mut Tables) -> Vec<u8> {
+    if random.chance(10) {
+        let len = random.below(700);
+        return (0..len).map(|_| random.draw() as u8).collect();
+    }
+    let peer = random.below(8);
+    let mut frame = vec![1 + random.below(10) as u8, peer as u8];
+    let mut id = |random: &mut Random| {
+        let row = 128 * peer + random.below(128);
+        tables.handles.get()[2 * row].to_be_bytes()
+    };
+    match frame[0] {
+        0x01 | 0x09 => frame.push(random.below(4) as u8),
+        0x02 => {}
+        0x06 => {
+            frame.extend(id(random));
+            frame.push(random.below(8) as u8);
+        }
+        0x07 => {
+            let (nd, nh, nb) = (1 + random.below(8), random.below(9), random.below(513));
+            frame.extend([nd as u8, nh as u8, (nb >> 8) as u8, nb as u8]);
+            for _ in 0..nd + nh {
+                frame.extend(id(random));
+            }
+            frame.extend((0..nb).map(|_| random.draw() as u8));
+        }
+        0x08 => frame.extend((random.draw() as u16).to_be_bytes()),
+        _ => frame.extend(id(random)),
+    }
+    frame
+}
