@@ -15,6 +15,8 @@ use Rattle.quota.specs.declared.Charge.{Charge}
 use Rattle.quota.specs.declared.Balance.{Balance}
 use Rattle.answers.specs.declared.Header.{Header}
 use Rattle.answers.specs.declared.Answer.{Answer}
+use Rattle.answers.specs.declared.Answer.the-variants.{Refused, Done}
+use Rattle.answers.specs.declared.Outcome.{Outcome}
 use Rattle.answers.specs.AnswerLaws.{ids-length, ids-append, charge-length, header-length, message-length, contents-size}
 use Rattle.answers.specs.Answer.{idBytes, bit, headerBytes, messageBytes, chargeBytes, balanceBytes, numberOf, contentsOf, answerBytes, answerAfter, outcomeOf, answerSize, mostIds, mostBytes}
 
@@ -123,3 +125,15 @@ module _ (a : Answer) (is bs o : List ℕ) where
         rw (le-ltb (length o) answerSize h, e, k),
         rw (le-ltb (length o) answerSize h, ← e) (g ∙ over (n ∷ contentsOf a is bs) o s),
       )
+
+-- A refusal, and a bare 00: the one byte that is written.
+module _ (o : List ℕ) {r : Outcome} {o′ : List ℕ} where
+  pub one-byte : {a : Answer} {n : ℕ} → a ≡ Refused n → (r ≡ outcomeOf (Refused n) [] [] o) × (o′ ≡ answerAfter (Refused n) [] [] o) → (r ≡ outcomeOf a [] [] o) × (o′ ≡ answerAfter a [] [] o)
+  one-byte e h = rw e h
+
+  bare-done : (r ≡ outcomeOf (Refused 0) [] [] o) × (o′ ≡ answerAfter (Refused 0) [] [] o) → (r ≡ outcomeOf Done [] [] o) × (o′ ≡ answerAfter Done [] [] o)
+  unfolding outcomeOf answerAfter answerBytes contentsOf
+  bare-done h = h
+
+  pub bare : {a : Answer} → a ≡ Done → (r ≡ outcomeOf (Refused 0) [] [] o) × (o′ ≡ answerAfter (Refused 0) [] [] o) → (r ≡ outcomeOf a [] [] o) × (o′ ≡ answerAfter a [] [] o)
+  bare e h = rw e (bare-done h)

@@ -6,17 +6,16 @@ ghost use lib.ListN.{length, take};
 ghost use lib.Seq.{sets};
 ghost use Rattle.laws.specs.Bytes.{be};
 ghost use Rattle.answers.specs.Answer.{idBytes, headerBytes, messageBytes, noticeBytes, receivedBytes, chargeBytes, balanceBytes, holderBytes, contentsOf, numberOf, answerAfter, outcomeOf};
+ghost use Rattle.answers.specs.declared.Answer.the-variants as answer;
+use ids::ANSWER_SIZE;
 use ids::EINVAL;
 use ids::HandleId;
+use ids::MOST_BYTES;
 use ids::User;
 use quota::Balance;
 use quota::Charge;
 
-const ANSWER_SIZE: usize = 591;
-
 const MOST_IDS: usize = 8;
-
-const MOST_BYTES: usize = 512;
 
 // A message's numbers. Its IDs and its payload stand beside it.
 pub struct Header {
@@ -205,11 +204,68 @@ pub fn write_answer(out: &mut [u8], a: Answer, ids: &[u64], payload: &[u8]) -> O
     Outcome { number, len }
 }
 
-// Writes an answer that shows no message.
-pub fn write_plain(out: &mut [u8], a: Answer) -> Outcome
-    ensures { λ r. ⌜ (r ≡ outcomeOf a [] [] (now (out .entry))) × (now (out .exit) ≡ answerAfter a [] [] (now (out .entry))) ⌝ }
+// What was received, without IDs and payload.
+fn put_bare(out: &mut [u8], r: Received) -> usize
+    requires { ⌜ 591 ≤ length (now out) ⌝ }
+    ensures { λ n. ⌜ (n ≡ 1 + length (receivedBytes r [] [])) × (now (out .exit) ≡ sets (now (out .entry)) 1 (receivedBytes r [] [])) ⌝ }
 {
     let ids = [0u64; 1];
     let bytes = [0u8; 1];
-    write_answer(out, a, &ids[..0], &bytes[..0])
+    put_received(out, r, &ids[..0], &bytes[..0])
+}
+
+// The contents of an answer that shows no message.
+fn put_plain(out: &mut [u8], a: Answer) -> usize
+    requires { ⌜ 591 ≤ length (now out) ⌝ }
+    ensures { λ n. ⌜ (n ≡ 1 + length (contentsOf a [] [])) × (now (out .exit) ≡ sets (now (out .entry)) 1 (contentsOf a [] [])) ⌝ }
+{
+    match a {
+        Answer::Refused(_) => 1,
+        Answer::Done => 1,
+        Answer::Transferred(id) => put_id(out, 1, id.0),
+        Answer::Received(r) => put_bare(out, r),
+        Answer::Quota(b) => put_balance(out, b),
+        Answer::Holders(h) => put_holders(out, h),
+    }
+}
+
+// Writes a refusal.
+pub fn write_refusal(out: &mut [u8], n: u8) -> Outcome
+    ensures { λ r. ⌜ (r ≡ outcomeOf (answer.Refused n) [] [] (now (out .entry))) × (now (out .exit) ≡ answerAfter (answer.Refused n) [] [] (now (out .entry))) ⌝ }
+{
+    if out.len() < ANSWER_SIZE {
+        return Outcome {
+            number: EINVAL,
+            len: 0,
+        };
+    }
+    out[0] = n;
+    Outcome { number: n, len: 1 }
+}
+
+// Writes an answer that shows no message and may have contents.
+fn write_contents(out: &mut [u8], a: Answer) -> Outcome
+    ensures { λ r. ⌜ (r ≡ outcomeOf a [] [] (now (out .entry))) × (now (out .exit) ≡ answerAfter a [] [] (now (out .entry))) ⌝ }
+{
+    if out.len() < ANSWER_SIZE {
+        return Outcome {
+            number: EINVAL,
+            len: 0,
+        };
+    }
+    let number = number_of(a);
+    out[0] = number;
+    let len = put_plain(out, a);
+    Outcome { number, len }
+}
+
+// Writes an answer that shows no message. A refusal and a bare 00 are one byte.
+pub fn write_plain(out: &mut [u8], a: Answer) -> Outcome
+    ensures { λ r. ⌜ (r ≡ outcomeOf a [] [] (now (out .entry))) × (now (out .exit) ≡ answerAfter a [] [] (now (out .entry))) ⌝ }
+{
+    match a {
+        Answer::Refused(n) => write_refusal(out, n),
+        Answer::Done => write_refusal(out, 0),
+        _ => write_contents(out, a),
+    }
 }

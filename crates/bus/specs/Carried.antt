@@ -36,7 +36,7 @@ use Rattle.model.specs.Tested.{Tested, tested}
 use Rattle.view.specs.View.{Bus, Shape, stateOf}
 use Rattle.view.specs.Rows.{queue-count}
 use Rattle.judges.specs.declared.Order.{Order}
-use Rattle.judges.specs.Orders.{resolved, placesIn}
+use Rattle.judges.specs.Orders.{plainSight, resolved, placesIn}
 use Rattle.effects.specs.After.{afterOpen, afterCreate, afterDestroy, afterRelease, afterTransfer, afterSend, afterReceive, afterDisconnect}
 use Rattle.effects.specs.Good.{Good}
 use Rattle.effects.specs.Ranges.{Raw, raw-open, raw-create, raw-destroy, raw-release, raw-transfer, raw-send, raw-receive, raw-disconnect}
@@ -94,7 +94,7 @@ module _ (b : Bus) (shape : Shape b) (raw : Raw b) (g : Good (stateOf b)) (f out
       some-of [] t n = absurd (omega arith)
       some-of (x ∷ q) t n = omega arith
 
-  pub carried-seen : (c : Command) → Legal f c → refusal st f c ≡ 0 → Seen-as out (carried b f out (resolved st c) (placesIn st f c)) (effect st f c) (reply st f c)
+  pub carried-seen : (c : Command) → Legal f c → refusal st f c ≡ 0 → Seen-as out (carried b f out (resolved (plainSight st) c) (placesIn (plainSight st) f c)) (effect st f c) (reply st f c)
   unfolding effect reply refusal
   carried-seen (Open p u) l e = plain-seen out _ (afterOpen b (p .0) (u .0)) _ (shape-open b (p .0) (u .0) shape) (raw-open b raw g (p .0) (u .0) (l .1)) (open-view b shape g (p .0) (u .0) (omega (arith, l .0)))
   carried-seen (Disconnect p) l e =

@@ -38,11 +38,12 @@ use Rattle.model.specs.State.{State}
 use Rattle.grants.specs.Grants.{givenOf}
 use Rattle.judges.specs.declared.Order.{Order}
 use Rattle.judges.specs.declared.Order.the-variants as order
+use Rattle.judges.specs.declared.Places.{Places}
 use Rattle.judges.specs.declared.Ruling.{Ruling}
-use Rattle.judges.specs.Orders.{seen, rulingOf}
+use Rattle.judges.specs.Orders.{Sight, sight, rulingOf}
 use Rattle.effects.specs.Effects.{openedPeers, createdOf, created, destroysOf, destroys, releasesOf, releases, transfers, sendsOf, sends, disconnectsOf, disconnects, receivedOf, received}
 use Rattle.bus.specs.Fairness.{fair}
-use Rattle.bus.specs.Command.{sizedOk, peerOk, peersOk, rangesOk, soundOk, freshBus, freshOf, freshNumber, Done, doneOf, carriedOut, commandOf, Fair}
+use Rattle.bus.specs.Command.{sizedOk, peerOk, peersOk, rangesOk, soundOk, freshBus, freshOf, freshNumber, Done, doneOf, carried, answered, replyTo, altered, Changed, changedOf, settled, changed, carriedOut, commandOf, Fair}
 
 -- The lengths, by the test that fails; then the test that all have passed.
 module _ (b : Bus) where
@@ -252,76 +253,88 @@ module _ (b : Bus) {r : Bool} (e : r ≡ sizedOk b) where
 pub fair-as : {x y : Order} → x ≡ y → Fair x → Fair y
 fair-as e h = subst Fair e h
 
-pub fair-ruling : (b : State) (f : List ℕ) (c : Command) {r : Ruling} → r ≡ rulingOf b f c → Legal f c → Fair (r .order)
-fair-ruling b f c e l = subst (λ (x : Ruling). Fair (x .order)) (sym e) (fair b f c l)
+pub fair-ruling : (v : Sight) (f : List ℕ) (c : Command) {r : Ruling} → r ≡ rulingOf v f c → Legal f c → Fair (r .order)
+fair-ruling v f c e l = subst (λ (x : Ruling). Fair (x .order)) (sym e) (fair v f c l)
 
 -- An answer without a message, written.
 abbrev Written : Answer → List ℕ → Outcome → List ℕ → Type 0
 Written a out o out′ = (o ≡ outcomeOf a [] [] out) × (out′ ≡ answerAfter a [] [] out)
 
+-- What is answered to an order, by the arm.
+module _ (hs cs : List ℕ) {x : Order} where
+  pub replies-refuse : {n : ℕ} → x ≡ order.Refuse n → isRefused n ≡ replyTo hs cs x
+  unfolding replyTo
+  replies-refuse e = rw e
+
+  pub replies-quota : {p : Peer} {u : User} → x ≡ order.Quota p u → {c : Charges} {y : Balance} → c ≡ chargesAt cs (p .0) → y ≡ balanceOf c u → isQuota y ≡ replyTo hs cs x
+  unfolding replyTo
+  replies-quota e ec ey = rw (e, ← ec, ← ey)
+
+  pub replies-holders : {s : ℕ} → x ≡ order.Holders s → {y : ℕ} → y ≡ holdersAt hs s → isHolders y ≡ replyTo hs cs x
+  unfolding replyTo
+  replies-holders e ey = rw (e, ← ey)
+
+-- The bus after an order, by the arm.
+module _ (ps ns hs cs ends entries carried numbers pool : List ℕ) {x : Order} where
+  pub alters-open : {p : Peer} {u : User} → x ≡ order.Open p u → {ps′ : List ℕ} → ps′ ≡ openedPeers ps (p .0) (u .0) →
+      busOf ps′ ns hs cs ends entries carried numbers pool ≡ altered (busOf ps ns hs cs ends entries carried numbers pool) x
+  unfolding altered
+  alters-open e t = rw (e, t)
+
+  pub alters-disconnect : {p : Peer} → x ≡ order.Disconnect p → {ps′ ns′ hs′ cs′ ends′ entries′ carried′ numbers′ : List ℕ} →
+      disconnectsOf ps′ ns′ hs′ cs′ (ringsOf ends′ entries′ carried′ numbers′) ≡ disconnects ps ns hs cs (ringsOf ends entries carried numbers) (p .0) →
+      busOf ps′ ns′ hs′ cs′ ends′ entries′ carried′ numbers′ pool ≡ altered (busOf ps ns hs cs ends entries carried numbers pool) x
+  unfolding altered
+  alters-disconnect e t = rw (e, ← t)
+
+  pub alters-create : {p : Peer} {i : HandleId} {s : ℕ} → x ≡ order.Create p i s → {ps′ ns′ hs′ : List ℕ} →
+      createdOf ps′ ns′ hs′ ≡ created ps ns hs (p .0) (i .0) s →
+      busOf ps′ ns′ hs′ cs ends entries carried numbers pool ≡ altered (busOf ps ns hs cs ends entries carried numbers pool) x
+  unfolding altered
+  alters-create e t = rw (e, ← t)
+
+  pub alters-destroy : {p : Peer} {s : ℕ} → x ≡ order.Destroy p s → {ps′ ns′ ends′ entries′ carried′ numbers′ : List ℕ} →
+      destroysOf ps′ ns′ (ringsOf ends′ entries′ carried′ numbers′) ≡ destroys ps ns hs (ringsOf ends entries carried numbers) (p .0) s →
+      busOf ps′ ns′ hs cs ends′ entries′ carried′ numbers′ pool ≡ altered (busOf ps ns hs cs ends entries carried numbers pool) x
+  unfolding altered
+  alters-destroy e t = rw (e, ← t)
+
+  pub alters-release : {p : Peer} {s : ℕ} → x ≡ order.Release p s → {ps′ hs′ cs′ ends′ entries′ carried′ numbers′ pool′ : List ℕ} →
+      releasesOf ps′ hs′ (queuesOf cs′ ends′ entries′ carried′ numbers′ pool′) ≡ releases ps ns hs (queuesOf cs ends entries carried numbers pool) (p .0) s →
+      busOf ps′ ns hs′ cs′ ends′ entries′ carried′ numbers′ pool′ ≡ altered (busOf ps ns hs cs ends entries carried numbers pool) x
+  unfolding altered
+  alters-release e t = rw (e, ← t)
+
 -- An order carried out, by the arm.
-module _ (ps ns hs cs ends entries carried numbers pool f out : List ℕ) (r : Ruling) {o : Outcome} {out′ : List ℕ} where
-  pub did-refuse : {n : ℕ} → r .order ≡ order.Refuse n → Written (isRefused n) out o out′ →
-      doneOf o (busOf ps ns hs cs ends entries carried numbers pool) out′ ≡ carriedOut (busOf ps ns hs cs ends entries carried numbers pool) f out r
-  unfolding carriedOut
-  did-refuse e w = rw (e, w .0, w .1)
-
-  pub did-open : {p : Peer} {u : User} → r .order ≡ order.Open p u → {ps′ : List ℕ} → ps′ ≡ openedPeers ps (p .0) (u .0) → Written isDone out o out′ →
-      doneOf o (busOf ps′ ns hs cs ends entries carried numbers pool) out′ ≡ carriedOut (busOf ps ns hs cs ends entries carried numbers pool) f out r
-  unfolding carriedOut
-  did-open e t w = rw (e, t, w .0, w .1)
-
-  pub did-disconnect : {p : Peer} → r .order ≡ order.Disconnect p → {ps′ ns′ hs′ cs′ ends′ entries′ carried′ numbers′ : List ℕ} →
-      disconnectsOf ps′ ns′ hs′ cs′ (ringsOf ends′ entries′ carried′ numbers′) ≡ disconnects ps ns hs cs (ringsOf ends entries carried numbers) (p .0) → Written isDone out o out′ →
-      doneOf o (busOf ps′ ns′ hs′ cs′ ends′ entries′ carried′ numbers′ pool) out′ ≡ carriedOut (busOf ps ns hs cs ends entries carried numbers pool) f out r
-  unfolding carriedOut
-  did-disconnect e t w = rw (e, ← t, w .0, w .1)
-
-  pub did-create : {p : Peer} {i : HandleId} {s : ℕ} → r .order ≡ order.Create p i s → {ps′ ns′ hs′ : List ℕ} →
-      createdOf ps′ ns′ hs′ ≡ created ps ns hs (p .0) (i .0) s → Written isDone out o out′ →
-      doneOf o (busOf ps′ ns′ hs′ cs ends entries carried numbers pool) out′ ≡ carriedOut (busOf ps ns hs cs ends entries carried numbers pool) f out r
-  unfolding carriedOut
-  did-create e t w = rw (e, ← t, w .0, w .1)
-
-  pub did-destroy : {p : Peer} {s : ℕ} → r .order ≡ order.Destroy p s → {ps′ ns′ ends′ entries′ carried′ numbers′ : List ℕ} →
-      destroysOf ps′ ns′ (ringsOf ends′ entries′ carried′ numbers′) ≡ destroys ps ns hs (ringsOf ends entries carried numbers) (p .0) s → Written isDone out o out′ →
-      doneOf o (busOf ps′ ns′ hs cs ends′ entries′ carried′ numbers′ pool) out′ ≡ carriedOut (busOf ps ns hs cs ends entries carried numbers pool) f out r
-  unfolding carriedOut
-  did-destroy e t w = rw (e, ← t, w .0, w .1)
-
-  pub did-release : {p : Peer} {s : ℕ} → r .order ≡ order.Release p s → {ps′ hs′ cs′ ends′ entries′ carried′ numbers′ pool′ : List ℕ} →
-      releasesOf ps′ hs′ (queuesOf cs′ ends′ entries′ carried′ numbers′ pool′) ≡ releases ps ns hs (queuesOf cs ends entries carried numbers pool) (p .0) s → Written isDone out o out′ →
-      doneOf o (busOf ps′ ns hs′ cs′ ends′ entries′ carried′ numbers′ pool′) out′ ≡ carriedOut (busOf ps ns hs cs ends entries carried numbers pool) f out r
-  unfolding carriedOut
-  did-release e t w = rw (e, ← t, w .0, w .1)
-
+module _ (ps ns hs cs ends entries carried numbers pool f : List ℕ) (r : Ruling) where
   pub did-transfer : {q : Peer} {s : ℕ} → r .order ≡ order.Transfer q s → {id : HandleId} {ps′ hs′ ends′ entries′ carried′ numbers′ : List ℕ} →
-      givenOf (id .0) ps′ hs′ (ringsOf ends′ entries′ carried′ numbers′) ≡ transfers ps ns hs (ringsOf ends entries carried numbers) (q .0) s → Written (isTransferred id) out o out′ →
-      doneOf o (busOf ps′ ns hs′ cs ends′ entries′ carried′ numbers′ pool) out′ ≡ carriedOut (busOf ps ns hs cs ends entries carried numbers pool) f out r
-  unfolding carriedOut
-  did-transfer e t w = rw (e, ← t, w .0, w .1)
+      givenOf (id .0) ps′ hs′ (ringsOf ends′ entries′ carried′ numbers′) ≡ transfers ps ns hs (ringsOf ends entries carried numbers) (q .0) s →
+      changedOf (isTransferred id) (busOf ps′ ns hs′ cs ends′ entries′ carried′ numbers′ pool) ≡ changed (busOf ps ns hs cs ends entries carried numbers pool) f (r .order) (r .places)
+  unfolding changed
+  did-transfer e t = rw (e, ← t)
 
   pub did-send : {p : Peer} {z : Sizes} → r .order ≡ order.Send p z → {bytes : List ℕ} → bytes ≡ payloadOf f → {ps′ cs′ ends′ entries′ carried′ numbers′ pool′ : List ℕ} →
-      sendsOf ps′ (queuesOf cs′ ends′ entries′ carried′ numbers′ pool′) ≡ sends ps (queuesOf cs ends entries carried numbers pool) (p .0) z (r .places) bytes → Written isDone out o out′ →
-      doneOf o (busOf ps′ ns hs cs′ ends′ entries′ carried′ numbers′ pool′) out′ ≡ carriedOut (busOf ps ns hs cs ends entries carried numbers pool) f out r
-  unfolding carriedOut
-  did-send e b t w = rw (e, ← b, ← t, w .0, w .1)
+      sendsOf ps′ (queuesOf cs′ ends′ entries′ carried′ numbers′ pool′) ≡ sends ps (queuesOf cs ends entries carried numbers pool) (p .0) z (r .places) bytes →
+      changedOf isDone (busOf ps′ ns hs cs′ ends′ entries′ carried′ numbers′ pool′) ≡ changed (busOf ps ns hs cs ends entries carried numbers pool) f (r .order) (r .places)
+  unfolding changed
+  did-send e b t = rw (e, ← b, ← t)
 
-  pub did-receive : {p : Peer} → r .order ≡ order.Receive p → {ps′ hs′ cs′ ends′ entries′ carried′ numbers′ pool′ : List ℕ} →
-      receivedOf o out′ ps′ hs′ (queuesOf cs′ ends′ entries′ carried′ numbers′ pool′) ≡ received ps ns hs (queuesOf cs ends entries carried numbers pool) (p .0) out →
-      doneOf o (busOf ps′ ns hs′ cs′ ends′ entries′ carried′ numbers′ pool′) out′ ≡ carriedOut (busOf ps ns hs cs ends entries carried numbers pool) f out r
-  unfolding carriedOut
-  did-receive e t = rw (e, ← t)
+  module _ (out : List ℕ) {o : Outcome} {out′ : List ℕ} where
+    pub did-receive : {p : Peer} → r .order ≡ order.Receive p → {ps′ hs′ cs′ ends′ entries′ carried′ numbers′ pool′ : List ℕ} →
+        receivedOf o out′ ps′ hs′ (queuesOf cs′ ends′ entries′ carried′ numbers′ pool′) ≡ received ps ns hs (queuesOf cs ends entries carried numbers pool) (p .0) out →
+        doneOf o (busOf ps′ ns hs′ cs′ ends′ entries′ carried′ numbers′ pool′) out′ ≡ carriedOut (busOf ps ns hs cs ends entries carried numbers pool) f out r
+    unfolding carriedOut
+    did-receive e t = rw (e, ← t)
 
-  pub did-quota : {p : Peer} {u : User} → r .order ≡ order.Quota p u → {c : Charges} {x : Balance} → c ≡ chargesAt cs (p .0) → x ≡ balanceOf c u → Written (isQuota x) out o out′ →
-      doneOf o (busOf ps ns hs cs ends entries carried numbers pool) out′ ≡ carriedOut (busOf ps ns hs cs ends entries carried numbers pool) f out r
-  unfolding carriedOut
-  did-quota e ec ex w = rw (e, ← ec, ← ex, w .0, w .1)
+-- An order that is neither a transfer nor a send; one that is no receive.
+module _ (b : Bus) (f : List ℕ) where
+  pub did-settle : (x : Order) (w : Places) {a : Answer} {b′ : Bus} → a ≡ replyTo (b .handles) (b .charges) x → b′ ≡ altered b x → settled b x ≡ changed b f x w → changedOf a b′ ≡ changed b f x w
+  did-settle x w ea eb e = rw (ea, eb) e
 
-  pub did-holders : {s : ℕ} → r .order ≡ order.Holders s → {x : ℕ} → x ≡ holdersAt hs s → Written (isHolders x) out o out′ →
-      doneOf o (busOf ps ns hs cs ends entries carried numbers pool) out′ ≡ carriedOut (busOf ps ns hs cs ends entries carried numbers pool) f out r
+  pub did-change : (out : List ℕ) (r : Ruling) {a : Answer} {b′ : Bus} → changedOf a b′ ≡ changed b f (r .order) (r .places) → {o : Outcome} {out′ : List ℕ} → Written a out o out′ →
+      answered (changed b f (r .order) (r .places) .answer) (changed b f (r .order) (r .places) .bus) out ≡ carried b f out (r .order) (r .places) → doneOf o b′ out′ ≡ carriedOut b f out r
   unfolding carriedOut
-  did-holders e ex w = rw (e, ← ex, w .0, w .1)
+  did-change out r t w e = rw (← e, ← t, w .0, w .1)
 
 -- A command, by its returns.
 pub executed : (b : Bus) (f out : List ℕ) {r s : Ruling} {d : Done} → r ≡ s → d ≡ carriedOut b f out r → d ≡ carriedOut b f out s
@@ -343,7 +356,7 @@ module _ (b : Bus) (f out : List ℕ) where
       not-read en w = rw (le-ltb (length out) answerSize h, ← e, t, ← ex, en, w .0, w .1)
 
       pub was-read : {c : Command} → x ≡ Read c → {d : Done} →
-          d ≡ carriedOut b f out (rulingOf (seen (b .peers) (b .nodes) (b .handles) (b .charges) (b .rings)) f c) → d ≡ commandOf b f out
+          d ≡ carriedOut b f out (rulingOf (sight (b .peers) (b .nodes) (b .handles) (b .charges) (b .rings)) f c) → d ≡ commandOf b f out
       unfolding commandOf
       was-read ec k = rw (le-ltb (length out) answerSize h, ← e, t, ← ex, ec) k
 

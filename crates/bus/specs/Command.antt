@@ -27,7 +27,7 @@ use Rattle.judges.specs.declared.Order.{Order}
 use Rattle.judges.specs.declared.Order.the-variants as order
 use Rattle.judges.specs.declared.Places.{Places}
 use Rattle.judges.specs.declared.Ruling.{Ruling}
-use Rattle.judges.specs.Orders.{seen, rulingOf}
+use Rattle.judges.specs.Orders.{sight, rulingOf}
 use Rattle.effects.specs.Effects.{transfers, received}
 use Rattle.effects.specs.After.{queuesIn, afterOpen, afterCreate, afterDestroy, afterRelease, afterTransfer, afterSend, afterReceive, afterDisconnect}
 
@@ -104,7 +104,7 @@ carriedOut b f out r = carried b f out (r .order) (r .places)
 -- A frame's command judged and carried out, or the frame's refusal.
 abbrev pub obeyed : Bus → List ℕ → List ℕ → Parsed → Done
 obeyed b f out (Refused n) = refusedBy n b out
-obeyed b f out (Read c) = carriedOut b f out (rulingOf (seen (b .peers) (b .nodes) (b .handles) (b .charges) (b .rings)) f c)
+obeyed b f out (Read c) = carriedOut b f out (rulingOf (sight (b .peers) (b .nodes) (b .handles) (b .charges) (b .rings)) f c)
 
 -- "Order: answer buffer; EIO; .."
 unfoldable pub commandOf : Bus → List ℕ → List ℕ → Done
@@ -135,3 +135,56 @@ Fair (order.Send p z) = (p .0 < 8) × (z .nd ≤ 8)
 Fair (order.Receive p) = p .0 < 8
 Fair (order.Quota p u) = p .0 < 8
 Fair (order.Holders s) = s < 128
+
+-- The answer to a refusal or a question; to any other order that shows neither an ID nor a message it is 00 alone.
+unfoldable pub replyTo : List ℕ → List ℕ → Order → Answer
+replyTo hs cs (order.Refuse n) = isRefused n
+replyTo hs cs (order.Open p u) = isDone
+replyTo hs cs (order.Disconnect p) = isDone
+replyTo hs cs (order.Create p i s) = isDone
+replyTo hs cs (order.Destroy p s) = isDone
+replyTo hs cs (order.Release p s) = isDone
+replyTo hs cs (order.Transfer q s) = isDone
+replyTo hs cs (order.Send p z) = isDone
+replyTo hs cs (order.Receive p) = isDone
+replyTo hs cs (order.Quota p u) = isQuota (balanceOf (chargesAt cs (p .0)) u)
+replyTo hs cs (order.Holders s) = isHolders (holdersAt hs s)
+
+-- The bus after an open, disconnect, create, destroy or release; any other order leaves it alone here.
+unfoldable pub altered : Bus → Order → Bus
+altered b (order.Refuse n) = b
+altered b (order.Open p u) = afterOpen b (p .0) (u .0)
+altered b (order.Disconnect p) = afterDisconnect b (p .0)
+altered b (order.Create p i s) = afterCreate b (p .0) (i .0) s
+altered b (order.Destroy p s) = afterDestroy b (p .0) s
+altered b (order.Release p s) = afterRelease b (p .0) s
+altered b (order.Transfer q s) = b
+altered b (order.Send p z) = b
+altered b (order.Receive p) = b
+altered b (order.Quota p u) = b
+altered b (order.Holders s) = b
+
+-- An order carried out, other than a receive, which writes its answer itself and does not come here: the answer, and the bus.
+pub record Changed : Type 0 where
+  pub answer : Answer
+  pub bus : Bus
+
+abbrev pub changedOf : Answer → Bus → Changed
+changedOf a b = record { answer = a; bus = b }
+
+abbrev pub settled : Bus → Order → Changed
+settled b x = changedOf (replyTo (b .handles) (b .charges) x) (altered b x)
+
+unfoldable pub changed : Bus → List ℕ → Order → Places → Changed
+changed b f (order.Refuse n) w = settled b (order.Refuse n)
+changed b f (order.Open p u) w = settled b (order.Open p u)
+changed b f (order.Disconnect p) w = settled b (order.Disconnect p)
+changed b f (order.Create p i s) w = settled b (order.Create p i s)
+changed b f (order.Destroy p s) w = settled b (order.Destroy p s)
+changed b f (order.Release p s) w = settled b (order.Release p s)
+changed b f (order.Transfer q s) w =
+    changedOf (isTransferred (record { 0 = transfers (b .peers) (b .nodes) (b .handles) (b .rings) (q .0) s .id })) (afterTransfer b (q .0) s)
+changed b f (order.Send p z) w = changedOf isDone (afterSend b (p .0) z w (payloadOf f))
+changed b f (order.Receive p) w = settled b (order.Receive p)
+changed b f (order.Quota p u) w = settled b (order.Quota p u)
+changed b f (order.Holders s) w = settled b (order.Holders s)

@@ -1,7 +1,8 @@
--- What document 01 demands, said of exchanges and buses: no command of a run is answered 5; the third demand; IDs are never given twice; a refusal leaves the buffers alone.
+-- What document 01 demands, said of exchanges and buses: no command of a run is answered 5; the third demand; IDs are never given twice, and two handles of a peer have two;
+-- a refusal leaves the buffers alone.
 -- Assumes nothing.
 use Prim.Native.Nat.{ℕ, _+_, _*_, _≤_, _<_}
-use mathlib.Core.Path.{_≡_, refl, ap, ap₂}
+use mathlib.Core.Path.{_≡_, refl, sym, ap, ap₂, subst}
 use mathlib.Core.Bool.{true, false}
 use mathlib.Core.Logic._⊎_.{inl, inr}
 use mathlib.Core.List.{List, [], _∷_, _++_, map}
@@ -34,12 +35,14 @@ use Rattle.model.specs.Claim.{Claim, fed, historyFrom, OfBytes}
 use Rattle.model.specs.Demand.{third-demand}
 use Rattle.model.specs.Given.{transferTo, receiveBy, shownTo, holdsId, newOf, givenFrom, GivenOnce}
 use Rattle.model.specs.GivenProof.{given}
+use Rattle.model.specs.Ids.{Ids}
+use Rattle.model.specs.IdsProof.{sound-ids}
 use Rattle.view.specs.View.{Bus, stateOf}
 use Rattle.queues.specs.Queues.{Queues, isMessage}
 use Rattle.judges.specs.declared.Order.{Order}
 use Rattle.judges.specs.declared.Order.the-variants as order
 use Rattle.judges.specs.declared.Places.{Places}
-use Rattle.judges.specs.Orders.{seen, rulingOf}
+use Rattle.judges.specs.Orders.{sight, rulingOf}
 use Rattle.effects.specs.Effects.{messageAnswer, receivedMessage, noticeAnswer, noticeTaken, received}
 use Rattle.effects.specs.After.{queuesIn}
 use Rattle.effects.specs.Good.{Good, good}
@@ -75,6 +78,10 @@ givenIn p (x ∷ xs) = newOf (holdsId (stateOf (x .before)) p) (shownIn p x) ++ 
 -- They are 7, 11, 15, .., as many as the bus has stored for p: none is given twice.
 abbrev pub CodeGiven : Type 0
 CodeGiven = (xs : List Exchange) (b : Bus) → Ran xs b → AllBytes xs → (p : ℕ) → GivenOnce (givenIn p xs) (stateOf b .given p)
+
+-- IDs, handles and counts: two handles of a peer have two IDs, an owner's was chosen, every other was given, and each count is over 0.
+abbrev pub CodeIds : Type 0
+CodeIds = (xs : List Exchange) (b : Bus) → Ran xs b → Ids (stateOf b)
 
 -- A refused command, on the bus b: every buffer of the bus is as it was; so is the answer buffer where it is short, and else all of it but the first byte, which is the number.
 pub record Leaves (b : Bus) (c : Call) : Type 0 where
@@ -112,8 +119,8 @@ not-openable unopened z = omega arith
 not-openable opened z = omega arith
 not-openable disconnected z = omega arith
 
-not-holding : (b : State) (p : ℕ) (is : List ℕ) (r : ℕ) → NotFive r → NotFive (holding b p is r)
-not-holding b p is r h = pick-all NotFive (every (λ i. ltb (slot b p i) nodes) is) r ENXIO h (λ z. omega arith)
+not-holding : (find : ℕ → ℕ) (is : List ℕ) (r : ℕ) → NotFive r → NotFive (holding find is r)
+not-holding find is r h = pick-all NotFive (every (λ i. ltb (find i) nodes) is) r ENXIO h (λ z. omega arith)
 
 not-owning : (p s r : ℕ) → NotFive r → NotFive (owning p s r)
 not-owning p s r h = pick-all NotFive (eqb (owner s) p) r EPERM h (λ z. omega arith)
@@ -140,23 +147,23 @@ refusal-not-five b f (Create p i) =
     (pick-all NotFive (ltb (freePlace b (p .0)) slots) 0 ENOSPC (λ z. omega arith) (λ z. omega arith))))
 refusal-not-five b f (Destroy p i) =
     let s = slot b (p .0) (i .0) in
-    not-countable b _ (not-present (b .status (p .0)) _ (not-holding b (p .0) (i .0 ∷ []) _ (not-owning (p .0) s _ (not-living b (s ∷ [])))))
+    not-countable b _ (not-present (b .status (p .0)) _ (not-holding (slot b (p .0)) (i .0 ∷ []) _ (not-owning (p .0) s _ (not-living b (s ∷ [])))))
 refusal-not-five b f (Release p i) =
-    not-countable b _ (not-present (b .status (p .0)) _ (not-holding b (p .0) (i .0 ∷ []) _
+    not-countable b _ (not-present (b .status (p .0)) _ (not-holding (slot b (p .0)) (i .0 ∷ []) _
     (pick-all NotFive (pinned b (p .0) (slot b (p .0) (i .0))) EPERM 0 (λ z. omega arith) (λ z. omega arith))))
 refusal-not-five b f (Transfer p i q) =
     not-countable b _ (not-present (b .status (p .0)) _ (not-present (b .status (q .0)) _
-    (not-holding b (p .0) (i .0 ∷ []) _ (not-living b (slot b (p .0) (i .0) ∷ [])))))
+    (not-holding (slot b (p .0)) (i .0 ∷ []) _ (not-living b (slot b (p .0) (i .0) ∷ [])))))
 refusal-not-five b f (Send p z) =
     let is = destinations f z in
     let hs = attached f z in
-    not-countable b _ (not-present (b .status (p .0)) _ (not-holding b (p .0) (is ++ hs) _
+    not-countable b _ (not-present (b .status (p .0)) _ (not-holding (slot b (p .0)) (is ++ hs) _
     (pick-all NotFive (every (λ s. isLive (b .life s)) (map (slot b (p .0)) is)) _ EHOSTUNREACH
     (not-affordable b (b .user (p .0)) (map (slot b (p .0)) is) (length (payloadOf f)) (length hs)) (λ z. omega arith))))
 refusal-not-five b f (Receive p room) = not-countable b _ (not-present (b .status (p .0)) _ (not-takeable room (b .queue (p .0))))
 refusal-not-five b f (Quota p u) = not-present (b .status (p .0)) _ (λ z. omega arith)
 refusal-not-five b f (Holders p i) =
-    not-present (b .status (p .0)) _ (not-holding b (p .0) (i .0 ∷ []) _ (not-owning (p .0) (slot b (p .0) (i .0)) _ (λ z. omega arith)))
+    not-present (b .status (p .0)) _ (not-holding (slot b (p .0)) (i .0 ∷ []) _ (not-owning (p .0) (slot b (p .0) (i .0)) _ (λ z. omega arith)))
 
 step-not-five : (b : State) (c : Call) → NotFive (step b c .outcome .number)
 unfolding step finish outcomeOf carryOut
@@ -215,6 +222,9 @@ code-given xs b r o p =
     let n : stateOf b .given p ≡ stateAfter xs .given p = ap (λ (s : State). s .given p) (m .tied .view) in
     rw (given-as start xs (m .each) p, n) (given (callsOf xs) (bytes-of xs o) p)
 
+pub code-ids : CodeIds
+code-ids xs b r = subst (λ (s : State). Ids s) (sym (ran-modelled r .tied .view)) (sound-ids (callsOf xs))
+
 -- An order that is carried out is answered 0. So where the number is another, only a refusal was written: what that leaves, with a long answer buffer.
 record Left (b : Bus) (out : List ℕ) (d : Done) : Type 0 where
   bus : d .bus ≡ b
@@ -254,7 +264,7 @@ left-obeyed : (b : Bus) (f out : List ℕ) (x : Parsed) → ltb (length out) ans
 unfolding carriedOut
 left-obeyed b f out (Refused n) e h = left-refused n b out e
 left-obeyed b f out (Read k) e h =
-    let r = rulingOf (seen (b .peers) (b .nodes) (b .handles) (b .charges) (b .rings)) f k in
+    let r = rulingOf (sight (b .peers) (b .nodes) (b .handles) (b .charges) (b .rings)) f k in
     left-carried b f out (r .order) (r .places) e h
 
 left-long : (b : Bus) (f out : List ℕ) → ltb (length out) answerSize ≡ false → (commandOf b f out .outcome .number ≡ 0 → ⊥) → Left b out (commandOf b f out)

@@ -8,8 +8,10 @@ use mathlib.Core.List.{List, [], _∷_, map}
 use native.Mathlib.Omega.{arith}
 use lib.ListN.{length, getD, drop, replicate, length-replicate}
 use lib.Seq.{take-append-seam}
-use borrow.Author.Tests.{le-ltb}
+use borrow.Author.Tests.{le-ltb, eq-eqb}
+use Rattle.laws.specs.Tests.{Seen, Seen.is-true, Seen.is-false, look, clash}
 use Rattle.laws.specs.Weights.{All, all-imp}
+use Rattle.ids.specs.Refusals.{EIO}
 use Rattle.quota.specs.Rule.{left}
 use Rattle.frames.specs.Frame.{parse}
 use Rattle.answers.specs.Answer.{answerSize, answerAfter, outcomeOf}
@@ -19,8 +21,9 @@ use Rattle.model.specs.Shown.{bytesOf}
 use Rattle.model.specs.Scripts.{Row, Row.played, Row.ruled, calls, lastOf, computed, expected}
 use Rattle.model.specs.Table.{table, marks}
 use Rattle.model.specs.Examples.{examples, shown-by-examples}
-use Rattle.view.specs.View.{Bus}
-use Rattle.bus.specs.Command.{sizedOk, freshBus, freshOf}
+use Rattle.view.specs.View.{Bus, Shape}
+use Rattle.bus.specs.Command.{sizedOk, freshBus, freshOf, freshNumber}
+use Rattle.bus.specs.Code.{all-but-pool, sized-shape}
 use Rattle.bus.specs.Ran.{Exchange, answerIn, callsOf, Ran, AsModel, ran-modelled}
 
 -- The answers of a run are the model's.
@@ -132,6 +135,25 @@ held-calls fs rs h xs b r e =
 pub fresh-same : (b : Bus) → sizedOk b ≡ true → freshOf b ≡ freshBus
 unfolding freshOf
 fresh-same b e = rw e refl
+
+-- "Making a fresh bus (no peer opened) refuses only a wrong length, returning 5 and writing nothing": the number n and the bus that are left of the buffers b.
+pub record Made (b : Bus) (n : ℕ) (after : Bus) : Type 0 where
+  pub right : Shape b → (n ≡ 0) × (after ≡ freshBus)
+  pub wrong : (Shape b → ⊥) → (n ≡ EIO) × (after ≡ b)
+  pub only : n ≡ 0 → Shape b
+
+shape-sized : (b : Bus) → Shape b → sizedOk b ≡ true
+shape-sized b s =
+    sym (all-but-pool b (s .peers) (s .nodes) (s .handles) (s .charges) (s .ends) (s .rows .entries) (s .rows .carried) (s .rows .numbers))
+    ∙ eq-eqb (length (b .pool)) 32768 (s .pool)
+
+pub fresh-made-as : (b : Bus) → Made b (freshNumber b) (freshOf b)
+unfolding freshNumber freshOf
+fresh-made-as b = go (look (sizedOk b))
+  where
+    go : Seen (sizedOk b) → Made b (freshNumber b) (freshOf b)
+    go (is-true e) = record { right = λ s. rw e (refl, refl); wrong = λ h. absurd (h (sized-shape b e)); only = λ h. sized-shape b e }
+    go (is-false e) = record { right = λ s. clash (sym (shape-sized b s) ∙ e); wrong = λ h. rw e (refl, refl); only = λ h. absurd (omega (arith, rw e at h)) }
 
 -- And two runs with the same frames answer the same bytes, whatever lay in the answer buffers, where each is long enough.
 abbrev pub BytesSame : Type 0

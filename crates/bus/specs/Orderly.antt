@@ -243,14 +243,14 @@ module _ (cs ys : List Call) (b : State) (e : b ≡ run cs) (p : ℕ) (n : ℕ) 
         moved z = rw z (followed cs ys p)
 
     state-progress : (k : ℕ) (x : Entry) → k < length (b .queue p) → getD (b .queue p) k x ≡ x →
-        ((i : ℕ) × (i ≤ k) × (i < n) × (getD l i x ≡ x)) ⊎ (L x ⊎ ((j : ℕ) × (j + n ≤ k) × (j < length (d .queue p)) × (getD (d .queue p) j x ≡ x)))
+        ((i : ℕ) × (i ≤ k) × (i < length l) × (getD l i x ≡ x)) ⊎ (L x ⊎ ((j : ℕ) × (j + n ≤ k) × (j < length (d .queue p)) × (getD (d .queue p) j x ≡ x)))
     state-progress k x lt h = go (became e lt h)
       where
         became : b ≡ run cs → k < length (b .queue p) → getD (b .queue p) k x ≡ x → Became b ys p k x
         became z u v = rw z (progress cs ys p k x (rw z at u) (rw z at v))
 
-        go : Became b ys p k x → ((i : ℕ) × (i ≤ k) × (i < n) × (getD l i x ≡ x)) ⊎ (L x ⊎ ((j : ℕ) × (j + n ≤ k) × (j < length (d .queue p)) × (getD (d .queue p) j x ≡ x)))
-        go (came-out i u v f) = inl (i, u, rw counted v, rw taken f)
+        go : Became b ys p k x → ((i : ℕ) × (i ≤ k) × (i < length l) × (getD l i x ≡ x)) ⊎ (L x ⊎ ((j : ℕ) × (j + n ≤ k) × (j < length (d .queue p)) × (getD (d .queue p) j x ≡ x)))
+        go (came-out i u v f) = inl (i, u, rw taken v, rw taken f)
         go (lost g) = inr (inl (lose x g))
         go (waits j u v f) = inr (inr (j, rw counted u, rw last v, rw last f))
 
@@ -276,10 +276,10 @@ code-one-each xs ys b d r g p =
     let h = along r g in
     state-one-each (callsOf xs) (callsOf ys) (stateOf b) (ran-modelled r .tied .view) p (receivesIn p ys) (h .receives p) (takenIn p ys) (h .taken p)
 
--- What became of an entry e with k ahead of it, after the exchanges ys and on the bus d that they left: it came out by an accepted receive of p, the one with i before it,
--- i at most k; or it is lost; or it waits with j ahead of it, and j and the number of receives since then make at most k.
+-- What became of an entry e with k ahead of it, after the exchanges ys and on the bus d that they left: it came out, as the one with i before it, i at most k;
+-- or it is lost; or it waits with j ahead of it, and j and the number of receives since then make at most k.
 pub data BecameIn (ys : List Exchange) (d : Bus) (p k : ℕ) (e : Entry) : Type 0 where
-  received : (i : ℕ) → i ≤ k → i < receivesIn p ys → getD (takenIn p ys) i e ≡ e → BecameIn ys d p k e
+  received : (i : ℕ) → i ≤ k → i < length (takenIn p ys) → getD (takenIn p ys) i e ≡ e → BecameIn ys d p k e
   gone : LostIn ys p e → BecameIn ys d p k e
   waiting : (j : ℕ) → j + receivesIn p ys ≤ k → j < length (stateOf d .queue p) → getD (stateOf d .queue p) j e ≡ e → BecameIn ys d p k e
 
@@ -295,7 +295,7 @@ code-progress xs ys b d r g p k e lt f =
     (state-progress (callsOf xs) (callsOf ys) (stateOf b) (ran-modelled r .tied .view) p (receivesIn p ys) (h .receives p) (takenIn p ys) (h .taken p)
     (stateOf d) (h .last) (LostIn ys p) (h .lost p) k e lt f)
   where
-    go : ((i : ℕ) × (i ≤ k) × (i < receivesIn p ys) × (getD (takenIn p ys) i e ≡ e))
+    go : ((i : ℕ) × (i ≤ k) × (i < length (takenIn p ys)) × (getD (takenIn p ys) i e ≡ e))
         ⊎ (LostIn ys p e ⊎ ((j : ℕ) × (j + receivesIn p ys ≤ k) × (j < length (stateOf d .queue p)) × (getD (stateOf d .queue p) j e ≡ e))) → BecameIn ys d p k e
     go (inl z) = received (z .0) (z .1) (z .2) (z .3)
     go (inr (inl z)) = gone z
@@ -305,12 +305,12 @@ code-progress xs ys b d r g p k e lt f =
 abbrev pub CodeInTime : Type 0
 CodeInTime =
     (xs ys : List Exchange) (b d : Bus) → Ran xs b → Goes-on b ys d → (p k : ℕ) (e : Entry) → k < length (stateOf b .queue p) → getD (stateOf b .queue p) k e ≡ e →
-    k < receivesIn p ys → ((i : ℕ) × (i ≤ k) × (i < receivesIn p ys) × (getD (takenIn p ys) i e ≡ e)) ⊎ LostIn ys p e
+    k < receivesIn p ys → ((i : ℕ) × (i ≤ k) × (i < length (takenIn p ys)) × (getD (takenIn p ys) i e ≡ e)) ⊎ LostIn ys p e
 
 pub code-in-time : CodeInTime
 code-in-time xs ys b d r g p k e lt f enough = go (code-progress xs ys b d r g p k e lt f)
   where
-    go : BecameIn ys d p k e → ((i : ℕ) × (i ≤ k) × (i < receivesIn p ys) × (getD (takenIn p ys) i e ≡ e)) ⊎ LostIn ys p e
+    go : BecameIn ys d p k e → ((i : ℕ) × (i ≤ k) × (i < length (takenIn p ys)) × (getD (takenIn p ys) i e ≡ e)) ⊎ LostIn ys p e
     go (received i u v h) = inl (i, u, v, h)
     go (gone h) = inr h
     go (waiting j u v h) = absurd (omega arith)

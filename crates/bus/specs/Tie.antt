@@ -30,12 +30,10 @@ use Rattle.model.specs.Replies.{reply}
 use Rattle.model.specs.Step.{Verdict, carryOut, judge, Call, Result, finish, step, runFrom, run}
 use Rattle.model.specs.Accepted.{run-append}
 use Rattle.view.specs.View.{Bus, Shape, entryV, rowsV, queueV, stateOf}
-use Rattle.judges.specs.declared.Ruling.{Ruling}
-use Rattle.judges.specs.Orders.{resolved, placesIn, unlessAt, rulingOf}
 use Rattle.effects.specs.Good.{Good, good}
 use Rattle.effects.specs.Ranges.{Raw, InRange, ranges-ok, ranges-accepted, raw-fresh}
 use Rattle.bus.specs.Command.{sizedOk, peerOk, peersOk, rangesOk, soundOk, Done, refusedBy, carriedOut, obeyed, commandOf, freshBus}
-use Rattle.bus.specs.Seen.{part, ruling-same}
+use Rattle.bus.specs.Seen.{ruled, ruling-same}
 use Rattle.bus.specs.Carried.{Seen-as, carried-seen}
 
 -- A bus that stands for a state.
@@ -87,8 +85,8 @@ module _ (b : Bus) (shape : Shape b) (raw : Raw b) (g : Good (stateOf b)) where
 
   -- A command that was read.
   read-same : (f out : List ℕ) (k : Command) → Legal f k → ltb (length out) answerSize ≡ false → Seen (eqb (refusal (stateOf b) f k) 0) →
-      Same-as (carriedOut b f out (rulingOf (stateOf b) f k)) (finish (stateOf b) out (carryOut (stateOf b) f k (refusal (stateOf b) f k)))
-  unfolding rulingOf carriedOut carryOut finish
+      Same-as (carriedOut b f out (ruled (stateOf b) f k)) (finish (stateOf b) out (carryOut (stateOf b) f k (refusal (stateOf b) f k)))
+  unfolding carriedOut carryOut finish
   read-same f out k l e (is-true z) =
       let x = carried-seen b shape raw g f out k l (eqb-true (refusal (stateOf b) f k) 0 z) in
       rw z (record { tied = record { shape = x .shape; raw = x .raw; view = rw e (x .state) }; outcome = x .outcome; buffer = x .buffer })
@@ -98,7 +96,7 @@ module _ (b : Bus) (shape : Shape b) (raw : Raw b) (g : Good (stateOf b)) where
       Same-as (obeyed b f out x) (finish (stateOf b) out (judge (stateOf b) f x))
   parsed-same f out (Refused n) p e = refused-same n f out e
   parsed-same f out (Read k) p e =
-      rw (ruling-same b shape f k (legal-command f k p)) (read-same f out k (legal-command f k p) e (look (eqb (refusal (stateOf b) f k) 0)))
+      rw (ruling-same b shape g f k (legal-command f k p)) (read-same f out k (legal-command f k p) e (look (eqb (refusal (stateOf b) f k) 0)))
 
   -- A short answer buffer.
   short-same : (out : List ℕ) (v : Verdict) → ltb (length out) answerSize ≡ true → Same-as (record { outcome = record { number = 22; len = 0 }; bus = b; out = out }) (finish (stateOf b) out v)

@@ -1,23 +1,23 @@
 // The bus: a fresh one, and one command in, one answer out, over nine lent tables and an answer buffer.
 ghost use mathlib.Core.Path.{_≡_};
-ghost use Prim.Native.Nat.{_<_};
+ghost use Prim.Native.Nat.{_<_, _≤_};
 ghost use lib.ListN.{length, replicate};
+ghost use Rattle.answers.specs.Answer.{answerSize};
 ghost use Rattle.frames.specs.Legal.{Legal};
 ghost use Rattle.view.specs.View.{busOf, Shape};
 ghost use Rattle.queues.specs.Queues.{Short};
-ghost use Rattle.judges.specs.Orders.{seen, rulingOf};
+ghost use Rattle.judges.specs.Orders.{sight, rulingOf};
 ghost use Rattle.rings.specs.Rings.{ringsOf};
-ghost use Rattle.bus.specs.Command.{sizedOk, peerOk, rangesOk, soundOk, doneOf, carriedOut, commandOf, freshOf, freshNumber, Fair};
+ghost use Rattle.bus.specs.Command.{sizedOk, peerOk, rangesOk, soundOk, doneOf, replyTo, altered, changedOf, changed, carriedOut, commandOf, freshOf, freshNumber, Fair};
 use answers::Answer;
 use answers::Outcome;
 use frames::Command;
 use frames::Parsed;
+use ids::ANSWER_SIZE;
 use ids::EINVAL;
 use ids::EIO;
 use judges::Order;
 use judges::Ruling;
-
-const ANSWER_SIZE: usize = 591;
 
 // Have the bus buffers their lengths?
 fn sized(
@@ -126,170 +126,204 @@ fn is_sound(
     in_range(peers, ends)
 }
 
-// An order carried out; it cannot fail.
-fn carry_out(
-    peers: &mut [u64],
-    nodes: &mut [u64],
-    handles: &mut [u64],
-    charges: &mut [u16],
+// From here to `obey` the tables peers, nodes, handles and charges are ps, ns, hs and cs, and the frame is f, as in the
+// specs.
+
+// The answer to a refusal or a question; to any other order that shows neither an ID nor a message it is 00 alone.
+fn reply(hs: &[u64], cs: &[u16], order: Order) -> Answer
+    requires { ⌜ (length (now hs) ≡ 2048) × (length (now cs) ≡ 96) × Fair order ⌝ }
+    ensures { λ a. ⌜ a ≡ replyTo (now (hs .entry)) (now (cs .entry)) order ⌝ }
+{
+    match order {
+        Order::Refuse(n) => Answer::Refused(n),
+        Order::Quota(p, u) => {
+            let c = tables::load(cs, p);
+            Answer::Quota(c.balance(u))
+        }
+        Order::Holders(s) => Answer::Holders(tables::holders(hs, s)),
+        _ => Answer::Done,
+    }
+}
+
+// The change by an open, disconnect, create, destroy or release. A refusal and a question change nothing.
+fn alter(
+    ps: &mut [u64],
+    ns: &mut [u64],
+    hs: &mut [u64],
+    cs: &mut [u16],
     ends: &mut [u16],
     entries: &mut [u16],
     carried: &mut [u8],
     numbers: &mut [u64],
     pool: &mut [u8],
-    frame: &[u8],
-    r: Ruling,
-    out: &mut [u8],
-) -> Outcome
-    requires { ⌜ Shape (busOf (now peers) (now nodes) (now handles) (now charges) (now ends) (now entries) (now carried) (now numbers) (now pool)) × Short (now ends) × Fair (r .order) ⌝ }
-    ensures { λ o. ⌜ doneOf o (busOf (now (peers .exit)) (now (nodes .exit)) (now (handles .exit)) (now (charges .exit)) (now (ends .exit)) (now (entries .exit)) (now (carried .exit)) (now (numbers .exit)) (now (pool .exit))) (now (out .exit)) ≡ carriedOut (busOf (now (peers .entry)) (now (nodes .entry)) (now (handles .entry)) (now (charges .entry)) (now (ends .entry)) (now (entries .entry)) (now (carried .entry)) (now (numbers .entry)) (now (pool .entry))) (now (frame .entry)) (now (out .entry)) r ⌝ }
+    order: Order,
+)
+    requires { ⌜ Shape (busOf (now ps) (now ns) (now hs) (now cs) (now ends) (now entries) (now carried) (now numbers) (now pool)) × Fair order ⌝ }
+    ensures { λ _. ⌜ busOf (now (ps .exit)) (now (ns .exit)) (now (hs .exit)) (now (cs .exit)) (now (ends .exit)) (now (entries .exit)) (now (carried .exit)) (now (numbers .exit)) (now (pool .exit)) ≡ altered (busOf (now (ps .entry)) (now (ns .entry)) (now (hs .entry)) (now (cs .entry)) (now (ends .entry)) (now (entries .entry)) (now (carried .entry)) (now (numbers .entry)) (now (pool .entry))) order ⌝ }
 {
-    let order = r.order;
-    let places = r.places;
     match order {
-        Order::Refuse(n) => answers::write_plain(out, Answer::Refused(n)),
-        Order::Open(p, u) => {
-            effects::open_peer(peers, p, u);
-            answers::write_plain(out, Answer::Done)
-        }
+        Order::Open(p, u) => effects::open_peer(ps, p, u),
         Order::Disconnect(p) => {
-            effects::disconnect(
-                peers,
-                nodes,
-                handles,
-                charges,
-                ends,
-                entries,
-                carried,
-                numbers,
-                p,
-            );
-            answers::write_plain(out, Answer::Done)
+            effects::disconnect(ps, ns, hs, cs, ends, entries, carried, numbers, p)
         }
-        Order::Create(p, i, s) => {
-            effects::create(peers, nodes, handles, p, i, s);
-            answers::write_plain(out, Answer::Done)
-        }
+        Order::Create(p, i, s) => effects::create(ps, ns, hs, p, i, s),
         Order::Destroy(p, s) => {
-            effects::destroy(peers, nodes, handles, ends, entries, carried, numbers, p, s);
-            answers::write_plain(out, Answer::Done)
+            effects::destroy(ps, ns, hs, ends, entries, carried, numbers, p, s)
         }
         Order::Release(p, s) => {
-            effects::release(
-                peers,
-                nodes,
-                handles,
-                charges,
-                ends,
-                entries,
-                carried,
-                numbers,
-                pool,
-                p,
-                s,
-            );
-            answers::write_plain(out, Answer::Done)
+            effects::release(ps, ns, hs, cs, ends, entries, carried, numbers, pool, p, s)
         }
+        _ => {}
+    }
+}
+
+// An order carried out, other than a receive, which writes its answer itself. The answer comes back.
+fn change(
+    ps: &mut [u64],
+    ns: &mut [u64],
+    hs: &mut [u64],
+    cs: &mut [u16],
+    ends: &mut [u16],
+    entries: &mut [u16],
+    carried: &mut [u8],
+    numbers: &mut [u64],
+    pool: &mut [u8],
+    f: &[u8],
+    r: Ruling,
+) -> Answer
+    requires { ⌜ Shape (busOf (now ps) (now ns) (now hs) (now cs) (now ends) (now entries) (now carried) (now numbers) (now pool)) × Fair (r .order) ⌝ }
+    ensures { λ a. ⌜ changedOf a (busOf (now (ps .exit)) (now (ns .exit)) (now (hs .exit)) (now (cs .exit)) (now (ends .exit)) (now (entries .exit)) (now (carried .exit)) (now (numbers .exit)) (now (pool .exit))) ≡ changed (busOf (now (ps .entry)) (now (ns .entry)) (now (hs .entry)) (now (cs .entry)) (now (ends .entry)) (now (entries .entry)) (now (carried .entry)) (now (numbers .entry)) (now (pool .entry))) (now (f .entry)) (r .order) (r .places) ⌝ }
+{
+    let order = r.order;
+    match order {
         Order::Transfer(q, s) => {
-            let id = effects::transfer(
-                peers,
-                nodes,
-                handles,
-                ends,
-                entries,
-                carried,
-                numbers,
-                q,
-                s,
-            );
-            answers::write_plain(out, Answer::Transferred(id))
+            let id = effects::transfer(ps, ns, hs, ends, entries, carried, numbers, q, s);
+            Answer::Transferred(id)
         }
         Order::Send(p, z) => {
-            effects::send(
-                peers,
-                charges,
-                ends,
-                entries,
-                carried,
-                numbers,
-                pool,
-                p,
-                z,
-                places,
-                frames::payload(frame),
-            );
-            answers::write_plain(out, Answer::Done)
+            let w = r.places;
+            let data = frames::payload(f);
+            effects::send(ps, cs, ends, entries, carried, numbers, pool, p, z, w, data);
+            Answer::Done
         }
-        Order::Receive(p) => {
-            effects::receive(
-                peers,
-                nodes,
-                handles,
-                charges,
-                ends,
-                entries,
-                carried,
-                numbers,
-                pool,
-                p,
-                out,
-            )
-        }
-        Order::Quota(p, u) => {
-            let c = tables::load(charges, p);
-            answers::write_plain(out, Answer::Quota(c.balance(u)))
-        }
-        Order::Holders(s) => {
-            let set = tables::holders(handles, s);
-            answers::write_plain(out, Answer::Holders(set))
+        _ => {
+            let a = reply(hs, cs, order);
+            alter(ps, ns, hs, cs, ends, entries, carried, numbers, pool, order);
+            a
         }
     }
 }
 
-// A command judged and carried out.
-fn execute(
-    peers: &mut [u64],
-    nodes: &mut [u64],
-    handles: &mut [u64],
-    charges: &mut [u16],
+// An order carried out; it cannot fail.
+fn carry_out(
+    ps: &mut [u64],
+    ns: &mut [u64],
+    hs: &mut [u64],
+    cs: &mut [u16],
     ends: &mut [u16],
     entries: &mut [u16],
     carried: &mut [u8],
     numbers: &mut [u64],
     pool: &mut [u8],
-    frame: &[u8],
-    c: Command,
+    f: &[u8],
+    r: Ruling,
     out: &mut [u8],
 ) -> Outcome
-    requires { ⌜ Shape (busOf (now peers) (now nodes) (now handles) (now charges) (now ends) (now entries) (now carried) (now numbers) (now pool)) × Short (now ends) × Legal (now frame) c ⌝ }
-    ensures { λ o. ⌜ doneOf o (busOf (now (peers .exit)) (now (nodes .exit)) (now (handles .exit)) (now (charges .exit)) (now (ends .exit)) (now (entries .exit)) (now (carried .exit)) (now (numbers .exit)) (now (pool .exit))) (now (out .exit)) ≡ carriedOut (busOf (now (peers .entry)) (now (nodes .entry)) (now (handles .entry)) (now (charges .entry)) (now (ends .entry)) (now (entries .entry)) (now (carried .entry)) (now (numbers .entry)) (now (pool .entry))) (now (frame .entry)) (now (out .entry)) (rulingOf (seen (now (peers .entry)) (now (nodes .entry)) (now (handles .entry)) (now (charges .entry)) (ringsOf (now (ends .entry)) (now (entries .entry)) (now (carried .entry)) (now (numbers .entry)))) (now (frame .entry)) c) ⌝ }
+    requires { ⌜ Shape (busOf (now ps) (now ns) (now hs) (now cs) (now ends) (now entries) (now carried) (now numbers) (now pool)) × Short (now ends) × Fair (r .order) ⌝ }
+    ensures { λ o. ⌜ doneOf o (busOf (now (ps .exit)) (now (ns .exit)) (now (hs .exit)) (now (cs .exit)) (now (ends .exit)) (now (entries .exit)) (now (carried .exit)) (now (numbers .exit)) (now (pool .exit))) (now (out .exit)) ≡ carriedOut (busOf (now (ps .entry)) (now (ns .entry)) (now (hs .entry)) (now (cs .entry)) (now (ends .entry)) (now (entries .entry)) (now (carried .entry)) (now (numbers .entry)) (now (pool .entry))) (now (f .entry)) (now (out .entry)) r ⌝ }
 {
-    let r = judges::judge(
-        peers,
-        nodes,
-        handles,
-        charges,
-        ends,
-        entries,
-        carried,
-        numbers,
-        frame,
-        c,
-    );
-    carry_out(
-        peers,
-        nodes,
-        handles,
-        charges,
+    let order = r.order;
+    let Order::Receive(p) = order else {
+        let a = change(ps, ns, hs, cs, ends, entries, carried, numbers, pool, f, r);
+        return answers::write_plain(out, a);
+    };
+    effects::receive(
+        ps,
+        ns,
+        hs,
+        cs,
         ends,
         entries,
         carried,
         numbers,
         pool,
-        frame,
+        p,
+        out,
+    )
+}
+
+// A command judged and carried out.
+fn execute(
+    ps: &mut [u64],
+    ns: &mut [u64],
+    hs: &mut [u64],
+    cs: &mut [u16],
+    ends: &mut [u16],
+    entries: &mut [u16],
+    carried: &mut [u8],
+    numbers: &mut [u64],
+    pool: &mut [u8],
+    f: &[u8],
+    c: Command,
+    out: &mut [u8],
+) -> Outcome
+    requires { ⌜ Shape (busOf (now ps) (now ns) (now hs) (now cs) (now ends) (now entries) (now carried) (now numbers) (now pool)) × Short (now ends) × Legal (now f) c ⌝ }
+    ensures { λ o. ⌜ doneOf o (busOf (now (ps .exit)) (now (ns .exit)) (now (hs .exit)) (now (cs .exit)) (now (ends .exit)) (now (entries .exit)) (now (carried .exit)) (now (numbers .exit)) (now (pool .exit))) (now (out .exit)) ≡ carriedOut (busOf (now (ps .entry)) (now (ns .entry)) (now (hs .entry)) (now (cs .entry)) (now (ends .entry)) (now (entries .entry)) (now (carried .entry)) (now (numbers .entry)) (now (pool .entry))) (now (f .entry)) (now (out .entry)) (rulingOf (sight (now (ps .entry)) (now (ns .entry)) (now (hs .entry)) (now (cs .entry)) (ringsOf (now (ends .entry)) (now (entries .entry)) (now (carried .entry)) (now (numbers .entry)))) (now (f .entry)) c) ⌝ }
+{
+    let r = judges::judge(ps, ns, hs, cs, ends, entries, carried, numbers, f, c);
+    carry_out(
+        ps,
+        ns,
+        hs,
+        cs,
+        ends,
+        entries,
+        carried,
+        numbers,
+        pool,
+        f,
         r,
         out,
     )
+}
+
+// A command into an answer buffer that is long enough.
+fn obey(
+    ps: &mut [u64],
+    ns: &mut [u64],
+    hs: &mut [u64],
+    cs: &mut [u16],
+    ends: &mut [u16],
+    entries: &mut [u16],
+    carried: &mut [u8],
+    numbers: &mut [u64],
+    pool: &mut [u8],
+    f: &[u8],
+    out: &mut [u8],
+) -> Outcome
+    requires { ⌜ answerSize ≤ length (now out) ⌝ }
+    ensures { λ o. ⌜ doneOf o (busOf (now (ps .exit)) (now (ns .exit)) (now (hs .exit)) (now (cs .exit)) (now (ends .exit)) (now (entries .exit)) (now (carried .exit)) (now (numbers .exit)) (now (pool .exit))) (now (out .exit)) ≡ commandOf (busOf (now (ps .entry)) (now (ns .entry)) (now (hs .entry)) (now (cs .entry)) (now (ends .entry)) (now (entries .entry)) (now (carried .entry)) (now (numbers .entry)) (now (pool .entry))) (now (f .entry)) (now (out .entry)) ⌝ }
+{
+    if !is_sound(ps, ns, hs, cs, ends, entries, carried, numbers, pool) {
+        return answers::write_refusal(out, EIO);
+    }
+    match frames::parse(f) {
+        Parsed::Refused(n) => answers::write_refusal(out, n),
+        Parsed::Read(c) => execute(
+            ps,
+            ns,
+            hs,
+            cs,
+            ends,
+            entries,
+            carried,
+            numbers,
+            pool,
+            f,
+            c,
+            out,
+        ),
+    }
 }
 
 // One command. Its answer is written into the answer buffer; the number, 0 or the refusal, and the answer's length come
@@ -315,7 +349,7 @@ pub fn command(
             len: 0,
         };
     }
-    if !is_sound(
+    obey(
         peers,
         nodes,
         handles,
@@ -325,26 +359,9 @@ pub fn command(
         carried,
         numbers,
         pool,
-    ) {
-        return answers::write_plain(out, Answer::Refused(EIO));
-    }
-    match frames::parse(frame) {
-        Parsed::Refused(n) => answers::write_plain(out, Answer::Refused(n)),
-        Parsed::Read(c) => execute(
-            peers,
-            nodes,
-            handles,
-            charges,
-            ends,
-            entries,
-            carried,
-            numbers,
-            pool,
-            frame,
-            c,
-            out,
-        ),
-    }
+        frame,
+        out,
+    )
 }
 
 fn clear_words(t: &mut [u64])

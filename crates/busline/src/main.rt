@@ -1,9 +1,9 @@
 // The line program: for each line of standard input one answer line on standard output. Every whole line that was read
 // is answered before more is read.
 ghost use mathlib.Core.Path.{_≡_};
-ghost use Prim.Native.Nat.{_+_, _<_, _≤_};
+ghost use Prim.Native.Nat.{_+_, _*_, _<_, _≤_};
 ghost use lib.ListN.{length};
-use answers::Outcome;
+ghost use Rattle.lines.specs.LineLaws.{Fits};
 use ids::EINVAL;
 use libc::STDIN_FILENO;
 use libc::STDOUT_FILENO;
@@ -15,8 +15,8 @@ const LONGEST: usize = 1183;
 
 // Writes out what stands in the text buffer, if the next line may not fit behind it. Where the next line goes.
 fn make_room(text: &[u8], at: usize) -> usize
-    requires { ⌜ at ≤ length (now text) ⌝ }
-    ensures { λ r. ⌜ r ≤ length (now (text .entry)) ⌝ }
+    requires { ⌜ (at ≤ length (now text)) × (1183 ≤ length (now text)) ⌝ }
+    ensures { λ r. ⌜ r + 1183 ≤ length (now (text .entry)) ⌝ }
 {
     if LONGEST <= text.len() - at {
         return at;
@@ -25,11 +25,15 @@ fn make_room(text: &[u8], at: usize) -> usize
     0
 }
 
-// Writes the line of some bytes into the text buffer. Where the next line goes.
+// Writes the line of some bytes into the text buffer, and nothing for none. Where the next line goes, behind all its
+// digits. No line is longer than the room that is made for it, so the last arm is never reached.
 fn say(text: &mut [u8], at: usize, bytes: &[u8]) -> usize
-    requires { ⌜ at ≤ length (now text) ⌝ }
-    ensures { λ r. ⌜ r ≤ length (now (text .entry)) ⌝ }
+    requires { ⌜ (at ≤ length (now text)) × (1183 ≤ length (now text)) × (length (now bytes) ≤ 591) ⌝ }
+    ensures { λ r. ⌜ (r ≤ length (now (text .entry))) × (2 * length (now (bytes .entry)) ≤ r) ⌝ }
 {
+    if bytes.len() == 0 {
+        return at;
+    }
     let start = make_room(text, at);
     match lines::write_line(text, start, bytes) {
         Written::Next(n) => n,
@@ -37,15 +41,17 @@ fn say(text: &mut [u8], at: usize, bytes: &[u8]) -> usize
     }
 }
 
-fn refuse(text: &mut [u8], at: usize) -> usize
-    requires { ⌜ at ≤ length (now text) ⌝ }
-    ensures { λ r. ⌜ r ≤ length (now (text .entry)) ⌝ }
+// The answer to a line that is no frame. Its length.
+fn refuse(out: &mut [u8]) -> usize
+    requires { ⌜ length (now out) ≡ 591 ⌝ }
+    ensures { λ r. ⌜ r ≤ 591 ⌝ }
 {
-    let bytes = [EINVAL];
-    say(text, at, &bytes)
+    out[0] = EINVAL;
+    1
 }
 
-fn answer_frame(
+// The answer to what was read, written into the answer buffer. Its length, 0 where the line's LF is missing.
+fn answer_read(
     peers: &mut [u64],
     nodes: &mut [u64],
     handles: &mut [u64],
@@ -56,36 +62,61 @@ fn answer_frame(
     numbers: &mut [u64],
     pool: &mut [u8],
     frame: &[u8],
-    text: &mut [u8],
-    at: usize,
+    read: LineRead,
+    out: &mut [u8],
 ) -> usize
-    requires { ⌜ at ≤ length (now text) ⌝ }
-    ensures { λ r. ⌜ r ≤ length (now (text .entry)) ⌝ }
+    requires { ⌜ (length (now frame) ≡ 646) × (length (now out) ≡ 591) ⌝ }
+    ensures { λ r. ⌜ r ≤ 591 ⌝ }
 {
-    let mut out = [0u8; 591];
-    let o = bus::command(
-        peers,
-        nodes,
-        handles,
-        charges,
-        ends,
-        entries,
-        carried,
-        numbers,
-        pool,
-        frame,
-        &mut out,
-    );
-    let len = copies::least(o.len, 591);
-    say(text, at, &out[..len])
+    match read {
+        LineRead::Frame(m, _) => {
+            let n = copies::least(m, 646);
+            let o = bus::command(
+                peers,
+                nodes,
+                handles,
+                charges,
+                ends,
+                entries,
+                carried,
+                numbers,
+                pool,
+                &frame[..n],
+                out,
+            );
+            copies::least(o.len, 591)
+        }
+        LineRead::Bad(_, _) => refuse(out),
+        LineRead::Piece(_) => 0,
+    }
 }
 
-// One line answered: how many characters it took, 0 where its LF is missing, and where the next answer line goes.
+// How many characters a line took, 0 where its LF is missing.
+fn used_by(s: &[u8], read: LineRead) -> usize
+    requires { ⌜ Fits (now s) read ⌝ }
+    ensures { λ r. ⌜ r ≤ length (now (s .entry)) ⌝ }
+{
+    match read {
+        LineRead::Frame(_, next) => next,
+        LineRead::Bad(_, next) => next,
+        LineRead::Piece(_) => 0,
+    }
+}
+
+// A turn: where the next line starts, how many characters the last one took, and where the next answer line goes.
 struct Turn {
+    from: usize,
     used: usize,
     at: usize,
 }
 
+fn turned(from: usize, used: usize, at: usize) -> Turn
+    ensures { λ r. ⌜ (r .from ≡ from) × (r .used ≡ used) × (r .at ≡ at) ⌝ }
+{
+    Turn { from, used, at }
+}
+
+// The line that starts at the turn's place answered, or nothing done where its LF is missing.
 fn answer_line(
     peers: &mut [u64],
     nodes: &mut [u64],
@@ -97,38 +128,34 @@ fn answer_line(
     numbers: &mut [u64],
     pool: &mut [u8],
     s: &[u8],
+    frame: &mut [u8; 646],
+    out: &mut [u8],
     text: &mut [u8],
-    at: usize,
+    t: Turn,
 ) -> Turn
-    requires { ⌜ at ≤ length (now text) ⌝ }
-    ensures { λ r. ⌜ (r .used ≤ length (now (s .entry))) × (r .at ≤ length (now (text .entry))) ⌝ }
+    requires { ⌜ (t .from ≤ length (now s)) × (t .at ≤ length (now text)) × (length (now out) ≡ 591) × (1183 ≤ length (now text)) ⌝ }
+    ensures { λ r. ⌜ (r .from ≡ t .from + r .used) × (r .from ≤ length (now (s .entry))) × (r .at ≤ length (now (text .entry))) ⌝ }
 {
-    let mut frame = [0u8; 646];
-    match lines::read_line(s, &mut frame) {
-        LineRead::Frame(m, next) => {
-            let n = copies::least(m, 646);
-            let to = answer_frame(
-                peers,
-                nodes,
-                handles,
-                charges,
-                ends,
-                entries,
-                carried,
-                numbers,
-                pool,
-                &frame[..n],
-                text,
-                at,
-            );
-            Turn { used: next, at: to }
-        }
-        LineRead::Bad(_, next) => {
-            let to = refuse(text, at);
-            Turn { used: next, at: to }
-        }
-        LineRead::Piece(_) => Turn { used: 0, at },
-    }
+    let from = t.from;
+    let line = &s[from..];
+    let read = lines::read_line(line, frame);
+    let len = answer_read(
+        peers,
+        nodes,
+        handles,
+        charges,
+        ends,
+        entries,
+        carried,
+        numbers,
+        pool,
+        frame,
+        read,
+        out,
+    );
+    let at = say(text, t.at, &out[..len]);
+    let used = used_by(line, read);
+    turned(from + used, used, at)
 }
 
 // The whole lines of the input answered. Where the piece behind the last LF starts.
@@ -143,15 +170,16 @@ fn answer_lines(
     numbers: &mut [u64],
     pool: &mut [u8],
     s: &[u8],
+    frame: &mut [u8; 646],
+    out: &mut [u8],
     text: &mut [u8],
 ) -> usize
+    requires { ⌜ (length (now out) ≡ 591) × (1183 ≤ length (now text)) ⌝ }
     ensures { λ r. ⌜ r ≤ length (now (s .entry)) ⌝ }
 {
-    let mut from = 0;
-    let mut at = 0;
-    let mut used = 1;
-    while used > 0 {
-        let t = answer_line(
+    let mut t = turned(0, 1, 0);
+    while t.used > 0 {
+        t = answer_line(
             peers,
             nodes,
             handles,
@@ -161,16 +189,15 @@ fn answer_lines(
             carried,
             numbers,
             pool,
-            &s[from..],
+            s,
+            frame,
+            out,
             text,
-            at,
+            t,
         );
-        at = t.at;
-        used = t.used;
-        from += used;
     }
-    io::write_all(STDOUT_FILENO, &text[..at]);
-    from
+    io::write_all(STDOUT_FILENO, &text[..t.at]);
+    t.from
 }
 
 fn read_behind(buf: &mut [u8], held: usize) -> usize
@@ -201,9 +228,11 @@ fn answer_chunk(
     pool: &mut [u8],
     buf: &mut [u8],
     held: usize,
+    frame: &mut [u8; 646],
+    out: &mut [u8],
     text: &mut [u8],
 ) -> Chunk
-    requires { ⌜ (held ≤ 1293) × (length (now buf) ≡ 65536) ⌝ }
+    requires { ⌜ (held ≤ 1293) × (length (now buf) ≡ 65536) × (length (now out) ≡ 591) × (1183 ≤ length (now text)) ⌝ }
     ensures { λ r. ⌜ r .held ≤ 1293 ⌝ }
 {
     let got = read_behind(buf, held);
@@ -219,6 +248,8 @@ fn answer_chunk(
         numbers,
         pool,
         &buf[..end],
+        frame,
+        out,
         text,
     );
     let rest = lines::carry_over(buf, from, end);
@@ -245,7 +276,8 @@ fn answer_end(held: usize) {
     io::write_all(STDOUT_FILENO, &line);
 }
 
-// The loop counts its turns down from a number that no run uses up.
+// The loop counts its turns down from a number that no run uses up. The buffers for a frame and for its answer are made
+// once, here.
 fn run(
     peers: &mut [u64],
     nodes: &mut [u64],
@@ -259,12 +291,14 @@ fn run(
     buf: &mut [u8],
     text: &mut [u8],
 )
-    requires { ⌜ length (now buf) ≡ 65536 ⌝ }
+    requires { ⌜ (length (now buf) ≡ 65536) × (1183 ≤ length (now text)) ⌝ }
 {
-    let mut held = 0;
+    let mut frame = [0u8; 646];
+    let mut out = [0u8; 591];
+    let mut t = Chunk { got: 1, held: 0 };
     let mut turns = u64::MAX;
     while turns > 0 {
-        let t = answer_chunk(
+        t = answer_chunk(
             peers,
             nodes,
             handles,
@@ -275,13 +309,14 @@ fn run(
             numbers,
             pool,
             buf,
-            held,
+            t.held,
+            &mut frame,
+            &mut out,
             text,
         );
-        held = t.held;
         turns = turns_left(turns, t.got);
     }
-    answer_end(held);
+    answer_end(t.held);
 }
 
 fn main() {

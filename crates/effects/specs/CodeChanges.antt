@@ -38,10 +38,10 @@ module _ (ps : List ℕ) {ps′ : List ℕ} (ep : ps′ ≡ countCommand ps) whe
   transfer-done ns hs r q s e = rw (← ep) e
 
 -- destroy
-pub destroy-done : (ps ns hs : List ℕ) (r : Rings) (p s : ℕ) {n : ℕ} {ps′ : List ℕ} → countedOf n ps′ ≡ counted ps → {m : Match} → m ≡ oneSlot 4 s →
-    {ns′ : List ℕ} {r′ : Rings} → destroyedOf ns′ r′ ≡ destroyedSet ns hs r p (m .mask) n → destroysOf ps′ ns′ r′ ≡ destroys ps ns hs r p s
+pub destroy-done : (ps ns hs : List ℕ) (r : Rings) (p s : ℕ) {n : ℕ} {ps′ : List ℕ} → countedOf n ps′ ≡ counted ps →
+    {ns′ : List ℕ} {r′ : Rings} → destroyedOf ns′ r′ ≡ destroyedSet ns hs r p (oneSlot 4 s .mask) n → destroysOf ps′ ns′ r′ ≡ destroys ps ns hs r p s
 unfolding destroys
-destroy-done ps ns hs r p s ec em ed = rw (← ec, ← em, ← ed)
+destroy-done ps ns hs r p s ec ed = rw (← ec, ← ed)
 
 -- forget
 module _ (q : Queues) (p s : ℕ) {k : ℕ} {m : Match} (em : m ≡ oneSlot k s) {q′ : Queues} (eq : q′ ≡ removedFrom q p m) where

@@ -456,7 +456,7 @@ deliver-view b s g u ds hs payload lu few lh lb ind inh ok x e =
 
 pub send-view : (b : Bus) → Shape b → Good (stateOf b) → (p : ℕ) → p < 8 → (f : List ℕ) (z : Sizes) → legal.Sized f z →
     refusesSend (stateOf b) p (destinations f z) (attached f z) (length (payloadOf f)) ≡ 0 →
-    stateOf (afterSend b p z (placesOf (stateOf b) p f z) (payloadOf f))
+    stateOf (afterSend b p z (placesOf (slot (stateOf b) p) f z) (payloadOf f))
     ≡ deliver (accept (stateOf b)) (stateOf b .user p) (map (slot (stateOf b) p) (destinations f z)) (map (slot (stateOf b) p) (attached f z)) (payloadOf f)
 unfolding sends counted placesOf refusal
 send-view b s g p l f z sizes e =

@@ -16,13 +16,12 @@ use answers::Received;
 use frames::Sizes;
 use ids::HandleId;
 use ids::Peer;
+use ids::SLOTS;
 use ids::User;
 use judges::Places;
 use notices::Asked;
 use rings::Entry;
 use rings::Match;
-
-const SLOTS: usize = 16;
 
 // The kinds of entry that a removal takes out, each a bit: notices; all.
 const NOTICES: u8 = 6;
@@ -77,9 +76,7 @@ pub fn destroy(
     ensures { λ _. ⌜ destroysOf (now (peers .exit)) (now (nodes .exit)) (ringsOf (now (ends .exit)) (now (entries .exit)) (now (carried .exit)) (now (numbers .exit))) ≡ destroys (now (peers .entry)) (now (nodes .entry)) (now (handles .entry)) (ringsOf (now (ends .entry)) (now (entries .entry)) (now (carried .entry)) (now (numbers .entry))) (p .0) s ⌝ }
 {
     let n = next_number(peers);
-    let m = Match::one_slot(notices::RELEASED_BIT, s);
-    let set = m.mask;
-    notices::destroy_set(nodes, handles, ends, entries, carried, numbers, p, set, n);
+    notices::destroy_one(nodes, handles, ends, entries, carried, numbers, p, s, n);
 }
 
 // The peer's handle to the slot's node is gone: its notices go, and the messages for its own node.

@@ -9,6 +9,8 @@ use ids::EINVAL;
 use ids::EMSGSIZE;
 use ids::ENOTTY;
 use ids::HandleId;
+use ids::INVALID;
+use ids::MOST_BYTES;
 use ids::Peer;
 use ids::User;
 
@@ -17,10 +19,6 @@ const LAST_PEER: u8 = 7;
 const LAST_USER: u8 = 3;
 
 const MOST_IDS: u8 = 8;
-
-const MOST_BYTES: usize = 512;
-
-const INVALID: u64 = 18446744073709551615;
 
 // The numbers of a send: destinations, attached handles, payload bytes.
 pub struct Sizes {

@@ -5,12 +5,10 @@ ghost use lib.ListN.{length};
 ghost use Rattle.rings.specs.Rings.{rowsOf, ringsOf, endCount, Sized};
 ghost use Rattle.grants.specs.Grants.{numbered, numberedOf, shownTo, referencedOf, referenced, givenOf, givenTo, givesOf, givesTo, idOrInvalid};
 use ids::HandleId;
+use ids::INVALID;
 use ids::Peer;
+use ids::SLOTS;
 use rings::Match;
-
-const INVALID: u64 = 18446744073709551615;
-
-const SLOTS: usize = 16;
 
 // A new ID for the peer.
 fn next_id(peers: &mut [u64], p: Peer) -> HandleId

@@ -1,4 +1,5 @@
-// The three kinds of number of document 01, "three kinds and must not be mixable by accident", and the refusal numbers.
+// The three kinds of number of document 01, "three kinds and must not be mixable by accident", the refusal numbers, and the
+// sizes that several crates need.
 
 // A peer, 0 to 7 on a bus: the place of its rows in a peer's table.
 pub struct Peer(pub usize);
@@ -39,3 +40,23 @@ pub const ESHUTDOWN: u8 = 108;
 pub const EHOSTUNREACH: u8 = 113;
 
 pub const EDQUOT: u8 = 122;
+
+// The invalid ID, all ones.
+pub const INVALID: u64 = 18446744073709551615;
+
+// The slots of one owner, and of all.
+pub const SLOTS: usize = 16;
+
+pub const NODES: usize = 128;
+
+// The rows of one peer's ring.
+pub const RING: usize = 512;
+
+// The bytes of one peer's area in the pool.
+pub const AREA: usize = 4096;
+
+// The payload bytes of a send, at most.
+pub const MOST_BYTES: usize = 512;
+
+// The bytes of an answer buffer, at least.
+pub const ANSWER_SIZE: usize = 591;

@@ -17,64 +17,60 @@ use Rattle.rings.specs.Rings.{Rings}
 use Rattle.tables.specs.declared.Found.{Found}
 use Rattle.tables.specs.declared.Found.the-variants.{At, Nothing}
 use Rattle.tables.specs.Nodes.{liveAt}
-use Rattle.tables.specs.NodesView.{live-is}
-use Rattle.tables.specs.Handles.{lookup, holdersAt}
-use Rattle.tables.specs.HandlesView.{holders-any}
+use Rattle.tables.specs.Handles.{lookup, findAt, holdersAt}
 use Rattle.queues.specs.Queues.{namedIn}
-use Rattle.queues.specs.Asking.{named-view}
 use Rattle.model.specs.Numbers.{slots}
-use Rattle.model.specs.State.{counts, freePlace}
-use Rattle.model.specs.Refusals.{refusesCreate}
+use Rattle.model.specs.Refusals.{createBy}
 use Rattle.judges.specs.declared.Order.the-variants as order
-use Rattle.judges.specs.Orders.{unless, seen, startsAt, placeFound}
+use Rattle.judges.specs.Orders.{unless, seen, noRings, countsAt, freeAt, startsAt, placeFound}
 use Rattle.judges.specs.CodeOrders.{refused, granted, missing, found, stop, pass}
 
 -- counts
-module _ (ns hs : List ℕ) (rs : Rings) (s : ℕ) (ls : s < 128) {a : Bool} (ea : a ≡ liveAt ns s) where
-  pub counts-live : a ≡ true → true ≡ counts (seen [] ns hs [] rs) s
-  unfolding counts
-  counts-live f = rw (← live-is ns s ls, ← ea, f)
+module _ (ns hs cs : List ℕ) (rs : Rings) (s : ℕ) {a : Bool} (ea : a ≡ liveAt ns s) where
+  pub counts-live : a ≡ true → true ≡ countsAt ns hs cs rs s
+  unfolding countsAt
+  counts-live f = rw (← ea, f)
 
   module _ (f : a ≡ false) {h : ℕ} (eh : h ≡ holdersAt hs s) where
-    pub counts-held : (h ≡ 0 → ⊥) → true ≡ counts (seen [] ns hs [] rs) s
-    unfolding counts
-    counts-held ne = rw (← live-is ns s ls, ← ea, f, holders-any hs s ls, ← eh, ne-eqb h 0 ne)
+    pub counts-held : (h ≡ 0 → ⊥) → true ≡ countsAt ns hs cs rs s
+    unfolding countsAt
+    counts-held ne = rw (← ea, f, ← eh, ne-eqb h 0 ne)
 
-    pub counts-named : h ≡ 0 → {b : Bool} → b ≡ namedIn rs s → b ≡ counts (seen [] ns hs [] rs) s
-    unfolding counts
-    counts-named z eb = rw (← live-is ns s ls, ← ea, f, holders-any hs s ls, ← eh, z, ← named-view rs [] s) eb
+    pub counts-named : h ≡ 0 → {b : Bool} → b ≡ namedIn cs rs s → b ≡ countsAt ns hs cs rs s
+    unfolding countsAt
+    counts-named z eb = rw (← ea, f, ← eh, z) eb
 
 -- free_slot
-pub record Taken (ns hs : List ℕ) (rs : Rings) (p k : ℕ) : Type 0 where
+pub record Taken (ns hs cs : List ℕ) (rs : Rings) (p k : ℕ) : Type 0 where
   pub some : k ≤ 16
-  pub before : (j : ℕ) → j < k → not (counts (seen [] ns hs [] rs) (p * 16 + j)) ≡ false
+  pub before : (j : ℕ) → j < k → not (countsAt ns hs cs rs (p * 16 + j)) ≡ false
 
-module _ (ns hs : List ℕ) (rs : Rings) (p : ℕ) where
-  pub taken-start : Taken ns hs rs p 0
+module _ (ns hs cs : List ℕ) (rs : Rings) (p : ℕ) where
+  pub taken-start : Taken ns hs cs rs p 0
   taken-start = record { some = omega arith; before = λ j l. absurd (omega arith) }
 
-  module _ (k : ℕ) (w : Taken ns hs rs p k) where
-    module _ (h : k < 16) {b : Bool} (eb : b ≡ counts (seen [] ns hs [] rs) (p * 16 + k)) where
-      pub taken-free : b ≡ false → At (p * 16 + k) ≡ placeFound p (freePlace (seen [] ns hs [] rs) p)
-      unfolding freePlace
+  module _ (k : ℕ) (w : Taken ns hs cs rs p k) where
+    module _ (h : k < 16) {b : Bool} (eb : b ≡ countsAt ns hs cs rs (p * 16 + k)) where
+      pub taken-free : b ≡ false → At (p * 16 + k) ≡ placeFound p (freeAt ns hs cs rs p)
+      unfolding freeAt
       taken-free f =
-          let here : not (counts (seen [] ns hs [] rs) (p * 16 + k)) ≡ true = rw (← eb, f) in
-          let e : k ≡ first (λ j. not (counts (seen [] ns hs [] rs) (p * 16 + j))) 16 =
-          first-is (λ j. not (counts (seen [] ns hs [] rs) (p * 16 + j))) 16 k (omega arith) (w .before) (λ _. here) in
+          let here : not (countsAt ns hs cs rs (p * 16 + k)) ≡ true = rw (← eb, f) in
+          let e : k ≡ first (λ j. not (countsAt ns hs cs rs (p * 16 + j))) 16 =
+          first-is (λ j. not (countsAt ns hs cs rs (p * 16 + j))) 16 k (omega arith) (w .before) (λ _. here) in
           rw (← e, lt-ltb k 16 h)
 
-      pub taken-more : b ≡ true → Taken ns hs rs p (k + 1)
+      pub taken-more : b ≡ true → Taken ns hs cs rs p (k + 1)
       taken-more f = record {
         some = omega arith;
-        before = below-more (λ j. not (counts (seen [] ns hs [] rs) (p * 16 + j)) ≡ false) k (w .before) (rw (← eb, f));
+        before = below-more (λ j. not (countsAt ns hs cs rs (p * 16 + j)) ≡ false) k (w .before) (rw (← eb, f));
       }
 
-    pub taken-all : 16 ≤ k → Nothing ≡ placeFound p (freePlace (seen [] ns hs [] rs) p)
-    unfolding freePlace
+    pub taken-all : 16 ≤ k → Nothing ≡ placeFound p (freeAt ns hs cs rs p)
+    unfolding freeAt
     taken-all h =
         let z : 16 ≡ k = omega (arith, w .some) in
-        let e : 16 ≡ first (λ j. not (counts (seen [] ns hs [] rs) (p * 16 + j))) 16 =
-        first-is (λ j. not (counts (seen [] ns hs [] rs) (p * 16 + j))) 16 16 (omega arith) (λ j l. w .before j (omega arith)) (λ l. absurd (omega arith)) in
+        let e : 16 ≡ first (λ j. not (countsAt ns hs cs rs (p * 16 + j))) 16 =
+        first-is (λ j. not (countsAt ns hs cs rs (p * 16 + j))) 16 16 (omega arith) (λ j l. w .before j (omega arith)) (λ l. absurd (omega arith)) in
         rw (← e)
 
 -- judge_create
@@ -104,34 +100,24 @@ place-at p k s e = go (look (ltb k 16))
         let z : _≡_ {A = ℕ} 0 1 = cc in
         absurd (omega arith)
 
--- the peers and the charges do not matter to the search
-free-same : (ps ns hs : List ℕ) (rs : Rings) (p : ℕ) → freePlace (seen ps ns hs [] rs) p ≡ freePlace (seen [] ns hs [] rs) p
-unfolding freePlace counts
-free-same ps ns hs rs p = refl
-
-module _ (ps : List ℕ) (p : Peer) (l : p .0 < 8) {n : ℕ} (e : n ≡ startsAt ps (p .0)) (ns hs : List ℕ) (rs : Rings) (i : HandleId) where
-  pub create-refused : (n ≡ 0 → ⊥) → order.Refuse n ≡ unless (refusesCreate (seen ps ns hs [] rs) (p .0) (i .0)) (order.Create p i (p .0 * slots + freePlace (seen ps ns hs [] rs) (p .0)))
-  unfolding refusesCreate
+module _ (ps : List ℕ) (p : Peer) (l : p .0 < 8) {n : ℕ} (e : n ≡ startsAt ps (p .0)) (ns hs cs : List ℕ) (rs : Rings) (i : HandleId) where
+  pub create-refused : (n ≡ 0 → ⊥) → order.Refuse n ≡ unless (createBy (findAt hs (p .0)) (freeAt ns hs cs rs (p .0)) (seen ps [] [] [] noRings) (p .0) (i .0)) (order.Create p i (p .0 * slots + freeAt ns hs cs rs (p .0)))
   create-refused ne = refused _ (stop ps p l e ne _) ne
 
   module _ (z : n ≡ 0) {x : Found} (ex : x ≡ lookup hs (p .0) (i .0)) where
-    pub create-held : (s : ℕ) → x ≡ At s → order.Refuse EEXIST ≡ unless (refusesCreate (seen ps ns hs [] rs) (p .0) (i .0)) (order.Create p i (p .0 * slots + freePlace (seen ps ns hs [] rs) (p .0)))
-    unfolding refusesCreate
+    pub create-held : (s : ℕ) → x ≡ At s → order.Refuse EEXIST ≡ unless (createBy (findAt hs (p .0)) (freeAt ns hs cs rs (p .0)) (seen ps [] [] [] noRings) (p .0) (i .0)) (order.Create p i (p .0 * slots + freeAt ns hs cs rs (p .0)))
     create-held s f =
         let w = found hs (p .0) l (i .0) ex s f in
         refused _ (pass ps p l e z _ ∙ rw (← w .0, lt-ltb s 128 (w .1))) (λ y. absurd (omega arith))
 
-    module _ (f : x ≡ Nothing) {y : Found} (ey : y ≡ placeFound (p .0) (freePlace (seen [] ns hs [] rs) (p .0))) where
-      pub create-full : y ≡ Nothing → order.Refuse ENOSPC ≡ unless (refusesCreate (seen ps ns hs [] rs) (p .0) (i .0)) (order.Create p i (p .0 * slots + freePlace (seen ps ns hs [] rs) (p .0)))
-      unfolding refusesCreate
+    module _ (f : x ≡ Nothing) {y : Found} (ey : y ≡ placeFound (p .0) (freeAt ns hs cs rs (p .0))) where
+      pub create-full : y ≡ Nothing → order.Refuse ENOSPC ≡ unless (createBy (findAt hs (p .0)) (freeAt ns hs cs rs (p .0)) (seen ps [] [] [] noRings) (p .0) (i .0)) (order.Create p i (p .0 * slots + freeAt ns hs cs rs (p .0)))
       create-full g =
-          let b : ltb (freePlace (seen [] ns hs [] rs) (p .0)) 16 ≡ false = place-none (p .0) (freePlace (seen [] ns hs [] rs) (p .0)) (sym g ∙ ey) in
-          refused _ (pass ps p l e z _ ∙ rw (missing hs (p .0) l (i .0) ex f, free-same ps ns hs rs (p .0), b)) (λ y. absurd (omega arith))
+          let b : ltb (freeAt ns hs cs rs (p .0)) 16 ≡ false = place-none (p .0) (freeAt ns hs cs rs (p .0)) (sym g ∙ ey) in
+          refused _ (pass ps p l e z _ ∙ rw (missing hs (p .0) l (i .0) ex f, b)) (λ y. absurd (omega arith))
 
-      pub create-granted : (s : ℕ) → y ≡ At s → order.Create p i s ≡ unless (refusesCreate (seen ps ns hs [] rs) (p .0) (i .0)) (order.Create p i (p .0 * slots + freePlace (seen ps ns hs [] rs) (p .0)))
-      unfolding refusesCreate
+      pub create-granted : (s : ℕ) → y ≡ At s → order.Create p i s ≡ unless (createBy (findAt hs (p .0)) (freeAt ns hs cs rs (p .0)) (seen ps [] [] [] noRings) (p .0) (i .0)) (order.Create p i (p .0 * slots + freeAt ns hs cs rs (p .0)))
       create-granted s g =
-          let b = place-at (p .0) (freePlace (seen [] ns hs [] rs) (p .0)) s (sym g ∙ ey) in
-          let c : s ≡ p .0 * slots + freePlace (seen ps ns hs [] rs) (p .0) = b .1 ∙ ap (λ (k : ℕ). p .0 * slots + k) (sym (free-same ps ns hs rs (p .0))) in
-          ap (order.Create p i) c
-          ∙ granted _ (pass ps p l e z _ ∙ rw (missing hs (p .0) l (i .0) ex f, free-same ps ns hs rs (p .0), b .0))
+          let b = place-at (p .0) (freeAt ns hs cs rs (p .0)) s (sym g ∙ ey) in
+          ap (order.Create p i) (b .1)
+          ∙ granted _ (pass ps p l e z _ ∙ rw (missing hs (p .0) l (i .0) ex f, b .0))

@@ -23,13 +23,12 @@ use Rattle.tables.specs.Peers.{acceptedAt, statusAt, standingAt}
 use Rattle.tables.specs.PeersView.{statusV, acceptedV, status-is, present-is, accepted-is}
 use Rattle.tables.specs.Nodes.{liveAt}
 use Rattle.tables.specs.NodesView.{live-is}
-use Rattle.tables.specs.Handles.{countAt, lookup}
-use Rattle.tables.specs.HandlesView.{handleV, count-is, lookup-at, lookup-nothing}
+use Rattle.tables.specs.Handles.{countAt, lookup, findAt}
+use Rattle.tables.specs.HandlesView.{count-is, lookup-at, lookup-nothing}
 use Rattle.queues.specs.Queues.{isMessage}
 use Rattle.queues.specs.Asking.{takeable-view}
 use Rattle.model.specs.Numbers.{mostCommands}
-use Rattle.model.specs.State.{slot, slotOf}
-use Rattle.model.specs.Refusals.{present, pinned, refusesOpen, refusesDisconnect, refusesDestroy, refusesRelease, refusesTransfer, refusesReceive, refusesQuota, refusesHolders}
+use Rattle.model.specs.Refusals.{present, pinned, refusesOpen, refusesDisconnect, destroyBy, releaseBy, transferBy, refusesReceive, refusesQuota, holdersBy}
 use Rattle.judges.specs.declared.Order.{Order}
 use Rattle.judges.specs.declared.Order.the-variants as order
 use Rattle.judges.specs.Orders.{unless, seen, noRings, startsAt, tooLarge}
@@ -82,10 +81,10 @@ module _ (ps : List ℕ) (p : Peer) (u : User) (l : p .0 < 8) {a : ℕ} (e : a �
 
 -- What a lookup found.
 module _ (hs : List ℕ) (p : ℕ) (l : p < 8) (i : ℕ) {x : Found} (ex : x ≡ lookup hs p i) where
-  pub missing : x ≡ Nothing → slotOf (handleV hs p) i ≡ 128
-  missing f = lookup-nothing hs p i l (sym ex ∙ f)
+  pub missing : x ≡ Nothing → findAt hs p i ≡ 128
+  missing f = lookup-nothing hs p i (sym ex ∙ f)
 
-  pub found : (s : ℕ) → x ≡ At s → (s ≡ slotOf (handleV hs p) i) × (s < 128)
+  pub found : (s : ℕ) → x ≡ At s → (s ≡ findAt hs p i) × (s < 128)
   found s f = lookup-at hs p i l s (sym ex ∙ f)
 
 -- pinned
@@ -119,87 +118,73 @@ module _ (ps : List ℕ) (p : Peer) (l : p .0 < 8) {n : ℕ} (e : n ≡ startsAt
 
   -- judge_destroy
   module _ (ns hs : List ℕ) (i : HandleId) where
-    pub destroy-refused : (n ≡ 0 → ⊥) → order.Refuse n ≡ unless (refusesDestroy (seen ps ns hs [] noRings) (p .0) (i .0)) (order.Destroy p (slot (seen ps ns hs [] noRings) (p .0) (i .0)))
-    unfolding refusesDestroy
+    pub destroy-refused : (n ≡ 0 → ⊥) → order.Refuse n ≡ unless (destroyBy (findAt hs (p .0)) (seen ps ns hs [] noRings) (p .0) (i .0)) (order.Destroy p (findAt hs (p .0) (i .0)))
     destroy-refused ne = refused _ (stop ne _) ne
 
     module _ (z : n ≡ 0) {x : Found} (ex : x ≡ lookup hs (p .0) (i .0)) where
-      pub destroy-missing : x ≡ Nothing → order.Refuse ENXIO ≡ unless (refusesDestroy (seen ps ns hs [] noRings) (p .0) (i .0)) (order.Destroy p (slot (seen ps ns hs [] noRings) (p .0) (i .0)))
-      unfolding refusesDestroy
+      pub destroy-missing : x ≡ Nothing → order.Refuse ENXIO ≡ unless (destroyBy (findAt hs (p .0)) (seen ps ns hs [] noRings) (p .0) (i .0)) (order.Destroy p (findAt hs (p .0) (i .0)))
       destroy-missing f = refused _ (pass z _ ∙ rw (missing hs (p .0) l (i .0) ex f)) (λ y. absurd (omega arith))
 
       module _ (s : ℕ) (f : x ≡ At s) where
-        pub destroy-foreign : (s / 16 ≡ p .0 → ⊥) → order.Refuse EPERM ≡ unless (refusesDestroy (seen ps ns hs [] noRings) (p .0) (i .0)) (order.Destroy p (slot (seen ps ns hs [] noRings) (p .0) (i .0)))
-        unfolding refusesDestroy
+        pub destroy-foreign : (s / 16 ≡ p .0 → ⊥) → order.Refuse EPERM ≡ unless (destroyBy (findAt hs (p .0)) (seen ps ns hs [] noRings) (p .0) (i .0)) (order.Destroy p (findAt hs (p .0) (i .0)))
         destroy-foreign ne =
             let w = found hs (p .0) l (i .0) ex s f in
             refused _ (pass z _ ∙ rw (← w .0, lt-ltb s 128 (w .1), ne-eqb (s / 16) (p .0) ne)) (λ y. absurd (omega arith))
 
         module _ (o : s / 16 ≡ p .0) {b : Bool} (eb : b ≡ liveAt ns s) where
-          pub destroy-dead : b ≡ false → order.Refuse EHOSTUNREACH ≡ unless (refusesDestroy (seen ps ns hs [] noRings) (p .0) (i .0)) (order.Destroy p (slot (seen ps ns hs [] noRings) (p .0) (i .0)))
-          unfolding refusesDestroy
+          pub destroy-dead : b ≡ false → order.Refuse EHOSTUNREACH ≡ unless (destroyBy (findAt hs (p .0)) (seen ps ns hs [] noRings) (p .0) (i .0)) (order.Destroy p (findAt hs (p .0) (i .0)))
           destroy-dead g =
               let w = found hs (p .0) l (i .0) ex s f in
               refused _ (pass z _ ∙ rw (← w .0, lt-ltb s 128 (w .1), eq-eqb (s / 16) (p .0) o, ← live-is ns s (w .1), ← eb, g)) (λ y. absurd (omega arith))
 
-          pub destroy-granted : b ≡ true → order.Destroy p s ≡ unless (refusesDestroy (seen ps ns hs [] noRings) (p .0) (i .0)) (order.Destroy p (slot (seen ps ns hs [] noRings) (p .0) (i .0)))
-          unfolding refusesDestroy
+          pub destroy-granted : b ≡ true → order.Destroy p s ≡ unless (destroyBy (findAt hs (p .0)) (seen ps ns hs [] noRings) (p .0) (i .0)) (order.Destroy p (findAt hs (p .0) (i .0)))
           destroy-granted g =
               let w = found hs (p .0) l (i .0) ex s f in
               ap (order.Destroy p) (w .0)
               ∙ granted _ (pass z _ ∙ rw (← w .0, lt-ltb s 128 (w .1), eq-eqb (s / 16) (p .0) o, ← live-is ns s (w .1), ← eb, g))
 
     -- judge_release
-    pub release-refused : (n ≡ 0 → ⊥) → order.Refuse n ≡ unless (refusesRelease (seen ps ns hs [] noRings) (p .0) (i .0)) (order.Release p (slot (seen ps ns hs [] noRings) (p .0) (i .0)))
-    unfolding refusesRelease
+    pub release-refused : (n ≡ 0 → ⊥) → order.Refuse n ≡ unless (releaseBy (findAt hs (p .0)) (seen ps ns hs [] noRings) (p .0) (i .0)) (order.Release p (findAt hs (p .0) (i .0)))
     release-refused ne = refused _ (stop ne _) ne
 
     module _ (z : n ≡ 0) {x : Found} (ex : x ≡ lookup hs (p .0) (i .0)) where
-      pub release-missing : x ≡ Nothing → order.Refuse ENXIO ≡ unless (refusesRelease (seen ps ns hs [] noRings) (p .0) (i .0)) (order.Release p (slot (seen ps ns hs [] noRings) (p .0) (i .0)))
-      unfolding refusesRelease
+      pub release-missing : x ≡ Nothing → order.Refuse ENXIO ≡ unless (releaseBy (findAt hs (p .0)) (seen ps ns hs [] noRings) (p .0) (i .0)) (order.Release p (findAt hs (p .0) (i .0)))
       release-missing f = refused _ (pass z _ ∙ rw (missing hs (p .0) l (i .0) ex f)) (λ y. absurd (omega arith))
 
       module _ (s : ℕ) (f : x ≡ At s) {b : Bool} (eb : b ≡ pinned (seen [] ns hs [] noRings) (p .0) s) where
-        pub release-pinned : b ≡ true → order.Refuse EPERM ≡ unless (refusesRelease (seen ps ns hs [] noRings) (p .0) (i .0)) (order.Release p (slot (seen ps ns hs [] noRings) (p .0) (i .0)))
-        unfolding refusesRelease
+        pub release-pinned : b ≡ true → order.Refuse EPERM ≡ unless (releaseBy (findAt hs (p .0)) (seen ps ns hs [] noRings) (p .0) (i .0)) (order.Release p (findAt hs (p .0) (i .0)))
         release-pinned g =
             let w = found hs (p .0) l (i .0) ex s f in
             refused _ (pass z _ ∙ rw (← w .0, lt-ltb s 128 (w .1), ← eb, g)) (λ y. absurd (omega arith))
 
-        pub release-granted : b ≡ false → order.Release p s ≡ unless (refusesRelease (seen ps ns hs [] noRings) (p .0) (i .0)) (order.Release p (slot (seen ps ns hs [] noRings) (p .0) (i .0)))
-        unfolding refusesRelease
+        pub release-granted : b ≡ false → order.Release p s ≡ unless (releaseBy (findAt hs (p .0)) (seen ps ns hs [] noRings) (p .0) (i .0)) (order.Release p (findAt hs (p .0) (i .0)))
         release-granted g =
             let w = found hs (p .0) l (i .0) ex s f in
             ap (order.Release p) (w .0) ∙ granted _ (pass z _ ∙ rw (← w .0, lt-ltb s 128 (w .1), ← eb, g))
 
     -- judge_transfer
     module _ (q : Peer) (lq : q .0 < 8) where
-      pub transfer-refused : (n ≡ 0 → ⊥) → order.Refuse n ≡ unless (refusesTransfer (seen ps ns hs [] noRings) (p .0) (i .0) (q .0)) (order.Transfer q (slot (seen ps ns hs [] noRings) (p .0) (i .0)))
-      unfolding refusesTransfer
+      pub transfer-refused : (n ≡ 0 → ⊥) → order.Refuse n ≡ unless (transferBy (findAt hs (p .0)) (seen ps ns hs [] noRings) (p .0) (i .0) (q .0)) (order.Transfer q (findAt hs (p .0) (i .0)))
       transfer-refused ne = refused _ (stop ne _) ne
 
       module _ (z : n ≡ 0) {m : ℕ} (em : m ≡ standingAt ps (q .0)) where
-        pub transfer-absent : (m ≡ 0 → ⊥) → order.Refuse m ≡ unless (refusesTransfer (seen ps ns hs [] noRings) (p .0) (i .0) (q .0)) (order.Transfer q (slot (seen ps ns hs [] noRings) (p .0) (i .0)))
-        unfolding refusesTransfer
+        pub transfer-absent : (m ≡ 0 → ⊥) → order.Refuse m ≡ unless (transferBy (findAt hs (p .0)) (seen ps ns hs [] noRings) (p .0) (i .0) (q .0)) (order.Transfer q (findAt hs (p .0) (i .0)))
         transfer-absent ne = refused _ (pass z _ ∙ present-is ps (q .0) lq _ ∙ rw (← em, ne-eqb m 0 ne)) ne
 
         module _ (zm : m ≡ 0) {x : Found} (ex : x ≡ lookup hs (p .0) (i .0)) where
           there : (r : ℕ) → present (statusV ps (q .0)) r ≡ r
           there r = present-is ps (q .0) lq r ∙ rw (← em, zm)
 
-          pub transfer-missing : x ≡ Nothing → order.Refuse ENXIO ≡ unless (refusesTransfer (seen ps ns hs [] noRings) (p .0) (i .0) (q .0)) (order.Transfer q (slot (seen ps ns hs [] noRings) (p .0) (i .0)))
-          unfolding refusesTransfer
+          pub transfer-missing : x ≡ Nothing → order.Refuse ENXIO ≡ unless (transferBy (findAt hs (p .0)) (seen ps ns hs [] noRings) (p .0) (i .0) (q .0)) (order.Transfer q (findAt hs (p .0) (i .0)))
           transfer-missing f = refused _ (pass z _ ∙ there _ ∙ rw (missing hs (p .0) l (i .0) ex f)) (λ y. absurd (omega arith))
 
           module _ (s : ℕ) (f : x ≡ At s) {b : Bool} (eb : b ≡ liveAt ns s) where
-            pub transfer-dead : b ≡ false → order.Refuse EHOSTUNREACH ≡ unless (refusesTransfer (seen ps ns hs [] noRings) (p .0) (i .0) (q .0)) (order.Transfer q (slot (seen ps ns hs [] noRings) (p .0) (i .0)))
-            unfolding refusesTransfer
+            pub transfer-dead : b ≡ false → order.Refuse EHOSTUNREACH ≡ unless (transferBy (findAt hs (p .0)) (seen ps ns hs [] noRings) (p .0) (i .0) (q .0)) (order.Transfer q (findAt hs (p .0) (i .0)))
             transfer-dead g =
                 let w = found hs (p .0) l (i .0) ex s f in
                 refused _ (pass z _ ∙ there _ ∙ rw (← w .0, lt-ltb s 128 (w .1), ← live-is ns s (w .1), ← eb, g)) (λ y. absurd (omega arith))
 
-            pub transfer-granted : b ≡ true → order.Transfer q s ≡ unless (refusesTransfer (seen ps ns hs [] noRings) (p .0) (i .0) (q .0)) (order.Transfer q (slot (seen ps ns hs [] noRings) (p .0) (i .0)))
-            unfolding refusesTransfer
+            pub transfer-granted : b ≡ true → order.Transfer q s ≡ unless (transferBy (findAt hs (p .0)) (seen ps ns hs [] noRings) (p .0) (i .0) (q .0)) (order.Transfer q (findAt hs (p .0) (i .0)))
             transfer-granted g =
                 let w = found hs (p .0) l (i .0) ex s f in
                 ap (order.Transfer q) (w .0) ∙ granted _ (pass z _ ∙ there _ ∙ rw (← w .0, lt-ltb s 128 (w .1), ← live-is ns s (w .1), ← eb, g))
@@ -254,24 +239,20 @@ module _ (ps : List ℕ) (p : Peer) (l : p .0 < 8) {n : ℕ} (e : n ≡ standing
 
   -- judge_holders
   module _ (hs : List ℕ) (i : HandleId) where
-    pub holders-refused : (n ≡ 0 → ⊥) → order.Refuse n ≡ unless (refusesHolders (seen ps [] hs [] noRings) (p .0) (i .0)) (order.Holders (slot (seen ps [] hs [] noRings) (p .0) (i .0)))
-    unfolding refusesHolders
+    pub holders-refused : (n ≡ 0 → ⊥) → order.Refuse n ≡ unless (holdersBy (findAt hs (p .0)) (seen ps [] hs [] noRings) (p .0) (i .0)) (order.Holders (findAt hs (p .0) (i .0)))
     holders-refused ne = refused _ (absent ne _) ne
 
     module _ (z : n ≡ 0) {x : Found} (ex : x ≡ lookup hs (p .0) (i .0)) where
-      pub holders-missing : x ≡ Nothing → order.Refuse ENXIO ≡ unless (refusesHolders (seen ps [] hs [] noRings) (p .0) (i .0)) (order.Holders (slot (seen ps [] hs [] noRings) (p .0) (i .0)))
-      unfolding refusesHolders
+      pub holders-missing : x ≡ Nothing → order.Refuse ENXIO ≡ unless (holdersBy (findAt hs (p .0)) (seen ps [] hs [] noRings) (p .0) (i .0)) (order.Holders (findAt hs (p .0) (i .0)))
       holders-missing f = refused _ (here z _ ∙ rw (missing hs (p .0) l (i .0) ex f)) (λ y. absurd (omega arith))
 
       module _ (s : ℕ) (f : x ≡ At s) where
-        pub holders-foreign : (s / 16 ≡ p .0 → ⊥) → order.Refuse EPERM ≡ unless (refusesHolders (seen ps [] hs [] noRings) (p .0) (i .0)) (order.Holders (slot (seen ps [] hs [] noRings) (p .0) (i .0)))
-        unfolding refusesHolders
+        pub holders-foreign : (s / 16 ≡ p .0 → ⊥) → order.Refuse EPERM ≡ unless (holdersBy (findAt hs (p .0)) (seen ps [] hs [] noRings) (p .0) (i .0)) (order.Holders (findAt hs (p .0) (i .0)))
         holders-foreign ne =
             let w = found hs (p .0) l (i .0) ex s f in
             refused _ (here z _ ∙ rw (← w .0, lt-ltb s 128 (w .1), ne-eqb (s / 16) (p .0) ne)) (λ y. absurd (omega arith))
 
-        pub holders-granted : s / 16 ≡ p .0 → order.Holders s ≡ unless (refusesHolders (seen ps [] hs [] noRings) (p .0) (i .0)) (order.Holders (slot (seen ps [] hs [] noRings) (p .0) (i .0)))
-        unfolding refusesHolders
+        pub holders-granted : s / 16 ≡ p .0 → order.Holders s ≡ unless (holdersBy (findAt hs (p .0)) (seen ps [] hs [] noRings) (p .0) (i .0)) (order.Holders (findAt hs (p .0) (i .0)))
         holders-granted o =
             let w = found hs (p .0) l (i .0) ex s f in
             ap order.Holders (w .0) ∙ granted _ (here z _ ∙ rw (← w .0, lt-ltb s 128 (w .1), eq-eqb (s / 16) (p .0) o))

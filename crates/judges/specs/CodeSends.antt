@@ -22,11 +22,9 @@ use Rattle.quota.specs.Charges.{allowsAll}
 use Rattle.tables.specs.declared.Found.{Found}
 use Rattle.tables.specs.declared.Found.the-variants.{At, Nothing}
 use Rattle.tables.specs.Nodes.{liveAt}
-use Rattle.tables.specs.Handles.{lookup}
-use Rattle.tables.specs.HandlesView.{handleV}
+use Rattle.tables.specs.Handles.{lookup, findAt}
 use Rattle.tables.specs.Charges.{chargesAt}
 use Rattle.model.specs.Lists.{both, every}
-use Rattle.model.specs.State.{slotOf}
 use Rattle.model.specs.Refusals.{placesAt}
 use Rattle.judges.specs.Orders.{eight, idsFrom, slotsAt, livingAt, allowedAt, affordableAt}
 use Rattle.judges.specs.CodeOrders.{missing, found}
@@ -89,12 +87,12 @@ eight-snoc l n v e h =
 
 -- slots_of
 abbrev pub heldBy : List ℕ → ℕ → ℕ → Bool
-heldBy hs p i = ltb (slotOf (handleV hs p) i) 128
+heldBy hs p i = ltb (findAt hs p i) 128
 
 pub record Looked (hs f : List ℕ) (p from n : ℕ) (at : List ℕ) (k : ℕ) : Type 0 where
   pub some : k ≤ n
   pub held : every (heldBy hs p) (idsFrom f from k) ≡ true
-  pub slots : at ≡ eight (map (slotOf (handleV hs p)) (idsFrom f from k))
+  pub slots : at ≡ eight (map (findAt hs p) (idsFrom f from k))
 
 module _ (hs f : List ℕ) (p from n : ℕ) where
   pub looked-start : Looked hs f p from n (replicate 8 0) 0
@@ -109,24 +107,24 @@ module _ (hs f : List ℕ) (p from n : ℕ) where
       pub looked-missing : x ≡ Nothing → record { number = ENXIO; at = replicate 8 0 } ≡ slotsAt hs p (idsFrom f from n)
       unfolding slotsAt
       looked-missing g =
-          let m : slotOf (handleV hs p) (sendId f (from + k) .0) ≡ 128 = ap (slotOf (handleV hs p)) (sym id) ∙ missing hs p l (i .0) ex g in
+          let m : findAt hs p (sendId f (from + k) .0) ≡ 128 = ap (findAt hs p) (sym id) ∙ missing hs p l (i .0) ex g in
           let b : heldBy hs p (sendId f (from + k) .0) ≡ false = rw m in
           rw (every-broken (heldBy hs p) (λ j. sendId f (from + j) .0) n k h b)
 
       pub looked-more : n ≤ 8 → (s : ℕ) → x ≡ At s → Looked hs f p from n (set at k s) (k + 1)
       looked-more small s g =
           let m = found hs p l (i .0) ex s g in
-          let y : s ≡ slotOf (handleV hs p) (sendId f (from + k) .0) = m .0 ∙ ap (slotOf (handleV hs p)) id in
+          let y : s ≡ findAt hs p (sendId f (from + k) .0) = m .0 ∙ ap (findAt hs p) id in
           let b : heldBy hs p (sendId f (from + k) .0) ≡ true = rw (← y) (lt-ltb s 128 (m .1)) in
           let more : idsFrom f from (k + 1) ≡ idsFrom f from k ++ (sendId f (from + k) .0 ∷ []) = rw add-one (build-snoc (λ j. sendId f (from + j) .0) k) in
-          let long : length (map (slotOf (handleV hs p)) (idsFrom f from k)) ≡ k = map-length (slotOf (handleV hs p)) (idsFrom f from k) ∙ build-length (λ j. sendId f (from + j) .0) k in
+          let long : length (map (findAt hs p) (idsFrom f from k)) ≡ k = map-length (findAt hs p) (idsFrom f from k) ∙ build-length (λ j. sendId f (from + j) .0) k in
           record {
             some = omega arith;
             held = rw (more, every-append (heldBy hs p) (idsFrom f from k) (sendId f (from + k) .0 ∷ []), w .held, b);
             slots =
                 ap (λ (a : List ℕ). set a k s) (w .slots)
-                ∙ eight-snoc (map (slotOf (handleV hs p)) (idsFrom f from k)) k s long (omega arith)
-                ∙ rw (more, map-snoc (slotOf (handleV hs p)) (idsFrom f from k) (sendId f (from + k) .0), ← y);
+                ∙ eight-snoc (map (findAt hs p) (idsFrom f from k)) k s long (omega arith)
+                ∙ rw (more, map-snoc (findAt hs p) (idsFrom f from k) (sendId f (from + k) .0), ← y);
           }
 
     pub looked-end : n ≤ k → record { number = 0; at = at } ≡ slotsAt hs p (idsFrom f from n)

@@ -1,12 +1,13 @@
 -- What the bus says to a command: the model's refusal, or the order that carries the command out, in which each ID is the slot that the acting peer knows by it.
 -- Assumes nothing.
 use Prim.Native.Nat.{ℕ, _+_, _*_, _/_, _%_, min, _<_, _≤_}
-use mathlib.Core.Bool.{Bool, false}
+use mathlib.Core.Bool.{Bool, false, not}
 use mathlib.Core.List.{List, [], map}
 use lib.ListN.{length, replicate, take}
 use lib.Seq.{sets}
 use lib.Dec.{eqb, ltb}
 use Rattle.laws.specs.Tests.{pick}
+use Rattle.laws.specs.Search.{first}
 use Rattle.laws.specs.Build.{build}
 use Rattle.ids.specs.Refusals.{EOVERFLOW, ENXIO}
 use Rattle.ids.specs.declared.Peer.{Peer}
@@ -23,15 +24,15 @@ use Rattle.tables.specs.declared.Found.{Found}
 use Rattle.tables.specs.declared.Found.the-variants.{At, Nothing}
 use Rattle.tables.specs.Peers.{acceptedAt, standingAt}
 use Rattle.tables.specs.Nodes.{liveAt}
-use Rattle.tables.specs.HandlesView.{handleV}
+use Rattle.tables.specs.Handles.{findAt, holdersAt}
 use Rattle.tables.specs.Charges.{chargesAt}
 use Rattle.model.specs.Numbers.{slots, nodes, mostCommands}
-use Rattle.model.specs.Lists.{every}
-use Rattle.model.specs.State.{State, slot, slotOf, freePlace}
+use Rattle.model.specs.Lists.{either, every}
+use Rattle.model.specs.State.{State, slot, freePlace}
 use Rattle.model.specs.Requests.{destinations, attached}
-use Rattle.model.specs.Refusals.{adds, refusal}
+use Rattle.model.specs.Refusals.{adds, refusalBy}
 use Rattle.view.specs.View.{Bus, stateOf}
-use Rattle.queues.specs.Queues.{isMessage}
+use Rattle.queues.specs.Queues.{isMessage, namedIn}
 use Rattle.judges.specs.declared.Places.{Places}
 use Rattle.judges.specs.declared.Order.{Order}
 use Rattle.judges.specs.declared.Order.the-variants as order
@@ -45,33 +46,43 @@ eight ss = sets (replicate 8 0) 0 ss
 abbrev pub noPlaces : Places
 noPlaces = record { to = replicate 8 0; carried = replicate 8 0 }
 
-unfoldable pub placesOf : State → ℕ → List ℕ → Sizes → Places
-placesOf b p f z = record { to = eight (map (slot b p) (destinations f z)); carried = eight (map (slot b p) (attached f z)) }
+-- What a judgement goes by: a state, the slot that a search finds for an ID of a peer (nodes where it finds none), and the first free place of a peer.
+pub record Sight : Type 0 where
+  pub state : State
+  pub find : ℕ → ℕ → ℕ
+  pub free : ℕ → ℕ
+
+-- The model's own: each is read off the state.
+abbrev pub plainSight : State → Sight
+plainSight b = record { state = b; find = slot b; free = freePlace b }
+
+unfoldable pub placesOf : (ℕ → ℕ) → List ℕ → Sizes → Places
+placesOf find f z = record { to = eight (map find (destinations f z)); carried = eight (map find (attached f z)) }
 
 -- The order of a command that is not refused, and a send's slots.
-abbrev pub resolved : State → Command → Order
-resolved b (Open p u) = order.Open p u
-resolved b (Disconnect p) = order.Disconnect p
-resolved b (Create p i) = order.Create p i (p .0 * slots + freePlace b (p .0))
-resolved b (Destroy p i) = order.Destroy p (slot b (p .0) (i .0))
-resolved b (Release p i) = order.Release p (slot b (p .0) (i .0))
-resolved b (Transfer p i q) = order.Transfer q (slot b (p .0) (i .0))
-resolved b (Send p z) = order.Send p z
-resolved b (Receive p room) = order.Receive p
-resolved b (Quota p u) = order.Quota p u
-resolved b (Holders p i) = order.Holders (slot b (p .0) (i .0))
+abbrev pub resolved : Sight → Command → Order
+resolved v (Open p u) = order.Open p u
+resolved v (Disconnect p) = order.Disconnect p
+resolved v (Create p i) = order.Create p i (p .0 * slots + v .free (p .0))
+resolved v (Destroy p i) = order.Destroy p (v .find (p .0) (i .0))
+resolved v (Release p i) = order.Release p (v .find (p .0) (i .0))
+resolved v (Transfer p i q) = order.Transfer q (v .find (p .0) (i .0))
+resolved v (Send p z) = order.Send p z
+resolved v (Receive p room) = order.Receive p
+resolved v (Quota p u) = order.Quota p u
+resolved v (Holders p i) = order.Holders (v .find (p .0) (i .0))
 
-abbrev pub placesIn : State → List ℕ → Command → Places
-placesIn b f (Open p u) = noPlaces
-placesIn b f (Disconnect p) = noPlaces
-placesIn b f (Create p i) = noPlaces
-placesIn b f (Destroy p i) = noPlaces
-placesIn b f (Release p i) = noPlaces
-placesIn b f (Transfer p i q) = noPlaces
-placesIn b f (Send p z) = placesOf b (p .0) f z
-placesIn b f (Receive p room) = noPlaces
-placesIn b f (Quota p u) = noPlaces
-placesIn b f (Holders p i) = noPlaces
+abbrev pub placesIn : Sight → List ℕ → Command → Places
+placesIn v f (Open p u) = noPlaces
+placesIn v f (Disconnect p) = noPlaces
+placesIn v f (Create p i) = noPlaces
+placesIn v f (Destroy p i) = noPlaces
+placesIn v f (Release p i) = noPlaces
+placesIn v f (Transfer p i q) = noPlaces
+placesIn v f (Send p z) = placesOf (v .find (p .0)) f z
+placesIn v f (Receive p room) = noPlaces
+placesIn v f (Quota p u) = noPlaces
+placesIn v f (Holders p i) = noPlaces
 
 -- An order, unless there is a refusal; with slots, unless there is one.
 abbrev pub unless : ℕ → Order → Order
@@ -83,12 +94,24 @@ plainly o = record { order = o; places = noPlaces }
 abbrev pub unlessAt : ℕ → Order → Places → Ruling
 unlessAt n o w = pick (eqb n 0) (record { order = o; places = w }) (plainly (order.Refuse n))
 
-unfoldable pub rulingOf : State → List ℕ → Command → Ruling
-rulingOf b f c = unlessAt (refusal b f c) (resolved b c) (placesIn b f c)
+unfoldable pub rulingOf : Sight → List ℕ → Command → Ruling
+rulingOf v f c = unlessAt (refusalBy (v .find) (v .free) (v .state) f c) (resolved v c) (placesIn v f c)
 
 -- The state that some of the buffers stand for. A judgement reads no payload.
 abbrev pub seen : List ℕ → List ℕ → List ℕ → List ℕ → Rings → State
 seen ps ns hs cs r = stateOf (record { peers = ps; nodes = ns; handles = hs; charges = cs; rings = r; pool = [] })
+
+-- A slot's node counts, as the tables tell: it lives, somebody holds it, or a message in a queue with attached handles names it.
+unfoldable pub countsAt : List ℕ → List ℕ → List ℕ → Rings → ℕ → Bool
+countsAt ns hs cs r s = either (liveAt ns s) (either (not (eqb (holdersAt hs s) 0)) (namedIn cs r s))
+
+-- The first place among the peer's 16 whose node does not count.
+unfoldable pub freeAt : List ℕ → List ℕ → List ℕ → Rings → ℕ → ℕ
+freeAt ns hs cs r p = first (λ k. not (countsAt ns hs cs r (p * slots + k))) slots
+
+-- What the code goes by: its own searches of the tables.
+abbrev pub sight : List ℕ → List ℕ → List ℕ → List ℕ → Rings → Sight
+sight ps ns hs cs r = record { state = seen ps ns hs cs r; find = findAt hs; free = freeAt ns hs cs r }
 
 abbrev pub noRings : Rings
 noRings = ringsOf [] [] [] []
@@ -107,8 +130,8 @@ idsFrom f from n = build (λ k. sendId f (from + k) .0) n
 
 unfoldable pub slotsAt : List ℕ → ℕ → List ℕ → Slots
 slotsAt hs p is =
-    pick (every (λ i. ltb (slotOf (handleV hs p) i) nodes) is)
-    (record { number = 0; at = eight (map (slotOf (handleV hs p)) is) })
+    pick (every (λ i. ltb (findAt hs p i) nodes) is)
+    (record { number = 0; at = eight (map (findAt hs p) is) })
     (record { number = ENXIO; at = replicate 8 0 })
 
 -- The nodes of some slots live; quota allows what a send to them adds at each of their owners.

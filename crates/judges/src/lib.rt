@@ -8,11 +8,11 @@ ghost use Rattle.frames.specs.Frame.{payloadOf};
 ghost use Rattle.frames.specs.Legal.{Legal, Sized as Sent};
 ghost use Rattle.rings.specs.Rings.{rowsOf, ringsOf, endCount, Sized};
 ghost use Rattle.model.specs.Numbers.{slots};
-ghost use Rattle.model.specs.State.{slot, freePlace, counts as countsFor};
 ghost use Rattle.model.specs.Requests.{destinations, attached};
-ghost use Rattle.model.specs.Refusals.{placesAt, pinned as isPinned, refusesOpen, refusesDisconnect, refusesCreate, refusesDestroy, refusesRelease, refusesTransfer, refusesSend, refusesReceive, refusesQuota, refusesHolders};
+ghost use Rattle.model.specs.Refusals.{placesAt, pinned as isPinned, refusesOpen, refusesDisconnect, createBy, destroyBy, releaseBy, transferBy, sendBy, refusesReceive, refusesQuota, holdersBy};
+ghost use Rattle.tables.specs.Handles.{findAt};
 ghost use Rattle.queues.specs.Queues.{Short};
-ghost use Rattle.judges.specs.Orders.{placesOf, unless, unlessAt, plainly, rulingOf, seen, noRings, startsAt, placeFound, idsFrom, slotsAt, livingAt, allowedAt, affordableAt, tooLarge};
+ghost use Rattle.judges.specs.Orders.{placesOf, unless, unlessAt, plainly, rulingOf, seen, sight, countsAt, freeAt, noRings, startsAt, placeFound, idsFrom, slotsAt, livingAt, allowedAt, affordableAt, tooLarge};
 ghost use Rattle.judges.specs.declared.Order.the-variants as order;
 use frames::Command;
 use frames::Sizes;
@@ -28,6 +28,7 @@ use ids::ERANGE;
 use ids::ESHUTDOWN;
 use ids::HandleId;
 use ids::Peer;
+use ids::SLOTS;
 use ids::User;
 use quota::Charge;
 use rings::Entry;
@@ -116,14 +117,15 @@ fn judge_disconnect(peers: &[u64], p: Peer) -> Order
 fn counts(
     nodes: &[u64],
     handles: &[u64],
+    charges: &[u16],
     ends: &[u16],
     entries: &[u16],
     carried: &[u8],
     numbers: &[u64],
     s: usize,
 ) -> bool
-    requires { ⌜ (length (now nodes) ≡ 256) × (length (now handles) ≡ 2048) × (length (now ends) ≡ endCount) × Sized (rowsOf (now entries) (now carried) (now numbers)) × Short (now ends) × (s < 128) ⌝ }
-    ensures { λ r. ⌜ r ≡ countsFor (seen [] (now (nodes .entry)) (now (handles .entry)) [] (ringsOf (now (ends .entry)) (now (entries .entry)) (now (carried .entry)) (now (numbers .entry)))) s ⌝ }
+    requires { ⌜ (length (now nodes) ≡ 256) × (length (now handles) ≡ 2048) × (length (now charges) ≡ 96) × (length (now ends) ≡ endCount) × Sized (rowsOf (now entries) (now carried) (now numbers)) × Short (now ends) × (s < 128) ⌝ }
+    ensures { λ r. ⌜ r ≡ countsAt (now (nodes .entry)) (now (handles .entry)) (now (charges .entry)) (ringsOf (now (ends .entry)) (now (entries .entry)) (now (carried .entry)) (now (numbers .entry))) s ⌝ }
 {
     if tables::is_live(nodes, s) {
         return true;
@@ -131,26 +133,27 @@ fn counts(
     if tables::holders(handles, s) != 0 {
         return true;
     }
-    queues::named(ends, entries, carried, numbers, s)
+    queues::named(charges, ends, entries, carried, numbers, s)
 }
 
 // The first slot of a peer whose node does not count.
 fn free_slot(
     nodes: &[u64],
     handles: &[u64],
+    charges: &[u16],
     ends: &[u16],
     entries: &[u16],
     carried: &[u8],
     numbers: &[u64],
     p: Peer,
 ) -> Found
-    requires { ⌜ (length (now nodes) ≡ 256) × (length (now handles) ≡ 2048) × (length (now ends) ≡ endCount) × Sized (rowsOf (now entries) (now carried) (now numbers)) × Short (now ends) × (p .0 < 8) ⌝ }
-    ensures { λ r. ⌜ r ≡ placeFound (p .0) (freePlace (seen [] (now (nodes .entry)) (now (handles .entry)) [] (ringsOf (now (ends .entry)) (now (entries .entry)) (now (carried .entry)) (now (numbers .entry)))) (p .0)) ⌝ }
+    requires { ⌜ (length (now nodes) ≡ 256) × (length (now handles) ≡ 2048) × (length (now charges) ≡ 96) × (length (now ends) ≡ endCount) × Sized (rowsOf (now entries) (now carried) (now numbers)) × Short (now ends) × (p .0 < 8) ⌝ }
+    ensures { λ r. ⌜ r ≡ placeFound (p .0) (freeAt (now (nodes .entry)) (now (handles .entry)) (now (charges .entry)) (ringsOf (now (ends .entry)) (now (entries .entry)) (now (carried .entry)) (now (numbers .entry))) (p .0)) ⌝ }
 {
     let mut k = 0;
-    while k < 16 {
-        let s = p.0 * 16 + k;
-        if !counts(nodes, handles, ends, entries, carried, numbers, s) {
+    while k < SLOTS {
+        let s = p.0 * SLOTS + k;
+        if !counts(nodes, handles, charges, ends, entries, carried, numbers, s) {
             return Found::At(s);
         }
         k += 1;
@@ -162,6 +165,7 @@ fn judge_create(
     peers: &[u64],
     nodes: &[u64],
     handles: &[u64],
+    charges: &[u16],
     ends: &[u16],
     entries: &[u16],
     carried: &[u8],
@@ -169,8 +173,8 @@ fn judge_create(
     p: Peer,
     i: HandleId,
 ) -> Order
-    requires { ⌜ (length (now peers) ≡ 25) × (length (now nodes) ≡ 256) × (length (now handles) ≡ 2048) × (length (now ends) ≡ endCount) × Sized (rowsOf (now entries) (now carried) (now numbers)) × Short (now ends) × (p .0 < 8) ⌝ }
-    ensures { λ r. ⌜ r ≡ unless (refusesCreate (seen (now (peers .entry)) (now (nodes .entry)) (now (handles .entry)) [] (ringsOf (now (ends .entry)) (now (entries .entry)) (now (carried .entry)) (now (numbers .entry)))) (p .0) (i .0)) (order.Create p i (p .0 * slots + freePlace (seen (now (peers .entry)) (now (nodes .entry)) (now (handles .entry)) [] (ringsOf (now (ends .entry)) (now (entries .entry)) (now (carried .entry)) (now (numbers .entry)))) (p .0))) ⌝ }
+    requires { ⌜ (length (now peers) ≡ 25) × (length (now nodes) ≡ 256) × (length (now handles) ≡ 2048) × (length (now charges) ≡ 96) × (length (now ends) ≡ endCount) × Sized (rowsOf (now entries) (now carried) (now numbers)) × Short (now ends) × (p .0 < 8) ⌝ }
+    ensures { λ r. ⌜ r ≡ unless (createBy (findAt (now (handles .entry)) (p .0)) (freeAt (now (nodes .entry)) (now (handles .entry)) (now (charges .entry)) (ringsOf (now (ends .entry)) (now (entries .entry)) (now (carried .entry)) (now (numbers .entry))) (p .0)) (seen (now (peers .entry)) [] [] [] noRings) (p .0) (i .0)) (order.Create p i (p .0 * slots + freeAt (now (nodes .entry)) (now (handles .entry)) (now (charges .entry)) (ringsOf (now (ends .entry)) (now (entries .entry)) (now (carried .entry)) (now (numbers .entry))) (p .0))) ⌝ }
 {
     let n = starts(peers, p);
     if n != 0 {
@@ -179,7 +183,7 @@ fn judge_create(
     let Found::Nothing = tables::find(handles, p, i) else {
         return Order::Refuse(EEXIST);
     };
-    let Found::At(s) = free_slot(nodes, handles, ends, entries, carried, numbers, p) else {
+    let Found::At(s) = free_slot(nodes, handles, charges, ends, entries, carried, numbers, p) else {
         return Order::Refuse(ENOSPC);
     };
     Order::Create(p, i, s)
@@ -187,7 +191,7 @@ fn judge_create(
 
 fn judge_destroy(peers: &[u64], nodes: &[u64], handles: &[u64], p: Peer, i: HandleId) -> Order
     requires { ⌜ (length (now peers) ≡ 25) × (length (now nodes) ≡ 256) × (length (now handles) ≡ 2048) × (p .0 < 8) ⌝ }
-    ensures { λ r. ⌜ r ≡ unless (refusesDestroy (seen (now (peers .entry)) (now (nodes .entry)) (now (handles .entry)) [] noRings) (p .0) (i .0)) (order.Destroy p (slot (seen (now (peers .entry)) (now (nodes .entry)) (now (handles .entry)) [] noRings) (p .0) (i .0))) ⌝ }
+    ensures { λ r. ⌜ r ≡ unless (destroyBy (findAt (now (handles .entry)) (p .0)) (seen (now (peers .entry)) (now (nodes .entry)) (now (handles .entry)) [] noRings) (p .0) (i .0)) (order.Destroy p (findAt (now (handles .entry)) (p .0) (i .0))) ⌝ }
 {
     let n = starts(peers, p);
     if n != 0 {
@@ -196,7 +200,7 @@ fn judge_destroy(peers: &[u64], nodes: &[u64], handles: &[u64], p: Peer, i: Hand
     let Found::At(s) = tables::find(handles, p, i) else {
         return Order::Refuse(ENXIO);
     };
-    if s / 16 != p.0 {
+    if s / SLOTS != p.0 {
         return Order::Refuse(EPERM);
     }
     if !tables::is_live(nodes, s) {
@@ -213,7 +217,7 @@ fn pinned(nodes: &[u64], handles: &[u64], p: Peer, s: usize) -> bool
     if !tables::is_live(nodes, s) {
         return false;
     }
-    if s / 16 != p.0 {
+    if s / SLOTS != p.0 {
         return false;
     }
     tables::count_of(handles, p, s) == 1
@@ -221,7 +225,7 @@ fn pinned(nodes: &[u64], handles: &[u64], p: Peer, s: usize) -> bool
 
 fn judge_release(peers: &[u64], nodes: &[u64], handles: &[u64], p: Peer, i: HandleId) -> Order
     requires { ⌜ (length (now peers) ≡ 25) × (length (now nodes) ≡ 256) × (length (now handles) ≡ 2048) × (p .0 < 8) ⌝ }
-    ensures { λ r. ⌜ r ≡ unless (refusesRelease (seen (now (peers .entry)) (now (nodes .entry)) (now (handles .entry)) [] noRings) (p .0) (i .0)) (order.Release p (slot (seen (now (peers .entry)) (now (nodes .entry)) (now (handles .entry)) [] noRings) (p .0) (i .0))) ⌝ }
+    ensures { λ r. ⌜ r ≡ unless (releaseBy (findAt (now (handles .entry)) (p .0)) (seen (now (peers .entry)) (now (nodes .entry)) (now (handles .entry)) [] noRings) (p .0) (i .0)) (order.Release p (findAt (now (handles .entry)) (p .0) (i .0))) ⌝ }
 {
     let n = starts(peers, p);
     if n != 0 {
@@ -245,7 +249,7 @@ fn judge_transfer(
     q: Peer,
 ) -> Order
     requires { ⌜ (length (now peers) ≡ 25) × (length (now nodes) ≡ 256) × (length (now handles) ≡ 2048) × (p .0 < 8) × (q .0 < 8) ⌝ }
-    ensures { λ r. ⌜ r ≡ unless (refusesTransfer (seen (now (peers .entry)) (now (nodes .entry)) (now (handles .entry)) [] noRings) (p .0) (i .0) (q .0)) (order.Transfer q (slot (seen (now (peers .entry)) (now (nodes .entry)) (now (handles .entry)) [] noRings) (p .0) (i .0))) ⌝ }
+    ensures { λ r. ⌜ r ≡ unless (transferBy (findAt (now (handles .entry)) (p .0)) (seen (now (peers .entry)) (now (nodes .entry)) (now (handles .entry)) [] noRings) (p .0) (i .0) (q .0)) (order.Transfer q (findAt (now (handles .entry)) (p .0) (i .0))) ⌝ }
 {
     let n = starts(peers, p);
     if n != 0 {
@@ -313,7 +317,7 @@ fn places_at(to: [u8; 8], n: usize, p: Peer) -> u16
     let mut k = 0;
     let mut m = 0u16;
     while k < n {
-        if to[k] as usize / 16 == p.0 {
+        if to[k] as usize / SLOTS == p.0 {
             m += 1;
         }
         k += 1;
@@ -345,7 +349,7 @@ fn affordable(charges: &[u16], u: User, to: [u8; 8], z: Sizes) -> bool
 {
     let mut k = 0;
     while k < z.nd {
-        if !allowed_at(charges, u, to, z, Peer(to[k] as usize / 16 % 8)) {
+        if !allowed_at(charges, u, to, z, Peer(to[k] as usize / SLOTS % 8)) {
             return false;
         }
         k += 1;
@@ -363,7 +367,7 @@ fn judge_send(
     z: Sizes,
 ) -> Ruling
     requires { ⌜ (length (now peers) ≡ 25) × (length (now nodes) ≡ 256) × (length (now handles) ≡ 2048) × (length (now charges) ≡ 96) × (p .0 < 8) × Sent (now frame) z ⌝ }
-    ensures { λ r. ⌜ r ≡ unlessAt (refusesSend (seen (now (peers .entry)) (now (nodes .entry)) (now (handles .entry)) (now (charges .entry)) noRings) (p .0) (destinations (now (frame .entry)) z) (attached (now (frame .entry)) z) (length (payloadOf (now (frame .entry))))) (order.Send p z) (placesOf (seen (now (peers .entry)) (now (nodes .entry)) (now (handles .entry)) (now (charges .entry)) noRings) (p .0) (now (frame .entry)) z) ⌝ }
+    ensures { λ r. ⌜ r ≡ unlessAt (sendBy (findAt (now (handles .entry)) (p .0)) (seen (now (peers .entry)) (now (nodes .entry)) (now (handles .entry)) (now (charges .entry)) noRings) (p .0) (destinations (now (frame .entry)) z) (attached (now (frame .entry)) z) (length (payloadOf (now (frame .entry))))) (order.Send p z) (placesOf (findAt (now (handles .entry)) (p .0)) (now (frame .entry)) z) ⌝ }
 {
     let n = starts(peers, p);
     if n != 0 {
@@ -440,7 +444,7 @@ fn judge_quota(peers: &[u64], p: Peer, u: User) -> Order
 
 fn judge_holders(peers: &[u64], handles: &[u64], p: Peer, i: HandleId) -> Order
     requires { ⌜ (length (now peers) ≡ 25) × (length (now handles) ≡ 2048) × (p .0 < 8) ⌝ }
-    ensures { λ r. ⌜ r ≡ unless (refusesHolders (seen (now (peers .entry)) [] (now (handles .entry)) [] noRings) (p .0) (i .0)) (order.Holders (slot (seen (now (peers .entry)) [] (now (handles .entry)) [] noRings) (p .0) (i .0))) ⌝ }
+    ensures { λ r. ⌜ r ≡ unless (holdersBy (findAt (now (handles .entry)) (p .0)) (seen (now (peers .entry)) [] (now (handles .entry)) [] noRings) (p .0) (i .0)) (order.Holders (findAt (now (handles .entry)) (p .0) (i .0))) ⌝ }
 {
     let n = tables::standing(peers, p);
     if n != 0 {
@@ -449,7 +453,7 @@ fn judge_holders(peers: &[u64], handles: &[u64], p: Peer, i: HandleId) -> Order
     let Found::At(s) = tables::find(handles, p, i) else {
         return Order::Refuse(ENXIO);
     };
-    if s / 16 != p.0 {
+    if s / SLOTS != p.0 {
         return Order::Refuse(EPERM);
     }
     Order::Holders(s)
@@ -469,13 +473,24 @@ pub fn judge(
     c: Command,
 ) -> Ruling
     requires { ⌜ (length (now peers) ≡ 25) × (length (now nodes) ≡ 256) × (length (now handles) ≡ 2048) × (length (now charges) ≡ 96) × (length (now ends) ≡ endCount) × Sized (rowsOf (now entries) (now carried) (now numbers)) × Short (now ends) × Legal (now frame) c ⌝ }
-    ensures { λ r. ⌜ r ≡ rulingOf (seen (now (peers .entry)) (now (nodes .entry)) (now (handles .entry)) (now (charges .entry)) (ringsOf (now (ends .entry)) (now (entries .entry)) (now (carried .entry)) (now (numbers .entry)))) (now (frame .entry)) c ⌝ }
+    ensures { λ r. ⌜ r ≡ rulingOf (sight (now (peers .entry)) (now (nodes .entry)) (now (handles .entry)) (now (charges .entry)) (ringsOf (now (ends .entry)) (now (entries .entry)) (now (carried .entry)) (now (numbers .entry)))) (now (frame .entry)) c ⌝ }
 {
     match c {
         Command::Open(p, u) => plain(judge_open(peers, p, u)),
         Command::Disconnect(p) => plain(judge_disconnect(peers, p)),
         Command::Create(p, i) => {
-            plain(judge_create(peers, nodes, handles, ends, entries, carried, numbers, p, i))
+            plain(judge_create(
+                peers,
+                nodes,
+                handles,
+                charges,
+                ends,
+                entries,
+                carried,
+                numbers,
+                p,
+                i,
+            ))
         }
         Command::Destroy(p, i) => plain(judge_destroy(peers, nodes, handles, p, i)),
         Command::Release(p, i) => plain(judge_release(peers, nodes, handles, p, i)),

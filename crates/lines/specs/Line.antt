@@ -1,7 +1,7 @@
 -- Document 01, "Commands, one frame a line": lines of lowercase hexadecimal ended by LF, what is refused, and the place of the first fault.
 -- Assumes nothing.
-use Prim.Native.Nat.{ℕ, _+_, _*_, _-_, _/_, _%_, min}
-use mathlib.Core.Bool.{Bool, true, false, not}
+use Prim.Native.Nat.{ℕ, zero, suc, _+_, _*_, _-_, _/_, _%_, min}
+use mathlib.Core.Bool.{Bool, true, false, not, _&&_}
 use mathlib.Core.List.{List, [], _∷_, _++_}
 use lib.ListN.{length, getD, take, drop}
 use lib.Dec.{eqb, ltb, leb}
@@ -25,6 +25,11 @@ mostDigits = 1292
 -- A lowercase digit: 0 to 9, a to f.
 abbrev pub isDigit : ℕ → Bool
 isDigit c = pick (ltb c 58) (leb 48 c) (pick (ltb c 103) (leb 97 c) false)
+
+-- The n characters from the place i on are digits.
+unfoldable pub digitsFrom : List ℕ → ℕ → ℕ → Bool
+digitsFrom l i zero = true
+digitsFrom l i (suc n) = digitsFrom l i n && isDigit (getD l (i + n) 0)
 
 -- The value of a digit.
 abbrev pub digitValue : ℕ → ℕ

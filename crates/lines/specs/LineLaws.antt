@@ -1,20 +1,21 @@
 -- Laws of lines: what the code's loops add up to, and the first line of an input by its fault's place.
 -- Assumes nothing.
-use Prim.Native.Nat.{ℕ, _+_, _*_, _-_, _/_, _%_, _≤_, _<_, min}
+use Prim.Native.Nat.{ℕ, zero, suc, _+_, _*_, _-_, _/_, _%_, _≤_, _<_, min}
 use mathlib.Core.Path.{_≡_, refl, sym, ap, _∙_}
-use mathlib.Core.Bool.{Bool, true, false, not}
+use mathlib.Core.Bool.{Bool, true, false, not, _&&_}
 use mathlib.Core.List.{List, [], _∷_, _++_}
 use native.Mathlib.Numerals.{add-one}
 use native.Mathlib.Omega.{arith}
 use lib.ListN.{length, getD, set, take, drop, length-append, length-take, length-drop, drop-of-length-le}
 use lib.Seq.{sets, take-suc, take-length, length-take-le, getD-take, getD-drop, ext-getD}
 use lib.Dec.{eqb, ltb, leb}
-use borrow.Author.Tests.{ltb-true, eqb-true, eq-eqb, ne-eqb, lt-ltb, le-ltb, leb-true, leb-false, le-leb, lt-leb, not-false}
+use borrow.Author.Count.{below-more}
+use borrow.Author.Tests.{ltb-true, ltb-false, eqb-true, eq-eqb, ne-eqb, lt-ltb, le-ltb, leb-true, leb-false, le-leb, lt-leb, not-false}
 use Rattle.laws.specs.Tests.{pick, pick-cases, Seen, Seen.is-true, Seen.is-false, look, clash, pick-then}
 use Rattle.laws.specs.Search.{first, first-le, first-found, first-before, first-is, first-from}
 use Rattle.laws.specs.Build.{build, build-length, build-store}
 use Rattle.laws.specs.Stores.{sets-append, over}
-use Rattle.lines.specs.Line.{lf, mostDigits, mostCarried, isDigit, faultPlace, lineLength, digitValue, pairAt, lineRead, readLine, afterRead, frameAfter, digitOf, digitsOf, answerLine, roomFor, lineWritten, linesAfter, carriedOf}
+use Rattle.lines.specs.Line.{lf, mostDigits, mostCarried, isDigit, digitsFrom, faultPlace, lineLength, digitValue, pairAt, lineRead, readLine, afterRead, frameAfter, digitOf, digitsOf, answerLine, roomFor, lineWritten, linesAfter, carriedOf}
 use Rattle.lines.specs.declared.LineRead.{LineRead}
 use Rattle.lines.specs.declared.LineRead.the-variants.{Frame, Bad, Piece}
 use Rattle.lines.specs.declared.Written.the-variants.{Next, Full}
@@ -42,6 +43,40 @@ fault-before l j h = first-before (badAt l) (min mostDigits (length l)) j h
 pub fault-found : (l : List ℕ) → faultPlace l < min mostDigits (length l) → badAt l (faultPlace l) ≡ true
 unfolding faultPlace
 fault-found l h = first-found (badAt l) (min mostDigits (length l)) h
+
+-- digits from a place on: the turns of the loop, and each of them
+both-true : (a b : Bool) → a && b ≡ true → (a ≡ true) × (b ≡ true)
+both-true true b e = (refl, e)
+both-true false b e = clash (sym e)
+
+module _ (l : List ℕ) (i : ℕ) where
+  pub from-none : true ≡ digitsFrom l i 0
+  unfolding digitsFrom
+  from-none = refl
+
+  pub from-next : (k : ℕ) {a b : Bool} → a ≡ digitsFrom l i k → b ≡ isDigit (getD l (i + k) 0) → a && b ≡ digitsFrom l i (k + 1)
+  unfolding digitsFrom
+  from-next k e f = rw (add-one, e, f)
+
+  pub from-all : (k : ℕ) {a : Bool} → a ≡ digitsFrom l i k → k ≡ 8 → a ≡ digitsFrom l i 8
+  from-all k e f = rw (← f) e
+
+  from-at : (n : ℕ) → digitsFrom l i n ≡ true → (j : ℕ) → j < n → isDigit (getD l (i + j) 0) ≡ true
+  unfolding digitsFrom
+  from-at zero e = λ j h. absurd (omega arith)
+  from-at (suc n) e =
+      let p = both-true (digitsFrom l i n) (isDigit (getD l (i + n) 0)) e in
+      λ j h. below-more (λ j. isDigit (getD l (i + j) 0) ≡ true) n (from-at n (p .0)) (p .1) j (omega arith)
+
+  pub ahead-next : ((j : ℕ) → j < i → isDigit (getD l j 0) ≡ true) → digitsFrom l i 8 ≡ true → (j : ℕ) → j < i + 8 → isDigit (getD l j 0) ≡ true
+  ahead-next before e j h = go (look (ltb j i))
+    where
+      go : Seen (ltb j i) → isDigit (getD l j 0) ≡ true
+      go (is-true f) = before j (ltb-true j i f)
+      go (is-false f) =
+          let m : i ≤ j = ltb-false j i f in
+          let k : i + (j - i) ≡ j = omega arith in
+          rw k at (from-at 8 e (j - i) (omega arith))
 
 -- the search for an LF from a place on
 pub end-is : (s : List ℕ) (at i : ℕ) → at ≤ i → i ≤ length s → ((k : ℕ) → k < i → at ≤ k → lfAt s k ≡ false) → (i < length s → lfAt s i ≡ true) →

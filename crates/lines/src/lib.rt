@@ -9,7 +9,7 @@ ghost use lib.Seq.{sets};
 ghost use lib.Dec.{eqb, leb};
 ghost use Rattle.laws.specs.Build.{build};
 ghost use Rattle.laws.specs.Search.{first};
-ghost use Rattle.lines.specs.Line.{lf, isDigit, digitValue, faultPlace, pairAt, readLine, frameAfter, digitOf, digitsOf, lineWritten, linesAfter, carriedOf};
+ghost use Rattle.lines.specs.Line.{lf, isDigit, digitsFrom, digitValue, faultPlace, pairAt, readLine, frameAfter, digitOf, digitsOf, lineWritten, linesAfter, carriedOf};
 
 const LF: u8 = 10;
 
@@ -57,12 +57,41 @@ fn digit_of(v: u8) -> u8
     if v < 10 { 48 + v } else { 87 + v }
 }
 
+// Are the eight characters from i on digits?
+fn eight_digits(s: &[u8], i: usize) -> bool
+    requires { ⌜ i + 8 ≤ length (now s) ⌝ }
+    ensures { λ r. ⌜ r ≡ digitsFrom (now (s .entry)) i 8 ⌝ }
+{
+    let mut all = true;
+    let mut k = 0;
+    while k < 8 {
+        all = all & is_digit(s[i + k]);
+        k += 1;
+    }
+    all
+}
+
+// A place of the first n before which all are digits: as many eights as there are.
+fn digits_ahead(s: &[u8], n: usize) -> usize
+    requires { ⌜ n ≤ length (now s) ⌝ }
+    ensures { λ r. ⌜ (r ≤ n) × ((j : ℕ) → j < r → isDigit (getD (now (s .entry)) j 0) ≡ true) ⌝ }
+{
+    let mut i = 0;
+    while 8 <= n - i {
+        if !eight_digits(s, i) {
+            return i;
+        }
+        i += 8;
+    }
+    i
+}
+
 // The place of the first character that is no digit, of the first 1,292.
 fn fault_place(s: &[u8]) -> usize
     ensures { λ r. ⌜ r ≡ faultPlace (now (s .entry)) ⌝ }
 {
     let n = copies::least(MOST_DIGITS, s.len());
-    let mut i = 0;
+    let mut i = digits_ahead(s, n);
     while i < n {
         if !is_digit(s[i]) {
             return i;

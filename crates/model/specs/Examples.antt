@@ -23,7 +23,7 @@ use Rattle.model.specs.Tables.{withStatus, withUser, withGiven, withHand
 use Rattle.model.specs.Changes.{pushAll, takeOut, withdraw, shown, give, forget, fell, notify, releaseNotices, notifyAll, destroyNotices, destroyAll, arriving, deliver}
 use Rattle.model.specs.Effects.{opens, creates, destroys, releases, disconnects, effect}
 use Rattle.model.specs.Replies.{showsMessage, holdersOf, reply}
-use Rattle.model.specs.Scripts.{opening, disconnect, create, destroy, release, send, receive, transfer, quota, holders, number, gives, queuedAndLeft, takes, takesFlag, destroyedAt, releasedAt, Row, Row.played, computed, expected, two, empties, done}
+use Rattle.model.specs.Scripts.{opening, disconnect, create, destroy, release, send, receive, transfer, quota, holders, number, gives, queuedAndLeft, takes, takesFlag, destroyedAt, releasedAt, Row, Row.played, computed, expected, five, two, empties, done}
 use Rattle.model.specs.Step.{carryOut, finish, step, answersFrom}
 
 -- "When the sum of counts over all peers falls to 1 from above on a live node, a release notice is queued at the owner."
@@ -136,15 +136,41 @@ collide =
     ++ (create 0 8 ∷ create 0 80 ∷ [])))
     (number 9 ∷ number 9 ∷ number 6 ∷ number 1 ∷ number 113 ∷ number 113 ∷ number 17 ∷ number 0 ∷ number 17 ∷ done 14 ++ (number 17 ∷ number 28 ∷ []))
 
+-- The others at their worst, as M4 has them: with 32, 16 and 8 messages of the other users and 2 of its own, two destinations at one peer make 4: accepted; one more 122.
+abbrev pub share-of-messages : Row
+share-of-messages =
+    played (five ++ (empties 32 1 ++ (empties 16 2 ++ (empties 8 3 ++ (empties 2 4 ++ (send 4 (7 ∷ 7 ∷ []) [] [] ∷ send 4 (7 ∷ []) [] [] ∷ []))))))
+    (done 58 ++ (number 0 ∷ number 122 ∷ []))
+
+-- The same in bytes: with 2,048, 1,024 and 512 of the others, in messages of 512, a message of 257 is 122, one of 256 is accepted, one byte more is 122.
+abbrev pub share-of-bytes : Row
+share-of-bytes =
+    played
+    (five ++ (bytes 4 1 512 ++ (bytes 2 2 512 ++ (bytes 1 3 512 ++ (bytes 1 4 257 ++ (bytes 1 4 256 ++ (bytes 1 4 1 ++ (quota 0 3 ∷ []))))))))
+    (done 7 ++ (number 122 ∷ number 0 ∷ number 122 ∷ queuedAndLeft 1 256 0 27 0 32 ∷ []))
+  where
+    bytes : ℕ → ℕ → ℕ → List (List ℕ)
+    bytes n p nb = replicate n (send p (7 ∷ []) [] (replicate nb 51))
+
+-- And in handles: with 32, 16 and 8 of the others, 8 a message, five are 122, four are accepted, one more is 122.
+abbrev pub share-of-handles : Row
+share-of-handles =
+    played
+    (five ++ (handles 4 1 8 ++ (handles 2 2 8 ++ (handles 1 3 8 ++ (handles 1 4 5 ++ (handles 1 4 4 ++ (handles 1 4 1 ++ (quota 0 3 ∷ []))))))))
+    (done 7 ++ (number 122 ∷ number 0 ∷ number 122 ∷ queuedAndLeft 1 0 4 27 2048 0 ∷ []))
+  where
+    handles : ℕ → ℕ → ℕ → List (List ℕ)
+    handles n p nh = replicate n (send p (7 ∷ []) (replicate nh 7) [])
+
 abbrev pub examples : List Row
 examples =
     released-notice ∷ withdrawn-risen ∷ withdrawn-destroyed ∷ destroyed-notices ∷ withdrawn-gone ∷ still-delivered ∷ dropped-with-owner ∷ flags ∷ invalid-shown
     ∷ ordered ∷ held-by-two ∷ room-again ∷ room-named ∷ cascade ∷ notice-behind ∷ absent
-    ∷ back-at-the-end ∷ flag-of-dropped ∷ invalid-to-holder ∷ collide ∷ []
+    ∷ back-at-the-end ∷ flag-of-dropped ∷ invalid-to-holder ∷ collide ∷ share-of-messages ∷ share-of-bytes ∷ share-of-handles ∷ []
 
 pub shown-by-examples : All (λ r. computed r ≡ expected r) examples
 unfolding upd sumTo build first be numAt idAt shortAt parseSizes parseSend frameLength parseOpen parseCreate parseTransfer parseQuota parseRest parseOther parse sendId payloadOf othersAll allowsAll balanceOf idBytes headerBytes messageBytes noticeBytes receivedBytes chargeBytes balanceBytes holderBytes contentsOf answerBytes answerAfter outcomeOf least rising start slotOf total heldByAny named counts freePlace byOwnerId placesAt fits refusesOpen refusesDisconnect refusesCreate refusesDestroy refusesRelease refusesTransfer refusesSend refusesReceive refusesQuota refusesHolders refusal withStatus withUser withGiven withHandles withQueues withCharges withLives accept pushAll takeOut withdraw shown give forget fell notify releaseNotices notifyAll destroyNotices destroyAll arriving deliver opens creates destroys releases disconnects effect showsMessage holdersOf reply carryOut finish step answersFrom ones onesIn
-shown-by-examples = (refl, (refl, (refl, (refl, (refl, (refl, (refl, (refl, (refl, (refl, (refl, (refl, (refl, (refl, (refl, (refl, (refl, (refl, (refl, (refl, tt))))))))))))))))))))
+shown-by-examples = (refl, (refl, (refl, (refl, (refl, (refl, (refl, (refl, (refl, (refl, (refl, (refl, (refl, (refl, (refl, (refl, (refl, (refl, (refl, (refl, (refl, (refl, (refl, tt)))))))))))))))))))))))
 
 -- A bus that has accepted n commands, peer 0 open.
 abbrev pub used : ℕ → State

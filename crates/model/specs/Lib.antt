@@ -15,6 +15,7 @@ pub mod Claim
 pub mod Scripts
 pub mod Table
 pub mod Examples
+pub mod Worked
 pub mod Tested
 pub mod Accepted
 pub mod Notices

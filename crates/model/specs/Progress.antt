@@ -49,10 +49,10 @@ Followed =
 abbrev pub OneEach : Type 0
 OneEach = (before cs : List Call) (p : ℕ) → length (takenOut (run before) p cs) ≡ receivesOf (run before) p cs
 
--- What became of an entry e with k ahead of it: it came out by an accepted receive of p, the one with i before it, i at most k; or it is lost;
+-- What became of an entry e with k ahead of it: it came out, as the one with i before it, i at most k; or it is lost;
 -- or it waits with j ahead of it, and j and the number of receives since then make at most k.
 pub data Became (b : State) (cs : List Call) (p k : ℕ) (e : Entry) : Type 0 where
-  came-out : (i : ℕ) → i ≤ k → i < receivesOf b p cs → getD (takenOut b p cs) i e ≡ e → Became b cs p k e
+  came-out : (i : ℕ) → i ≤ k → i < length (takenOut b p cs) → getD (takenOut b p cs) i e ≡ e → Became b cs p k e
   lost : Lost b cs p e → Became b cs p k e
   waits : (j : ℕ) → j + receivesOf b p cs ≤ k → j < length (runFrom b cs .queue p) → getD (runFrom b cs .queue p) j e ≡ e → Became b cs p k e
 
@@ -63,4 +63,4 @@ Progress = (before cs : List Call) (p k : ℕ) (e : Entry) → k < length (run b
 abbrev pub InTime : Type 0
 InTime =
     (before cs : List Call) (p k : ℕ) (e : Entry) → k < length (run before .queue p) → getD (run before .queue p) k e ≡ e → k < receivesOf (run before) p cs →
-    ((i : ℕ) × (i ≤ k) × (i < receivesOf (run before) p cs) × (getD (takenOut (run before) p cs) i e ≡ e)) ⊎ Lost (run before) cs p e
+    ((i : ℕ) × (i ≤ k) × (i < length (takenOut (run before) p cs)) × (getD (takenOut (run before) p cs) i e ≡ e)) ⊎ Lost (run before) cs p e

@@ -165,7 +165,7 @@ progress before cs p k e l h = go (placed (followed before cs p) k e l h)
         on : Seen (ltb j (length out)) → Became (run before) cs p k e
         on (is-true z) =
             let m : j < length out = ltb-true j (length out) z in
-            came-out j le (omega (arith, n)) (sym (List·getD-append out rest e j m) ∙ f)
+            came-out j le m (sym (List·getD-append out rest e j m) ∙ f)
         on (is-false z) =
             let m : length out ≤ j = ltb-false j (length out) z in
             let i : length out + (j - length out) ≡ j = omega arith in
@@ -175,7 +175,7 @@ progress before cs p k e l h = go (placed (followed before cs p) k e l h)
 pub in-time : InTime
 in-time before cs p k e l h enough = go (progress before cs p k e l h)
   where
-    go : Became (run before) cs p k e → ((i : ℕ) × (i ≤ k) × (i < receivesOf (run before) p cs) × (getD (takenOut (run before) p cs) i e ≡ e)) ⊎ Lost (run before) cs p e
+    go : Became (run before) cs p k e → ((i : ℕ) × (i ≤ k) × (i < length (takenOut (run before) p cs)) × (getD (takenOut (run before) p cs) i e ≡ e)) ⊎ Lost (run before) cs p e
     go (came-out i le lt f) = inl (i, le, lt, f)
     go (lost g) = inr g
     go (waits j le lt f) = absurd (omega arith)

@@ -38,13 +38,13 @@ openable unopened = 0
 openable opened = EEXIST
 openable disconnected = ESHUTDOWN
 
--- "create with an ID the peer holds".
-abbrev pub unheld : State → ℕ → ℕ → ℕ → ℕ
-unheld b p i r = pick (ltb (slot b p i) nodes) EEXIST r
+-- "create with an ID the peer holds": s is the ID's slot.
+abbrev pub unheld : ℕ → ℕ → ℕ
+unheld s r = pick (ltb s nodes) EEXIST r
 
--- "an ID the acting peer does not hold".
-abbrev pub holding : State → ℕ → List ℕ → ℕ → ℕ
-holding b p is r = pick (every (λ i. ltb (slot b p i) nodes) is) r ENXIO
+-- "an ID the acting peer does not hold": find gives the slot of an ID.
+abbrev pub holding : (ℕ → ℕ) → List ℕ → ℕ → ℕ
+holding find is r = pick (every (λ i. ltb (find i) nodes) is) r ENXIO
 
 -- "destroy or holders question by a peer not the owner".
 abbrev pub owning : ℕ → ℕ → ℕ → ℕ
@@ -58,9 +58,9 @@ pinned b p s = both (isLive (b .life s)) (both (eqb (owner s) p) (eqb (count (b 
 abbrev pub living : State → List ℕ → ℕ → ℕ
 living b ss r = pick (every (λ s. isLive (b .life s)) ss) r EHOSTUNREACH
 
--- "create with 16 nodes counted".
-abbrev pub roomy : State → ℕ → ℕ → ℕ
-roomy b p r = pick (ltb (freePlace b p) slots) r ENOSPC
+-- "create with 16 nodes counted": k is the first place whose node does not count.
+abbrev pub roomy : ℕ → ℕ → ℕ
+roomy k r = pick (ltb k slots) r ENOSPC
 
 -- How many of the destination slots the peer q owns; what a send adds there, of each resource: "Each destination entry makes its own message, also when two name one peer."
 unfoldable pub placesAt : ℕ → List ℕ → ℕ
@@ -84,7 +84,31 @@ takeable room (message n m ∷ q) = pick (leb (length (m .payload) + 8 * length 
 takeable room (destroyed n s ∷ q) = 0
 takeable room (released n s ∷ q) = 0
 
--- The cascade of each command.
+-- The cascade of each command. Where it names IDs, find gives their slots, and for a create k is the free place.
+abbrev pub createBy : (ℕ → ℕ) → ℕ → State → ℕ → ℕ → ℕ
+createBy find k b p i = countable b (present (b .status p) (unheld (find i) (roomy k 0)))
+
+abbrev pub destroyBy : (ℕ → ℕ) → State → ℕ → ℕ → ℕ
+destroyBy find b p i = countable b (present (b .status p) (holding find (i ∷ []) (owning p (find i) (living b (find i ∷ []) 0))))
+
+abbrev pub releaseBy : (ℕ → ℕ) → State → ℕ → ℕ → ℕ
+releaseBy find b p i = countable b (present (b .status p) (holding find (i ∷ []) (pick (pinned b p (find i)) EPERM 0)))
+
+abbrev pub transferBy : (ℕ → ℕ) → State → ℕ → ℕ → ℕ → ℕ
+transferBy find b p i q = countable b (present (b .status p) (present (b .status q) (holding find (i ∷ []) (living b (find i ∷ []) 0))))
+
+-- Destination IDs is, attached IDs hs, nb payload bytes.
+abbrev pub sendBy : (ℕ → ℕ) → State → ℕ → List ℕ → List ℕ → ℕ → ℕ
+sendBy find b p is hs nb =
+    countable b
+    (present (b .status p)
+    (holding find (is ++ hs)
+    (living b (map find is)
+    (affordable b (b .user p) (map find is) nb (length hs) 0))))
+
+abbrev pub holdersBy : (ℕ → ℕ) → State → ℕ → ℕ → ℕ
+holdersBy find b p i = present (b .status p) (holding find (i ∷ []) (owning p (find i) 0))
+
 unfoldable pub refusesOpen : State → ℕ → ℕ
 refusesOpen b p = countable b (openable (b .status p))
 
@@ -92,25 +116,19 @@ unfoldable pub refusesDisconnect : State → ℕ → ℕ
 refusesDisconnect b p = countable b (present (b .status p) 0)
 
 unfoldable pub refusesCreate : State → ℕ → ℕ → ℕ
-refusesCreate b p i = countable b (present (b .status p) (unheld b p i (roomy b p 0)))
+refusesCreate b p i = createBy (slot b p) (freePlace b p) b p i
 
 unfoldable pub refusesDestroy : State → ℕ → ℕ → ℕ
-refusesDestroy b p i = countable b (present (b .status p) (holding b p (i ∷ []) (owning p (slot b p i) (living b (slot b p i ∷ []) 0))))
+refusesDestroy b p i = destroyBy (slot b p) b p i
 
 unfoldable pub refusesRelease : State → ℕ → ℕ → ℕ
-refusesRelease b p i = countable b (present (b .status p) (holding b p (i ∷ []) (pick (pinned b p (slot b p i)) EPERM 0)))
+refusesRelease b p i = releaseBy (slot b p) b p i
 
 unfoldable pub refusesTransfer : State → ℕ → ℕ → ℕ → ℕ
-refusesTransfer b p i q = countable b (present (b .status p) (present (b .status q) (holding b p (i ∷ []) (living b (slot b p i ∷ []) 0))))
+refusesTransfer b p i q = transferBy (slot b p) b p i q
 
--- Destination IDs is, attached IDs hs, nb payload bytes.
 unfoldable pub refusesSend : State → ℕ → List ℕ → List ℕ → ℕ → ℕ
-refusesSend b p is hs nb =
-    countable b
-    (present (b .status p)
-    (holding b p (is ++ hs)
-    (living b (map (slot b p) is)
-    (affordable b (b .user p) (map (slot b p) is) nb (length hs) 0))))
+refusesSend b p is hs nb = sendBy (slot b p) b p is hs nb
 
 unfoldable pub refusesReceive : State → ℕ → ℕ → ℕ
 refusesReceive b p room = countable b (present (b .status p) (takeable room (b .queue p)))
@@ -119,7 +137,7 @@ unfoldable pub refusesQuota : State → ℕ → ℕ
 refusesQuota b p = present (b .status p) 0
 
 unfoldable pub refusesHolders : State → ℕ → ℕ → ℕ
-refusesHolders b p i = present (b .status p) (holding b p (i ∷ []) (owning p (slot b p i) 0))
+refusesHolders b p i = holdersBy (slot b p) b p i
 
 -- The refusal of a command that its frame f gave.
 unfoldable pub refusal : State → List ℕ → Command → ℕ
@@ -133,3 +151,16 @@ refusal b f (Send p z) = refusesSend b (p .0) (destinations f z) (attached f z) 
 refusal b f (Receive p room) = refusesReceive b (p .0) room
 refusal b f (Quota p u) = refusesQuota b (p .0)
 refusal b f (Holders p i) = refusesHolders b (p .0) (i .0)
+
+-- The same where a search of one's own gives the slots of IDs, by peer, and the free places: the core's judgement is this one, with the search that its code makes.
+unfoldable pub refusalBy : (ℕ → ℕ → ℕ) → (ℕ → ℕ) → State → List ℕ → Command → ℕ
+refusalBy find free b f (Open p u) = refusesOpen b (p .0)
+refusalBy find free b f (Disconnect p) = refusesDisconnect b (p .0)
+refusalBy find free b f (Create p i) = createBy (find (p .0)) (free (p .0)) b (p .0) (i .0)
+refusalBy find free b f (Destroy p i) = destroyBy (find (p .0)) b (p .0) (i .0)
+refusalBy find free b f (Release p i) = releaseBy (find (p .0)) b (p .0) (i .0)
+refusalBy find free b f (Transfer p i q) = transferBy (find (p .0)) b (p .0) (i .0) (q .0)
+refusalBy find free b f (Send p z) = sendBy (find (p .0)) b (p .0) (destinations f z) (attached f z) (length (payloadOf f))
+refusalBy find free b f (Receive p room) = refusesReceive b (p .0) room
+refusalBy find free b f (Quota p u) = refusesQuota b (p .0)
+refusalBy find free b f (Holders p i) = holdersBy (find (p .0)) b (p .0) (i .0)

@@ -104,7 +104,7 @@ countable-in b r e =
     let x = pick-then {A = ℕ} (ltb (b .accepted) mostCommands) EOVERFLOW 0 (λ z. omega arith) e in
     (ltb-true (b .accepted) mostCommands (x .0), x .1)
 
-present-in : (s : Status) (r : ℕ) → present s r ≡ 0 → (s ≡ opened) × (r ≡ 0)
+pub present-in : (s : Status) (r : ℕ) → present s r ≡ 0 → (s ≡ opened) × (r ≡ 0)
 present-in unopened r e = absurd (omega arith)
 present-in opened r e = (refl, e)
 present-in disconnected r e = absurd (omega arith)
@@ -114,23 +114,23 @@ openable-in unopened e = refl
 openable-in opened e = absurd (omega arith)
 openable-in disconnected e = absurd (omega arith)
 
-acting-in : (b : State) (p r : ℕ) → countable b (present (b .status p) r) ≡ 0 → Acting b p × (r ≡ 0)
+pub acting-in : (b : State) (p r : ℕ) → countable b (present (b .status p) r) ≡ 0 → Acting b p × (r ≡ 0)
 acting-in b p r e =
     let x = countable-in b (present (b .status p) r) e in
     let y = present-in (b .status p) r (x .1) in
     (record { room = x .0; is-open = y .0 }, y .1)
 
-held-all : (b : State) (p : ℕ) (is : List ℕ) → every (λ i. ltb (slot b p i) nodes) is ≡ true → All (Holds b p) is
-held-all b p [] e = tt
-held-all b p (i ∷ is) e =
-    let r = pick-then (ltb (slot b p i) nodes) false true (λ z. clash (sym z)) e in
-    (ltb-true (slot b p i) nodes (r .0), held-all b p is (r .1))
+held-all : (find : ℕ → ℕ) (is : List ℕ) → every (λ i. ltb (find i) nodes) is ≡ true → All (λ i. find i < nodes) is
+held-all find [] e = tt
+held-all find (i ∷ is) e =
+    let r = pick-then (ltb (find i) nodes) false true (λ z. clash (sym z)) e in
+    (ltb-true (find i) nodes (r .0), held-all find is (r .1))
 
-holding-in : (b : State) (p : ℕ) (is : List ℕ) (r : ℕ) → holding b p is r ≡ 0 → (every (λ i. ltb (slot b p i) nodes) is ≡ true) × (r ≡ 0)
-holding-in b p is r e = pick-then {A = ℕ} (every (λ i. ltb (slot b p i) nodes) is) ENXIO 0 (λ z. omega arith) e
+holding-in : (find : ℕ → ℕ) (is : List ℕ) (r : ℕ) → holding find is r ≡ 0 → (every (λ i. ltb (find i) nodes) is ≡ true) × (r ≡ 0)
+holding-in find is r e = pick-then {A = ℕ} (every (λ i. ltb (find i) nodes) is) ENXIO 0 (λ z. omega arith) e
 
-held-in : (b : State) (p i r : ℕ) → holding b p (i ∷ []) r ≡ 0 → Holds b p i × (r ≡ 0)
-held-in b p i r e = let x = holding-in b p (i ∷ []) r e in (held-all b p (i ∷ []) (x .0) .0, x .1)
+pub held-in : (find : ℕ → ℕ) (i r : ℕ) → holding find (i ∷ []) r ≡ 0 → (find i < nodes) × (r ≡ 0)
+held-in find i r e = let x = holding-in find (i ∷ []) r e in (held-all find (i ∷ []) (x .0) .0, x .1)
 
 owning-in : (p s r : ℕ) → pick (eqb (owner s) p) r EPERM ≡ 0 → (owner s ≡ p) × (r ≡ 0)
 owning-in p s r e = let x = pick-then {A = ℕ} (eqb (owner s) p) EPERM 0 (λ z. omega arith) e in (eqb-true (owner s) p (x .0), x .1)
@@ -161,7 +161,7 @@ tested-destroy : (b : State) (p i : ℕ) → refusesDestroy b p i ≡ 0 → Test
 unfolding refusesDestroy
 tested-destroy b p i e =
     let x = acting-in b p _ e in
-    let y = held-in b p i _ (x .1) in
+    let y = held-in (slot b p) i _ (x .1) in
     let z = owning-in p (slot b p i) _ (y .1) in
     record { acting = x .0; holds = y .0; owns = z .0; lives = living-in b (slot b p i ∷ []) 0 (z .1) .0 .0 }
 
@@ -169,7 +169,7 @@ tested-release : (b : State) (p i : ℕ) → refusesRelease b p i ≡ 0 → Test
 unfolding refusesRelease
 tested-release b p i e =
     let x = acting-in b p _ e in
-    let y = held-in b p i _ (x .1) in
+    let y = held-in (slot b p) i _ (x .1) in
     record { acting = x .0; holds = y .0; unpinned = pick-else {A = ℕ} (pinned b p (slot b p i)) EPERM 0 (λ z. omega arith) (y .1) .0 }
 
 tested-transfer : (b : State) (p i q : ℕ) → refusesTransfer b p i q ≡ 0 → TestedTransfer b p i q
@@ -177,20 +177,20 @@ unfolding refusesTransfer
 tested-transfer b p i q e =
     let x = acting-in b p _ e in
     let y = present-in (b .status q) _ (x .1) in
-    let z = held-in b p i _ (y .1) in
+    let z = held-in (slot b p) i _ (y .1) in
     record { acting = x .0; destination = y .0; holds = z .0; lives = living-in b (slot b p i ∷ []) 0 (z .1) .0 .0 }
 
 tested-send : (b : State) (p : ℕ) (is hs : List ℕ) (nb : ℕ) → refusesSend b p is hs nb ≡ 0 → TestedSend b p is hs nb
 unfolding refusesSend
 tested-send b p is hs nb e =
     let x = acting-in b p _ e in
-    let y = holding-in b p (is ++ hs) _ (x .1) in
+    let y = holding-in (slot b p) (is ++ hs) _ (x .1) in
     let h = every-split (λ i. ltb (slot b p i) nodes) is hs (y .0) in
     let z = living-in b (map (slot b p) is) _ (y .1) in
     record {
       acting = x .0;
-      holds = held-all b p is (h .0);
-      holds-attached = held-all b p hs (h .1);
+      holds = held-all (slot b p) is (h .0);
+      holds-attached = held-all (slot b p) hs (h .1);
       lives = z .0;
       fitting = pick-then {A = ℕ} (fits b (b .user p) (map (slot b p) is) nb (length hs)) EDQUOT 0 (λ z. omega arith) (z .1) .0;
     }
@@ -207,7 +207,7 @@ tested-holders : (b : State) (p i : ℕ) → refusesHolders b p i ≡ 0 → Test
 unfolding refusesHolders
 tested-holders b p i e =
     let x = present-in (b .status p) _ e in
-    let y = held-in b p i _ (x .1) in
+    let y = held-in (slot b p) i _ (x .1) in
     record { is-open = x .0; holds = y .0; owns = owning-in p (slot b p i) 0 (y .1) .0 }
 
 -- Every command that is not refused.

@@ -1,7 +1,7 @@
 -- The laws that the functions' proofs cite, one for each return or turn of a loop, over plain variables: each is shaped like what the callee ensures.
 -- Assumes nothing.
 use Prim.Native.Nat.{ℕ, zero, suc, _+_, _*_, _-_, _/_, _%_, _^_, _≤_, _<_}
-use mathlib.Core.Path.{_≡_, refl, sym, ap, _∙_}
+use mathlib.Core.Path.{_≡_, refl, sym, ap, ap₂, _∙_}
 use mathlib.Core.Bool.{Bool, true, false}
 use mathlib.Core.List.{List}
 use native.Mathlib.Omega.{arith}
@@ -10,14 +10,16 @@ use lib.ListN.{length}
 use lib.Count.{trailingZeros}
 use lib.Dec.{eqb, ltb}
 use lib.Pow.{pow-mono}
-use borrow.Author.Tests.{eq-eqb, ne-eqb, lt-ltb, le-ltb}
-use Rattle.laws.specs.Tests.{pick, pick-all}
+use borrow.Author.Tests.{eq-eqb, ne-eqb, ltb-true, ltb-false, lt-ltb, le-ltb}
+use Rattle.laws.specs.Tests.{pick, pick-all, Seen, Seen.is-true, Seen.is-false, look, Same, Same.same, Same.other, same?}
 use Rattle.laws.specs.Sums.{sumTo}
 use Rattle.laws.specs.Bits.{bits}
 use Rattle.ids.specs.declared.HandleId.{HandleId}
 use Rattle.ids.specs.declared.Peer.{Peer}
 use Rattle.rings.specs.declared.Entry.{Entry}
-use Rattle.rings.specs.Rings.{slots, endCount, Rings, Sized, bitAt}
+use Rattle.rings.specs.declared.Match.{Match}
+use Rattle.rings.specs.Rings.{slots, endCount, Rings, Sized, bitAt, oneSlot}
+use Rattle.rings.specs.Matches.{bit-one}
 use Rattle.tables.specs.declared.Found.{Found}
 use Rattle.tables.specs.declared.Found.the-variants.{At, Nothing}
 use Rattle.tables.specs.Nodes.{liveAt, setDead}
@@ -29,6 +31,7 @@ use Rattle.queues.specs.Entering.{enter-sized, enter-ends}
 use Rattle.notices.specs.declared.Asked.{Asked}
 use Rattle.notices.specs.declared.Asked.the-variants.{Living, Falling, Above}
 use Rattle.notices.specs.Notices.{noticeOf, fallsAt, keyAt, aboveAt, Fair, asks, setOf, lowerOf, leastAt, postedTo, addressees, following, told, deadAll, destroyedOf, releasedIn, destroyedSet, toldOwners}
+use Rattle.notices.specs.Rising.{bit-bits}
 
 -- falls
 module _ (ns hs : List ℕ) (p s : ℕ) {a : Bool} (ea : a ≡ liveAt ns s) where
@@ -307,6 +310,75 @@ pub destroy-done : (ns hs : List ℕ) (r : Rings) (p set n : ℕ) {r₁ : Rings}
     {r₂ : Rings} → r₂ ≡ told hs p 1 n r₁ set 16 → destroyedOf ns′ r₂ ≡ destroyedSet ns hs r p set n
 unfolding destroyedSet
 destroy-done ns hs r p set n ew en et = rw (en, et, ew)
+
+-- destroy_one: in the set of one bit the least ID is that place's and none is above it, so one notice is queued; and one node is dead.
+below-next : (n k : ℕ) → k < suc n → (n ≡ k → ⊥) → k < n
+below-next n k l d = go (look (ltb k n))
+  where
+    go : Seen (ltb k n) → k < n
+    go (is-true e) = ltb-true k n e
+    go (is-false e) = let m : n ≤ k = ltb-false k n e in absurd (d (omega arith))
+
+module _ (hs : List ℕ) (q : ℕ) where
+  least-empty : (set n : ℕ) → ((j : ℕ) → j < n → bitAt set j ≡ false) → leastAt hs q set n ≡ Nothing
+  unfolding leastAt
+  least-empty set zero h = refl
+  least-empty set (suc n) h = rw (h n (omega arith)) (least-empty set n (λ j l. h j (omega arith)))
+
+  least-one : (k n : ℕ) → k < n → leastAt hs q (2 ^ k) n ≡ At k
+  unfolding leastAt
+  least-one k zero l = absurd (omega arith)
+  least-one k (suc n) l = rw (bit-one k n) (go (same? n k) (least-one k n))
+    where
+      go : Same n k → (k < n → leastAt hs q (2 ^ k) n ≡ At k) → pick (eqb n k) (lowerOf hs q (leastAt hs q (2 ^ k) n) n) (leastAt hs q (2 ^ k) n) ≡ At k
+      go (same d) ih = rw (eq-eqb n k d, least-empty (2 ^ k) n (λ j m. bit-one k j ∙ ne-eqb j k (λ e. absurd (omega arith)))) (ap At d)
+      go (other d) ih = rw (ne-eqb n k d) (ih (below-next n k l d))
+
+  above-one : (k j : ℕ) → k < 16 → aboveAt hs q (2 ^ k) k j ≡ false
+  unfolding aboveAt
+  above-one k j l = rw (bit-one k j) (go (same? j k))
+    where
+      go : Same j k → pick (eqb j k) (ltb (keyAt hs q (k % slots)) (keyAt hs q j)) false ≡ false
+      go (same d) = let e : k % slots ≡ k = omega arith in rw (eq-eqb j k d, e, d) (le-ltb (keyAt hs q k) (keyAt hs q k) (omega arith))
+      go (other d) = rw (ne-eqb j k d)
+
+  told-one : (kind n : ℕ) (r : Rings) (k : ℕ) → k < 16 →
+      told hs q kind n r (2 ^ k) 16 ≡ postedTo r (noticeOf kind (q * slots + k) n) (addressees hs kind (q * slots + k)) 8
+  told-one kind n r k l =
+      let e : k % slots ≡ k = omega arith in
+      let r′ = postedTo r (noticeOf kind (q * slots + k) n) (addressees hs kind (q * slots + k)) 8 in
+      let set′ = bits (aboveAt hs q (2 ^ k) k) slots in
+      told-some hs q kind n r (2 ^ k) 15 k (least-one k 16 l)
+      ∙ ap (λ (i : ℕ). told hs q kind n (postedTo r (noticeOf kind (q * slots + i) n) (addressees hs kind (q * slots + i)) 8) set′ 15) e
+      ∙ told-none hs q kind n r′ set′ 15 (least-empty set′ 16 (λ j m. bit-bits (aboveAt hs q (2 ^ k) k) 16 j m ∙ above-one k j l))
+
+dead-none : (ns : List ℕ) (p set n k : ℕ) → ((j : ℕ) → j < k → bitAt set j ≡ false) → deadAll ns p set n k ≡ ns
+unfolding deadAll
+dead-none ns p set n zero h = refl
+dead-none ns p set n (suc k) h = rw (h k (omega arith)) (dead-none ns p set n k (λ j l. h j (omega arith)))
+
+dead-one : (ns : List ℕ) (p n k m : ℕ) → k < m → deadAll ns p (2 ^ k) n m ≡ setDead ns (p * slots + k) n
+unfolding deadAll
+dead-one ns p n k zero l = absurd (omega arith)
+dead-one ns p n k (suc m) l = rw (bit-one k m) (go (same? m k) (dead-one ns p n k m))
+  where
+    go : Same m k → (k < m → deadAll ns p (2 ^ k) n m ≡ setDead ns (p * slots + k) n) →
+        pick (eqb m k) (setDead (deadAll ns p (2 ^ k) n m) (p * slots + m) n) (deadAll ns p (2 ^ k) n m) ≡ setDead ns (p * slots + k) n
+    go (same d) ih = rw (eq-eqb m k d, dead-none ns p (2 ^ k) n m (λ j i. bit-one k j ∙ ne-eqb j k (λ e. absurd (omega arith))), d)
+    go (other d) ih = rw (ne-eqb m k d) (ih (below-next m k l d))
+
+pub destroy-one : (ns hs : List ℕ) (r : Rings) (p s n : ℕ) {m : Match} → m ≡ oneSlot 4 (p * slots + s % slots) → {r₁ : Rings} → r₁ ≡ withdrawn r p m →
+    {ns′ : List ℕ} → ns′ ≡ setDead ns (p * slots + s % slots) n → {to : ℕ} → to ≡ holdersAt hs (p * slots + s % slots) →
+    {e : Entry} → e ≡ noticeOf 1 (p * slots + s % slots) n → {r₂ : Rings} → r₂ ≡ postedTo r₁ e to 8 → destroyedOf ns′ r₂ ≡ destroyedSet ns hs r p (oneSlot 4 s .mask) n
+unfolding destroyedSet oneSlot
+destroy-one ns hs r p s n {m} em {r₁} ew {ns′} en {to} et {e} ee {r₂} er =
+    let k = s % slots in
+    let l : k < 16 = omega arith in
+    let f : (p * slots + k) / slots * slots ≡ p * slots = omega arith in
+    let g : (p * slots + k) % slots ≡ k = omega arith in
+    let w : r₁ ≡ withdrawn r p (releasedIn p (2 ^ k)) = ew ∙ ap (withdrawn r p) (rw (f, g) at em) in
+    let t : to ≡ addressees hs 1 (p * slots + k) = to-holders hs 1 (p * slots + k) refl et in
+    ap₂ destroyedOf (en ∙ sym (dead-one ns p n k 16 l)) (rw (told-one hs p 1 n (withdrawn r p (releasedIn p (2 ^ k))) k l, ← w, ← t, ← ee) er)
 
 -- tell_owners
 pub record Owning (ns hs : List ℕ) (p n : ℕ) (r₀ r : Rings) (q : ℕ) : Type 0 where

@@ -4,14 +4,13 @@ ghost use mathlib.Core.Path.{_≡_};
 ghost use Prim.Native.Nat.{_<_, _≤_};
 ghost use lib.ListN.{length};
 ghost use Rattle.laws.specs.Tests.{pick};
-ghost use Rattle.rings.specs.Rings.{rowsOf, ringsOf, endCount, Sized};
+ghost use Rattle.rings.specs.Rings.{rowsOf, ringsOf, endCount, Sized, oneSlot};
 ghost use Rattle.notices.specs.Notices.{noticeOf, fallsAt, aboveAt, Fair, asks, setOf, lowerOf, leastAt, postedTo, addressees as addresseesOf, told, deadAll, Destroyed, destroyedOf, destroyedSet, toldOwners};
 use ids::Peer;
+use ids::SLOTS;
 use rings::Entry;
 use rings::Match;
 use tables::Found;
-
-const SLOTS: usize = 16;
 
 // The kinds of notice.
 pub const DESTROYED: u16 = 1;
@@ -19,7 +18,7 @@ pub const DESTROYED: u16 = 1;
 pub const RELEASED: u16 = 2;
 
 // The bit of the release notices among a removal's kinds.
-pub const RELEASED_BIT: u8 = 4;
+const RELEASED_BIT: u8 = 4;
 
 // Which of a peer's slots are asked for: those whose nodes live; those whose sum of counts falls to 1 when a peer's handle
 // goes; those of a set whose IDs are above the one of a place.
@@ -259,6 +258,30 @@ pub fn destroy_set(
         DESTROYED,
         n,
     );
+}
+
+// Of the peer's own nodes the one at the slot's place is destroyed: the set of that one bit.
+pub fn destroy_one(
+    nodes: &mut [u64],
+    handles: &[u64],
+    ends: &mut [u16],
+    entries: &mut [u16],
+    carried: &mut [u8],
+    numbers: &mut [u64],
+    p: Peer,
+    s: usize,
+    n: u64,
+)
+    requires { ⌜ (length (now nodes) ≡ 256) × (length (now handles) ≡ 2048) × (length (now ends) ≡ endCount) × Sized (rowsOf (now entries) (now carried) (now numbers)) × (p .0 < 8) ⌝ }
+    ensures { λ _. ⌜ destroyedOf (now (nodes .exit)) (ringsOf (now (ends .exit)) (now (entries .exit)) (now (carried .exit)) (now (numbers .exit))) ≡ destroyedSet (now (nodes .entry)) (now (handles .entry)) (ringsOf (now (ends .entry)) (now (entries .entry)) (now (carried .entry)) (now (numbers .entry))) (p .0) (oneSlot 4 s .mask) n ⌝ }
+{
+    let own = p.0 * SLOTS + s % SLOTS;
+    let m = Match::one_slot(RELEASED_BIT, own);
+    queues::withdraw(ends, entries, carried, numbers, p, m);
+    tables::set_dead(nodes, own, n);
+    let to = tables::holders(handles, own);
+    let e = notice(DESTROYED, own, n);
+    post(ends, entries, carried, numbers, to, e);
 }
 
 // The release notices at every owner, when all handles of the peer go.

@@ -5,12 +5,10 @@ ghost use Prim.Native.Nat.{_+_, _*_, _<_, _≤_};
 ghost use lib.ListN.{length};
 ghost use Rattle.rings.specs.Rings.{peers, ringSize, endCount, rowsOf, ringsOf, Sized, lengthOf, queueOf};
 ghost use Rattle.pool.specs.Pool.{areaSize, poolSize, pieceOf, appended, closed, bytesIn, kept, keptPiece, keptPieces};
+use ids::AREA;
 use ids::Peer;
 use rings::Entry;
 use rings::Match;
-
-// The bytes of one peer's area.
-const AREA: usize = 4096;
 
 // The n bytes from a place of a peer's area on.
 pub fn piece(pool: &[u8], p: Peer, at: usize, n: usize) -> &[u8]

@@ -25,9 +25,10 @@ use Rattle.model.specs.Refusals.{takeable}
 use Rattle.model.specs.Replies.{ofSend}
 use Rattle.model.specs.Queues.{stamp}
 use Rattle.model.specs.Order.{InOrder}
+use Rattle.tables.specs.Charges.{chargesAt}
 use Rattle.view.specs.View.{entryV, areaOf, rowsV, queueV}
 use Rattle.view.specs.Rows.{area-length, area-bytes, queue-own}
-use Rattle.queues.specs.Queues.{isMessage, chargeIn, leads, followsIn, namesIn, namedIn}
+use Rattle.queues.specs.Queues.{isMessage, chargeIn, leads, followsIn, namesIn, attachedOf, carriesIn, namedIn}
 
 -- What a row stands for, by its kind.
 abbrev pub messageV : Pair → Message
@@ -115,11 +116,22 @@ below-same : (f g : ℕ → Bool) (n : ℕ) → ((j : ℕ) → j < n → f j ≡
 below-same f g zero h = refl
 below-same f g (suc n) h = ap₂ either (h n (omega arith)) (below-same f g n (λ j l. h j (omega arith)))
 
-pub named-view : (r : Rings) (t : List ℕ) (s : ℕ) → namedIn r s ≡ named (queueV r t) s
-unfolding namedIn named rowsV
-named-view r t s =
-    below-same (λ q. any (namesIn s) (queueOf r q)) (λ q. any (names s) (messagesIn (queueV r t q))) peers
-    (λ q l. names-view s (queueOf r q) (areaOf t q (sumOf (queueOf r q))) ∙ ap (λ (es : List Entry). any (names s) (messagesIn es)) (sym (queue-own r t q l)))
+pub names-at : (r : Rings) (t : List ℕ) (s q : ℕ) → q < 8 → any (namesIn s) (queueOf r q) ≡ any (names s) (messagesIn (queueV r t q))
+unfolding rowsV
+names-at r t s q l =
+    names-view s (queueOf r q) (areaOf t q (sumOf (queueOf r q))) ∙ ap (λ (es : List Entry). any (names s) (messagesIn es)) (sym (queue-own r t q l))
+
+-- Where each queue's answer is that of all its messages, the slot is named as the model says.
+pub named-view : (cs : List ℕ) (r : Rings) (t : List ℕ) (s : ℕ) → ((q : ℕ) → q < 8 → eqb (attachedOf (chargesAt cs q)) 0 ≡ true → any (names s) (messagesIn (queueV r t q)) ≡ false) →
+    namedIn cs r s ≡ named (queueV r t) s
+unfolding namedIn named carriesIn
+named-view cs r t s none =
+    below-same (carriesIn cs r s) (λ q. any (names s) (messagesIn (queueV r t q))) peers
+    (λ q l. go q l (look (eqb (attachedOf (chargesAt cs q)) 0)))
+  where
+    go : (q : ℕ) → q < 8 → Seen (eqb (attachedOf (chargesAt cs q)) 0) → carriesIn cs r s q ≡ any (names s) (messagesIn (queueV r t q))
+    go q l (is-true e) = rw e (sym (none q l e))
+    go q l (is-false e) = rw e (names-at r t s q l)
 
 -- The front of an area, and a piece of the pool from its start.
 build-front : (f : ℕ → ℕ) (n k : ℕ) → take n (build f (n + k)) ≡ build f n

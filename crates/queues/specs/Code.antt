@@ -1,6 +1,6 @@
 -- The laws that the functions' proofs cite, one for each return or turn of a loop, over plain variables: each is shaped like what the callee ensures.
 -- Assumes nothing.
-use Prim.Native.Nat.{ℕ, zero, suc, _+_, min, _≤_, _<_}
+use Prim.Native.Nat.{ℕ, zero, suc, _+_, _*_, min, _≤_, _<_}
 use mathlib.Core.Path.{_≡_, refl, sym, ap, _∙_}
 use mathlib.Core.Bool.{Bool, true, false, not}
 use mathlib.Core.List.{List, [], _∷_}
@@ -9,29 +9,32 @@ use lib.ListN.{length, getD, take, drop, drop-of-length-le}
 use lib.Seq.{drop-cons, getD-take, length-take-le}
 use lib.Dec.{eqb}
 use borrow.Author.Tests.{eq-eqb, ne-eqb, lt-ltb, le-ltb, le-leb, lt-leb}
-use Rattle.laws.specs.Tests.{Same, Same.same, Same.other, same?}
+use Rattle.laws.specs.Tests.{pick, Same, Same.same, Same.other, same?}
 use Rattle.laws.specs.Stores.{take-min}
+use Rattle.laws.specs.Rows.{rowIn, row-length, row5}
 use Rattle.quota.specs.declared.Charge.{Charge}
 use Rattle.quota.specs.declared.Charges.{Charges}
 use Rattle.quota.specs.Charges.{freshCharges, charged, discharged}
 use Rattle.rings.specs.declared.Entry.{Entry}
 use Rattle.rings.specs.declared.Match.{Match}
-use Rattle.rings.specs.Rings.{peers, ringSize, Rings, headOf, lengthOf, rowOf, entryAt, queueOf, matches, pushed, removed}
-use Rattle.rings.specs.Laws.{queue-length, queue-at}
-use Rattle.pool.specs.Pool.{kept, appended, closed, keptPieces}
+use Rattle.rings.specs.Rings.{peers, ringSize, Rings, rowsOf, headOf, lengthOf, rowOf, entryAt, queueOf, matches, pushed, removed}
+use Rattle.rings.specs.Laws.{row-at, queue-empty, queue-length, queue-at}
+use Rattle.pool.specs.Pool.{Kept, kept, appended, closed, keptPieces}
 use Rattle.tables.specs.Charges.{chargesAt, putCharges}
 use Rattle.model.specs.Lists.{either, any, anyBelow}
-use Rattle.queues.specs.Queues.{Queues, usedOf, isMessage, chargeIn, entered, enqueued, settledCharges, settledPool, lessened, lessenedAll, withdrawn, removedFrom, emptiedCharges, leads, followsIn, namesIn, namedIn}
+use Rattle.queues.specs.Queues.{Queues, usedOf, messageKind, isMessage, chargeIn, entered, enqueued, settledCharges, settledPool, lessened, lessenedAll, lessenedCharges, withdrawn, removedFrom, emptiedCharges, leads, followsIn, namesIn, attachedOf, carriesIn, namedIn}
 
--- is_message
-module _ (e : Entry) where
-  pub message-destroyed : e .kind ≡ 1 → false ≡ isMessage e
-  unfolding isMessage
-  message-destroyed h = rw (eq-eqb (e .kind) 1 h)
+-- is_message_kind, is_message
+module _ (k : ℕ) where
+  pub message-destroyed : k ≡ 1 → false ≡ messageKind k
+  message-destroyed h = rw (eq-eqb k 1 h)
 
-  pub message-else : (e .kind ≡ 1 → ⊥) → not (eqb (e .kind) 2) ≡ isMessage e
-  unfolding isMessage
-  message-else h = rw (ne-eqb (e .kind) 1 h)
+  pub message-else : (k ≡ 1 → ⊥) → not (eqb k 2) ≡ messageKind k
+  message-else h = rw (ne-eqb k 1 h)
+
+pub message-entry : (e : Entry) {b : Bool} → b ≡ messageKind (e .kind) → b ≡ isMessage e
+unfolding isMessage
+message-entry e h = h
 
 -- enter, withdraw
 module _ (r : Rings) (p : ℕ) {n : ℕ} (l : n ≡ lengthOf (r .ends) p) where
@@ -113,17 +116,22 @@ module _ {c : Charges} {m : Match} {g : Rings} {p : ℕ} {d : Charges} {i : ℕ}
   unfolding lessenedAll
   lessening-done h = ap (lessenedAll d m) (sym (queue-end g p i en h)) ∙ v .rest
 
+-- remove_messages
+pub messages-done : (t pool : List ℕ) (p : ℕ) (m : Match) (es : List Entry) {c : Charges} → c ≡ chargesAt t p → {d : Charges} → d ≡ lessenedAll c m es →
+    {t′ : List ℕ} → t′ ≡ putCharges t p d → {k : ℕ} {pool′ : List ℕ} → kept k pool′ ≡ keptPieces pool p 0 0 m es → (t′ ≡ lessenedCharges t p m es) × (pool′ ≡ keptPieces pool p 0 0 m es .table)
+messages-done t pool p m es ec ed et ep = (rw (et, ed, ec), ap (λ (x : Kept). x .table) ep)
+
 -- remove
 module _ (q : Queues) (p : ℕ) (m : Match) {n : ℕ} (l : n ≡ lengthOf (q .rings .ends) p) where
   pub remove-long : ringSize < n → q ≡ removedFrom q p m
   unfolding removedFrom
   remove-long h = rw (← l, lt-leb n ringSize h)
 
-  pub remove-done : n ≤ ringSize → {c : Charges} → c ≡ chargesAt (q .charges) p → {d : Charges} → d ≡ lessenedAll c m (queueOf (q .rings) p) →
-      {t′ : List ℕ} → t′ ≡ putCharges (q .charges) p d → {k : ℕ} {pool′ : List ℕ} → kept k pool′ ≡ keptPieces (q .pool) p 0 0 m (queueOf (q .rings) p) →
+  pub remove-done : n ≤ ringSize → {t′ pool′ : List ℕ} →
+      (t′ ≡ lessenedCharges (q .charges) p m (queueOf (q .rings) p)) × (pool′ ≡ keptPieces (q .pool) p 0 0 m (queueOf (q .rings) p) .table) →
       {r′ : Rings} → r′ ≡ removed (q .rings) p m → _≡_ {A = Queues} (record { charges = t′; rings = r′; pool = pool′ }) (removedFrom q p m)
   unfolding removedFrom
-  remove-done h ec ed et ep er = rw (← l, le-leb n ringSize h, et, ed, ec, er, ← ep)
+  remove-done h both er = rw (← l, le-leb n ringSize h, both .0, both .1, er)
 
 -- empty
 pub empty-charges : (t : List ℕ) (p : ℕ) {c : Charges} → c ≡ freshCharges → {t′ : List ℕ} → t′ ≡ putCharges t p c → t′ ≡ emptiedCharges t p
@@ -179,47 +187,52 @@ module _ {A : Type 0} (t : A → Bool) (x : A) (xs : List A) where
   any-next h = rw h
 
 -- is_among
-pub record Among (slots : List ℕ) (n s k : ℕ) : Type 0 where
-  pub rest : any (eqb s) (drop k (take n slots)) ≡ any (eqb s) (take n slots)
+pub record Among (c : List ℕ) (row n s k : ℕ) : Type 0 where
+  pub rest : any (eqb s) (drop k (take n (rowIn 8 c row))) ≡ any (eqb s) (take n (rowIn 8 c row))
 
-pub among-start : (slots : List ℕ) (n s : ℕ) → Among slots n s 0
-among-start slots n s = record { rest = refl }
+pub among-start : (c : List ℕ) (row n s : ℕ) → Among c row n s 0
+among-start c row n s = record { rest = refl }
 
-module _ {slots : List ℕ} {n s k : ℕ} (v : Among slots n s k) (size : length slots ≡ 8) (fit : n ≤ 8) where
-  pub among-end : n ≤ k → false ≡ any (eqb s) (take n slots)
-  among-end h = ap (any (eqb s)) (sym (drop-of-length-le (take n slots) {i = k} (omega (arith, length-take-le n slots (omega arith))))) ∙ v .rest
+module _ {c : List ℕ} {row n s k : ℕ} (v : Among c row n s k) (fit : n ≤ 8) where
+  among-size : length (take n (rowIn 8 c row)) ≡ n
+  among-size = length-take-le n (rowIn 8 c row) (omega (arith, row-length 8 c row))
 
-  module _ (lt : k < n) {b : ℕ} (eb : b ≡ getD slots k 0) where
-    among-here : any (eqb s) (b ∷ drop (k + 1) (take n slots)) ≡ any (eqb s) (take n slots)
+  pub among-end : n ≤ k → false ≡ any (eqb s) (take n (rowIn 8 c row))
+  among-end h = ap (any (eqb s)) (sym (drop-of-length-le (take n (rowIn 8 c row)) {i = k} (omega (arith, among-size)))) ∙ v .rest
+
+  module _ (lt : k < n) {b : ℕ} (eb : b ≡ getD c (8 * row + k) 0) where
+    among-here : any (eqb s) (b ∷ drop (k + 1) (take n (rowIn 8 c row))) ≡ any (eqb s) (take n (rowIn 8 c row))
     among-here =
-        let here : getD (take n slots) k 0 ≡ b = getD-take n slots k 0 lt ∙ sym eb in
+        let here : getD (take n (rowIn 8 c row)) k 0 ≡ b = getD-take n (rowIn 8 c row) k 0 lt ∙ row-at 8 c row k (omega arith) ∙ sym eb in
         let step : suc k ≡ k + 1 = omega arith in
-        let next : drop k (take n slots) ≡ b ∷ drop (k + 1) (take n slots) = drop-cons (take n slots) k 0 (omega (arith, length-take-le n slots (omega arith))) ∙ ap (λ (x : ℕ). x ∷ drop (suc k) (take n slots)) here
-        ∙ ap (λ (x : ℕ). b ∷ drop x (take n slots)) step in
+        let next : drop k (take n (rowIn 8 c row)) ≡ b ∷ drop (k + 1) (take n (rowIn 8 c row)) = drop-cons (take n (rowIn 8 c row)) k 0 (omega (arith, among-size)) ∙ ap (λ (x : ℕ). x ∷ drop (suc k) (take n (rowIn 8 c row))) here
+        ∙ ap (λ (x : ℕ). b ∷ drop x (take n (rowIn 8 c row))) step in
         ap (any (eqb s)) (sym next) ∙ v .rest
 
-    pub among-found : b ≡ s → true ≡ any (eqb s) (take n slots)
-    among-found e = sym (any-here (eqb s) b (drop (k + 1) (take n slots)) (eq-eqb s b (sym e))) ∙ among-here
+    pub among-found : b ≡ s → true ≡ any (eqb s) (take n (rowIn 8 c row))
+    among-found e = sym (any-here (eqb s) b (drop (k + 1) (take n (rowIn 8 c row))) (eq-eqb s b (sym e))) ∙ among-here
 
-    pub among-next : (b ≡ s → ⊥) → Among slots n s (k + 1)
-    among-next ne = record { rest = sym (any-next (eqb s) b (drop (k + 1) (take n slots)) (ne-eqb s b (λ x. ne (sym x)))) ∙ among-here }
+    pub among-next : (b ≡ s → ⊥) → Among c row n s (k + 1)
+    among-next ne = record { rest = sym (any-next (eqb s) b (drop (k + 1) (take n (rowIn 8 c row))) (ne-eqb s b (λ x. ne (sym x)))) ∙ among-here }
 
 -- names
-module _ (s : ℕ) (e : Entry) {b : Bool} (eb : b ≡ isMessage e) where
-  pub names-notice : b ≡ false → false ≡ namesIn s e
-  unfolding namesIn
-  names-notice f = rw (← eb, f)
+module _ (s : ℕ) (e c : List ℕ) (row : ℕ) {b : Bool} (eb : b ≡ messageKind (getD e (5 * row) 0)) where
+  pub names-notice : b ≡ false → (n : List ℕ) → false ≡ namesIn s (entryAt (rowsOf e c n) row)
+  unfolding namesIn isMessage entryAt
+  names-notice f n = rw (row5, ← eb, f)
 
-  module _ (t : b ≡ true) {w : ℕ} (ew : w ≡ e .slot) where
-    pub names-slot : w ≡ s → true ≡ namesIn s e
-    unfolding namesIn
-    names-slot h = rw (← eb, t, eq-eqb s (e .slot) (sym h ∙ ew))
+  module _ (t : b ≡ true) {w : ℕ} (ew : w ≡ getD e (5 * row + 1) 0) where
+    pub names-slot : w ≡ s → (n : List ℕ) → true ≡ namesIn s (entryAt (rowsOf e c n) row)
+    unfolding namesIn isMessage entryAt
+    names-slot h n = rw (row5, ← eb, t, eq-eqb s (getD e (5 * row + 1) 0) (sym h ∙ ew))
 
-    pub names-attached : (w ≡ s → ⊥) → length (e .carried) ≡ 8 → {x : ℕ} → x ≡ e .nh → {n : ℕ} → n ≡ min x 8 → {r : Bool} → r ≡ any (eqb s) (take n (e .carried)) → r ≡ namesIn s e
-    unfolding namesIn
-    names-attached ne size ex {n} en er =
-        let few : n ≡ min (length (e .carried)) (e .nh) = omega arith in
-        rw (← eb, t, ne-eqb s (e .slot) (λ h. ne (ew ∙ sym h)), ← take-min (e .nh) (e .carried)) (er ∙ ap (λ (k : ℕ). any (eqb s) (take k (e .carried))) few)
+    pub names-attached : (w ≡ s → ⊥) → {x : ℕ} → x ≡ getD e (5 * row + 4) 0 → {k : ℕ} → k ≡ min x 8 → {r : Bool} → r ≡ any (eqb s) (take k (rowIn 8 c row)) →
+        (n : List ℕ) → r ≡ namesIn s (entryAt (rowsOf e c n) row)
+    unfolding namesIn isMessage entryAt
+    names-attached ne ex {k} ek er n =
+        let few : k ≡ min (length (rowIn 8 c row)) (getD e (5 * row + 4) 0) = omega (arith, row-length 8 c row) in
+        rw (row5, ← eb, t, ne-eqb s (getD e (5 * row + 1) 0) (λ h. ne (ew ∙ sym h)), ← take-min (getD e (5 * row + 4) 0) (rowIn 8 c row))
+        (er ∙ ap (λ (y : ℕ). any (eqb s) (take y (rowIn 8 c row))) few)
 
 -- named_at
 pub record Naming (g : Rings) (p s i : ℕ) : Type 0 where
@@ -232,15 +245,15 @@ module _ {g : Rings} {p s i : ℕ} (v : Naming g p s i) {l : ℕ} (el : l ≡ le
   pub naming-end : l ≤ i → false ≡ any (namesIn s) (queueOf g p)
   naming-end h = ap (any (namesIn s)) (sym (queue-end g p i el h)) ∙ v .rest
 
-  module _ (lt : i < l) {h : ℕ} (eh : h ≡ headOf (g .ends) p) {row : ℕ} (er : row ≡ rowOf p h i) {e : Entry} (ee : e ≡ entryAt (g .rows) row) {b : Bool} (eb : b ≡ namesIn s e) where
-    naming-here : any (namesIn s) (e ∷ drop (i + 1) (queueOf g p)) ≡ any (namesIn s) (queueOf g p)
-    naming-here = ap (any (namesIn s)) (sym (queue-next g p i el lt eh er ee)) ∙ v .rest
+  module _ (lt : i < l) {h : ℕ} (eh : h ≡ headOf (g .ends) p) {row : ℕ} (er : row ≡ rowOf p h i) {b : Bool} (eb : b ≡ namesIn s (entryAt (g .rows) row)) where
+    naming-here : any (namesIn s) (entryAt (g .rows) row ∷ drop (i + 1) (queueOf g p)) ≡ any (namesIn s) (queueOf g p)
+    naming-here = ap (any (namesIn s)) (sym (queue-next g p i el lt eh er refl)) ∙ v .rest
 
     pub naming-found : b ≡ true → true ≡ any (namesIn s) (queueOf g p)
-    naming-found t = sym (any-here (namesIn s) e (drop (i + 1) (queueOf g p)) (sym eb ∙ t)) ∙ naming-here
+    naming-found t = sym (any-here (namesIn s) (entryAt (g .rows) row) (drop (i + 1) (queueOf g p)) (sym eb ∙ t)) ∙ naming-here
 
     pub naming-next : b ≡ false → Naming g p s (i + 1)
-    naming-next f = record { rest = sym (any-next (namesIn s) e (drop (i + 1) (queueOf g p)) (sym eb ∙ f)) ∙ naming-here }
+    naming-next f = record { rest = sym (any-next (namesIn s) (entryAt (g .rows) row) (drop (i + 1) (queueOf g p)) (sym eb ∙ f)) ∙ naming-here }
 
 -- named
 either-right : (a : Bool) {b : Bool} → b ≡ true → either a b ≡ true
@@ -259,11 +272,29 @@ any-below-none : (t : ℕ → Bool) (n : ℕ) → ((k : ℕ) → k < n → t k �
 any-below-none t zero h = refl
 any-below-none t (suc n) h = rw (h n (omega arith)) (any-below-none t n (λ k l. h k (omega arith)))
 
-module _ (g : Rings) (s : ℕ) where
-  pub named-found : (q : ℕ) → q < 8 → {b : Bool} → b ≡ any (namesIn s) (queueOf g q) → b ≡ true → true ≡ namedIn g s
+module _ (cs : List ℕ) (g : Rings) (s : ℕ) where
+  pub named-found : (q : ℕ) → q < 8 → {b : Bool} → b ≡ carriesIn cs g s q → b ≡ true → true ≡ namedIn cs g s
   unfolding namedIn
-  named-found q l eb t = sym (any-below-found (λ k. any (namesIn s) (queueOf g k)) peers q l (sym eb ∙ t))
+  named-found q l eb t = sym (any-below-found (carriesIn cs g s) peers q l (sym eb ∙ t))
 
-  pub named-none : ((q : ℕ) → q < 8 → any (namesIn s) (queueOf g q) ≡ false) → false ≡ namedIn g s
+  pub named-none : ((q : ℕ) → q < 8 → carriesIn cs g s q ≡ false) → false ≡ namedIn cs g s
   unfolding namedIn
-  named-none h = sym (any-below-none (λ k. any (namesIn s) (queueOf g k)) peers h)
+  named-none h = sym (any-below-none (carriesIn cs g s) peers h)
+
+-- carries
+pub carries-empty : (cs : List ℕ) (g : Rings) (s q : ℕ) {n : ℕ} → n ≡ lengthOf (g .ends) q → n ≡ 0 → false ≡ carriesIn cs g s q
+unfolding carriesIn
+carries-empty cs g s q e z = rw (queue-empty g q (sym e ∙ z)) (go (eqb (attachedOf (chargesAt cs q)) 0))
+  where
+    go : (b : Bool) → false ≡ pick b false false
+    go true = refl
+    go false = refl
+
+module _ (cs : List ℕ) (g : Rings) (s q : ℕ) {c : Charges} (ec : c ≡ chargesAt cs q) {n : ℕ} (en : n ≡ attachedOf c) where
+  pub carries-none : n ≡ 0 → false ≡ carriesIn cs g s q
+  unfolding carriesIn
+  carries-none z = rw (← ec, ← en, z)
+
+  pub carries-some : (n ≡ 0 → ⊥) → {b : Bool} → b ≡ any (namesIn s) (queueOf g q) → b ≡ carriesIn cs g s q
+  unfolding carriesIn
+  carries-some ne eb = rw (← ec, ← en, ne-eqb n 0 ne) eb

@@ -3,3 +3,4 @@ pub mod Code
 pub mod Entering
 pub mod Asking
 pub mod Leaving
+pub mod Sparing

@@ -37,8 +37,12 @@ unfoldable pub usedOf : Charges → ℕ
 usedOf c =
     min (getD (c .by) 0 nothing .bytes + getD (c .by) 1 nothing .bytes + getD (c .by) 2 nothing .bytes + getD (c .by) 3 nothing .bytes) areaSize
 
+-- A kind that is no notice's is a message's.
+abbrev pub messageKind : ℕ → Bool
+messageKind k = pick (eqb k 1) false (not (eqb k 2))
+
 unfoldable pub isMessage : Entry → Bool
-isMessage e = pick (eqb (e .kind) 1) false (not (eqb (e .kind) 2))
+isMessage e = messageKind (e .kind)
 
 -- What a message counts, of the eight slots of its row at most eight handles, and whom it is counted under.
 abbrev pub chargeIn : Entry → Charge
@@ -83,6 +87,10 @@ unfoldable pub lessenedAll : Charges → Match → List Entry → Charges
 lessenedAll c m [] = c
 lessenedAll c m (e ∷ es) = lessenedAll (lessened c m e) m es
 
+-- The same in the table, for a peer with these entries.
+abbrev pub lessenedCharges : List ℕ → ℕ → Match → List Entry → List ℕ
+lessenedCharges t p m es = putCharges t p (lessenedAll (chargesAt t p) m es)
+
 -- What matches is taken out of a queue: no payload and no charge with it; with both.
 unfoldable pub withdrawn : Rings → ℕ → Match → Rings
 withdrawn r p m = pick (leb (lengthOf (r .ends) p) ringSize) (removed r p m) r
@@ -91,7 +99,7 @@ unfoldable pub removedFrom : Queues → ℕ → Match → Queues
 removedFrom q p m =
     pick (leb (lengthOf (q .rings .ends) p) ringSize)
     (record {
-      charges = putCharges (q .charges) p (lessenedAll (chargesAt (q .charges) p) m (queueOf (q .rings) p));
+      charges = lessenedCharges (q .charges) p m (queueOf (q .rings) p);
       rings = removed (q .rings) p m;
       pool = keptPieces (q .pool) p 0 0 m (queueOf (q .rings) p) .table;
     })
@@ -122,5 +130,14 @@ followsIn r p n = leads n (drop 1 (queueOf r p))
 unfoldable pub namesIn : ℕ → Entry → Bool
 namesIn s e = pick (isMessage e) (either (eqb s (e .slot)) (any (eqb s) (take (e .nh) (e .carried)))) false
 
-unfoldable pub namedIn : Rings → ℕ → Bool
-namedIn r s = anyBelow (λ q. any (namesIn s) (queueOf r q)) peers
+-- The attached handles that are queued at a peer: the sum of what its users have there.
+unfoldable pub attachedOf : Charges → ℕ
+attachedOf c = getD (c .by) 0 nothing .handles + getD (c .by) 1 nothing .handles + getD (c .by) 2 nothing .handles + getD (c .by) 3 nothing .handles
+
+-- A message in a queue with attached handles names a slot.
+unfoldable pub carriesIn : List ℕ → Rings → ℕ → ℕ → Bool
+carriesIn cs r s q = pick (eqb (attachedOf (chargesAt cs q)) 0) false (any (namesIn s) (queueOf r q))
+
+-- One of any peer does. On a bus of a run this is "a queued message names it", of a slot that nobody holds: a message for a node stands only where its owner holds it.
+unfoldable pub namedIn : List ℕ → Rings → ℕ → Bool
+namedIn cs r s = anyBelow (carriesIn cs r s) peers

@@ -3,55 +3,54 @@
 // eight; any contents have a meaning.
 ghost use mathlib.Core.Path.{_≡_};
 ghost use mathlib.Core.Bool.{false};
-ghost use Prim.Native.Nat.{_<_, _≤_};
+ghost use mathlib.Core.List.{List};
+ghost use Prim.Native.Nat.{ℕ, _*_, _<_, _≤_};
 ghost use lib.ListN.{length, take};
-ghost use Rattle.rings.specs.Rings.{peers, ringSize, rowsOf, ringsOf, endCount, Sized, lengthOf, queueOf, cleared};
-ghost use Rattle.pool.specs.Pool.{areaSize, poolSize};
+ghost use Rattle.laws.specs.Rows.{rowIn};
+ghost use Rattle.rings.specs.Rings.{peers, ringSize, rowCount, rowsOf, ringsOf, endCount, Sized, entryAt, lengthOf, queueOf, cleared};
+ghost use Rattle.pool.specs.Pool.{areaSize, keptPieces};
 ghost use Rattle.model.specs.Lists.{any};
 ghost use lib.Dec.{eqb};
-ghost use Rattle.queues.specs.Queues.{queuesOf, Short, usedOf, isMessage, chargeIn, entered, enqueued, settledCharges, settledPool, lessened, lessenedAll, withdrawn, removedFrom, emptiedCharges, followsIn, namesIn, namedIn};
+ghost use Rattle.queues.specs.Queues.{queuesOf, Short, usedOf, messageKind, isMessage, chargeIn, entered, enqueued, settledCharges, settledPool, lessened, lessenedAll, lessenedCharges, withdrawn, removedFrom, emptiedCharges, followsIn, namesIn, attachedOf, carriesIn, namedIn};
+use ids::AREA;
 use ids::Peer;
+use ids::RING;
 use ids::User;
 use quota::Charge;
 use quota::Charges;
 use rings::Entry;
 use rings::Match;
 
-// The rows of one peer's ring.
-const RING: usize = 512;
-
-// The bytes of one peer's area in the pool.
-const AREA: usize = 4096;
-
-fn wide(x: u16) -> usize
-    ensures { λ r. ⌜ (r ≡ x) × (r < 65536) ⌝ }
-{
-    x as usize
-}
-
-fn byte_wide(x: u8) -> usize
-    ensures { λ r. ⌜ r ≡ x ⌝ }
-{
-    x as usize
-}
+// The bit of a message among the kinds of a removal.
+const MESSAGE_BIT: u8 = 1;
 
 // The payload bytes that a peer's area uses: what the users have queued there.
 pub fn used(c: Charges) -> usize
     ensures { λ r. ⌜ (r ≡ usedOf c) × (r ≤ areaSize) ⌝ }
 {
     let by = c.by;
-    let sum = wide(by[0].bytes) + wide(by[1].bytes) + wide(by[2].bytes) + wide(by[3].bytes);
+    let sum = rings::wide(by[0].bytes)
+        + rings::wide(by[1].bytes)
+        + rings::wide(by[2].bytes)
+        + rings::wide(by[3].bytes);
     copies::least(sum, AREA)
+}
+
+// Is the kind a message's, and no notice's?
+fn is_message_kind(kind: u16) -> bool
+    ensures { λ r. ⌜ r ≡ messageKind kind ⌝ }
+{
+    if kind == 1 {
+        return false;
+    }
+    kind != 2
 }
 
 // Is the entry a message, and no notice?
 pub fn is_message(e: Entry) -> bool
     ensures { λ r. ⌜ r ≡ isMessage e ⌝ }
 {
-    if e.kind == 1 {
-        return false;
-    }
-    e.kind != 2
+    is_message_kind(e.kind)
 }
 
 // What a message counts under its sender's user.
@@ -61,7 +60,7 @@ fn charge_of(e: Entry) -> Charge
     Charge {
         messages: 1,
         bytes: e.nb,
-        handles: copies::least(wide(e.nh), 8) as u16,
+        handles: copies::least(rings::wide(e.nh), 8) as u16,
     }
 }
 
@@ -100,7 +99,11 @@ pub fn enqueue(
     let c = tables::load(charges, p);
     pool::append(pool, p, used(c), payload);
     enter(ends, entries, carried, numbers, p, e);
-    tables::store(charges, p, c.charge(User(wide(e.user)), charge_of(e)));
+    tables::store(
+        charges,
+        p,
+        c.charge(User(rings::wide(e.user)), charge_of(e)),
+    );
 }
 
 // The oldest message's payload taken out of the pool, and its charge taken off.
@@ -110,9 +113,13 @@ pub fn settle(charges: &mut [u16], pool: &mut [u8], p: Peer, e: Entry)
 {
     let c = tables::load(charges, p);
     let all = used(c);
-    let n = copies::least(wide(e.nb), all);
+    let n = copies::least(rings::wide(e.nb), all);
     pool::close(pool, p, 0, n, all);
-    tables::store(charges, p, c.discharge(User(wide(e.user)), charge_of(e)));
+    tables::store(
+        charges,
+        p,
+        c.discharge(User(rings::wide(e.user)), charge_of(e)),
+    );
 }
 
 // The charges after an entry, if it is a message that a removal takes out.
@@ -125,7 +132,7 @@ fn lessen(c: Charges, e: Entry, m: Match) -> Charges
     if !rings::is_match(m, e) {
         return c;
     }
-    c.discharge(User(wide(e.user)), charge_of(e))
+    c.discharge(User(rings::wide(e.user)), charge_of(e))
 }
 
 // The charges after all messages of a queue that a removal takes out.
@@ -171,6 +178,40 @@ pub fn withdraw(
     }
 }
 
+// The charges and the payloads of the messages that a removal takes out of a queue, taken off; where it takes out no
+// message, both tables stay, and neither is read.
+fn remove_messages(
+    charges: &mut [u16],
+    ends: &[u16],
+    entries: &[u16],
+    carried: &[u8],
+    numbers: &[u64],
+    pool: &mut [u8],
+    p: Peer,
+    m: Match,
+)
+    requires { ⌜ (length (now charges) ≡ 96) × (length (now ends) ≡ endCount) × Sized (rowsOf (now entries) (now carried) (now numbers)) × (p .0 < peers) × (lengthOf (now ends) (p .0) ≤ ringSize) ⌝ }
+    ensures { λ _. ⌜ (now (charges .exit) ≡ lessenedCharges (now (charges .entry)) (p .0) m (queueOf (ringsOf (now (ends .entry)) (now (entries .entry)) (now (carried .entry)) (now (numbers .entry))) (p .0))) × (now (pool .exit) ≡ keptPieces (now (pool .entry)) (p .0) 0 0 m (queueOf (ringsOf (now (ends .entry)) (now (entries .entry)) (now (carried .entry)) (now (numbers .entry))) (p .0)) .table) ⌝ }
+{
+    if m.kinds % 2 == 0 {
+        return;
+    }
+    let head = rings::head_of(ends, p);
+    let len = rings::len_of(ends, p);
+    let messages = Match {
+        kinds: MESSAGE_BIT,
+        first: m.first,
+        mask: m.mask,
+    };
+    if rings::first_match(entries, p, head, len, messages) == len {
+        return;
+    }
+    let c = tables::load(charges, p);
+    let d = lessen_all(c, ends, entries, carried, numbers, p, m);
+    tables::store(charges, p, d);
+    pool::remove(pool, ends, entries, carried, numbers, p, m);
+}
+
 // Every entry that matches taken out of a queue, with its payload and its charge.
 pub fn remove(
     charges: &mut [u16],
@@ -188,10 +229,7 @@ pub fn remove(
     if RING < rings::len_of(ends, p) {
         return;
     }
-    let c = tables::load(charges, p);
-    let d = lessen_all(c, ends, entries, carried, numbers, p, m);
-    tables::store(charges, p, d);
-    pool::remove(pool, ends, entries, carried, numbers, p, m);
+    remove_messages(charges, ends, entries, carried, numbers, pool, p, m);
     rings::remove(ends, entries, carried, numbers, p, m);
 }
 
@@ -234,14 +272,15 @@ pub fn follows(
     false
 }
 
-// Is the slot among the first n?
-fn is_among(slots: [u8; 8], n: usize, s: usize) -> bool
-    requires { ⌜ n ≤ 8 ⌝ }
-    ensures { λ r. ⌜ r ≡ any (eqb s) (take n slots) ⌝ }
+// Is the slot among the first n that the row carries?
+fn is_among(carried: &[u8], row: usize, n: usize, s: usize) -> bool
+    requires { ⌜ (length (now carried) ≡ rowCount * 8) × (row < rowCount) × (n ≤ 8) ⌝ }
+    ensures { λ r. ⌜ r ≡ any (eqb s) (take n (rowIn 8 (now (carried .entry)) row)) ⌝ }
 {
+    let a = 8 * row;
     let mut k = 0;
     while k < n {
-        if byte_wide(slots[k]) == s {
+        if rings::byte_wide(carried[a + k]) == s {
             return true;
         }
         k += 1;
@@ -249,19 +288,20 @@ fn is_among(slots: [u8; 8], n: usize, s: usize) -> bool
     false
 }
 
-// Is the entry a message that names the slot, as destination or attached?
-fn names(e: Entry, s: usize) -> bool
-    ensures { λ r. ⌜ r ≡ namesIn s e ⌝ }
+// Is the entry in the row a message that names the slot, as destination or attached? Whatever its number is.
+fn names(entries: &[u16], carried: &[u8], row: usize, s: usize) -> bool
+    requires { ⌜ (length (now entries) ≡ rowCount * 5) × (length (now carried) ≡ rowCount * 8) × (row < rowCount) ⌝ }
+    ensures { λ r. ⌜ ((n : List ℕ) → r ≡ namesIn s (entryAt (rowsOf (now (entries .entry)) (now (carried .entry)) n) row)) ⌝ }
 {
-    if !is_message(e) {
+    let a = 5 * row;
+    if !is_message_kind(entries[a]) {
         return false;
     }
-    if wide(e.slot) == s {
+    if rings::wide(entries[a + 1]) == s {
         return true;
     }
-    let slots = e.carried;
-    let n = copies::least(wide(e.nh), 8);
-    is_among(slots, n, s)
+    let n = copies::least(rings::wide(entries[a + 4]), 8);
+    is_among(carried, row, n, s)
 }
 
 // Does a message in the peer's queue name the slot?
@@ -281,8 +321,7 @@ fn named_at(
     let mut i = 0;
     while i < len {
         let row = rings::row_of(p, head, i);
-        let e = rings::get_entry(entries, carried, numbers, row);
-        if names(e, s) {
+        if names(entries, carried, row, s) {
             return true;
         }
         i += 1;
@@ -290,14 +329,54 @@ fn named_at(
     false
 }
 
-// Does a queued message name the slot?
-pub fn named(ends: &[u16], entries: &[u16], carried: &[u8], numbers: &[u64], s: usize) -> bool
-    requires { ⌜ (length (now ends) ≡ endCount) × Sized (rowsOf (now entries) (now carried) (now numbers)) × Short (now ends) ⌝ }
-    ensures { λ r. ⌜ r ≡ namedIn (ringsOf (now (ends .entry)) (now (entries .entry)) (now (carried .entry)) (now (numbers .entry))) s ⌝ }
+// The attached handles that are queued at a peer: what the users have there.
+fn attached(c: Charges) -> usize
+    ensures { λ r. ⌜ r ≡ attachedOf c ⌝ }
+{
+    let by = c.by;
+    rings::wide(by[0].handles)
+        + rings::wide(by[1].handles)
+        + rings::wide(by[2].handles)
+        + rings::wide(by[3].handles)
+}
+
+// Does a message in a queue with attached handles name the slot? Other queues are not looked through.
+fn carries(
+    charges: &[u16],
+    ends: &[u16],
+    entries: &[u16],
+    carried: &[u8],
+    numbers: &[u64],
+    p: Peer,
+    s: usize,
+) -> bool
+    requires { ⌜ (length (now charges) ≡ 96) × (length (now ends) ≡ endCount) × Sized (rowsOf (now entries) (now carried) (now numbers)) × (p .0 < peers) × (lengthOf (now ends) (p .0) ≤ ringSize) ⌝ }
+    ensures { λ r. ⌜ r ≡ carriesIn (now (charges .entry)) (ringsOf (now (ends .entry)) (now (entries .entry)) (now (carried .entry)) (now (numbers .entry))) s (p .0) ⌝ }
+{
+    if rings::len_of(ends, p) == 0 {
+        return false;
+    }
+    if attached(tables::load(charges, p)) == 0 {
+        return false;
+    }
+    named_at(ends, entries, carried, numbers, p, s)
+}
+
+// Does a queued message name a slot that nobody holds? No message is for such a slot, so it is named where it is attached.
+pub fn named(
+    charges: &[u16],
+    ends: &[u16],
+    entries: &[u16],
+    carried: &[u8],
+    numbers: &[u64],
+    s: usize,
+) -> bool
+    requires { ⌜ (length (now charges) ≡ 96) × (length (now ends) ≡ endCount) × Sized (rowsOf (now entries) (now carried) (now numbers)) × Short (now ends) ⌝ }
+    ensures { λ r. ⌜ r ≡ namedIn (now (charges .entry)) (ringsOf (now (ends .entry)) (now (entries .entry)) (now (carried .entry)) (now (numbers .entry))) s ⌝ }
 {
     let mut q = 0;
     while q < 8 {
-        if named_at(ends, entries, carried, numbers, Peer(q), s) {
+        if carries(charges, ends, entries, carried, numbers, Peer(q), s) {
             return true;
         }
         q += 1;

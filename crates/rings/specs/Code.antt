@@ -1,7 +1,7 @@
 -- One law for each return of the code that a definition does not say at once, over plain variables: what the calls left makes what the definition says.
 -- Assumes nothing.
 use Prim.Native.Nat.{ℕ, _+_, _*_, _-_, _/_, _%_, _^_, _≤_, _<_}
-use mathlib.Core.Path.{_≡_, refl, ap}
+use mathlib.Core.Path.{_≡_, refl, ap, _∙_}
 use mathlib.Core.Bool.{Bool, true, false}
 use mathlib.Core.List.{List, [], _∷_}
 use native.Mathlib.Omega.{arith}
@@ -9,8 +9,9 @@ use lib.ListN.{getD, set}
 use lib.Seq.{sets}
 use lib.Pow.{pow-lt}
 use borrow.Author.Tests.{lt-ltb, le-ltb, le-leb, lt-leb}
+use Rattle.laws.specs.Tests.{pick, pick-all}
 use Rattle.laws.specs.Rows.{rowIn, row5, row8, stores5}
-use Rattle.rings.specs.Rings.{ringSize, slots, Rows, rowsOf, ringsOf, fieldsOf, entryAt, putAt, rowOf, headOf, lengthOf, queueOf, firstOf, pushed, popped, cleared, bitAt, kindBit, slotIn, matches, oneSlot, removed, Swept, swept, keptEntry, keptEntries}
+use Rattle.rings.specs.Rings.{ringSize, slots, Rows, rowsOf, ringsOf, fieldsOf, entryAt, putAt, rowOf, headOf, lengthOf, queueOf, firstOf, pushed, popped, cleared, bitAt, kindBit, slotIn, matchesOf, matches, oneSlot, removed, Swept, swept, keptEntry, keptEntries}
 use Rattle.rings.specs.declared.Entry.{Entry}
 use Rattle.rings.specs.declared.Match.{Match}
 
@@ -77,17 +78,27 @@ module _ (first mask s : ℕ) where
   unfolding slotIn
   slot-among h k e = let j : s < first + slots = omega arith in rw (le-leb first s h, lt-ltb s (first + slots) j) e
 
-module _ (m : Match) (e : Entry) {k x : ℕ} {b : Bool} (ek : k ≡ kindBit (e .kind)) (ex : x ≡ m .kinds) (eb : b ≡ bitAt x k) where
-  kind-tested : b ≡ bitAt (m .kinds) (kindBit (e .kind))
-  kind-tested = rw (← ek, ← ex) eb
+both-first : (b : Bool) → b ≡ pick b true false
+both-first true = refl
+both-first false = refl
 
-  pub match-kind : b ≡ false → false ≡ matches m e
-  unfolding matches
-  match-kind n = rw (← kind-tested, n)
+module _ (m : Match) (kind slot : ℕ) {y z : ℕ} {b : Bool} (ey : y ≡ m .mask) (ez : z ≡ slot) (eb : b ≡ slotIn (m .first) y z) where
+  slot-tested : b ≡ slotIn (m .first) (m .mask) slot
+  slot-tested = rw (← ey, ← ez) eb
 
-  pub match-slot : b ≡ true → {y z : ℕ} {r : Bool} → y ≡ m .mask → z ≡ e .slot → r ≡ slotIn (m .first) y z → r ≡ matches m e
-  unfolding matches
-  match-slot n ey ez er = rw (← kind-tested, n, ← ey, ← ez) er
+  pub match-slot : b ≡ false → false ≡ matchesOf m kind slot
+  match-slot n = rw (← slot-tested, n) (pick-all (λ (x : Bool). false ≡ x) (bitAt (m .kinds) (kindBit kind)) false false refl refl)
+
+  pub match-kind : b ≡ true → {k : ℕ} → k ≡ kindBit kind → {x : ℕ} → x ≡ m .kinds → {r : Bool} → r ≡ bitAt x k → r ≡ matchesOf m kind slot
+  match-kind n {k} ek {x} ex er = rw (← slot-tested, n, ← ek, ← ex) (er ∙ both-first (bitAt x k))
+
+pub match-entry : (m : Match) (e : Entry) {b : Bool} → b ≡ matchesOf m (e .kind) (e .slot) → b ≡ matches m e
+unfolding matches
+match-entry m e h = h
+
+pub match-row : (m : Match) (e : List ℕ) (r : ℕ) {b : Bool} → b ≡ matchesOf m (getD e (5 * r) 0) (getD e (5 * r + 1) 0) → (c n : List ℕ) → b ≡ matches m (entryAt (rowsOf e c n) r)
+unfolding matches entryAt
+match-row m e r h c n = rw row5 h
 
 -- A shifted 1 is a power, and fits the mask.
 pub shift-small : (k : ℕ) → k < 16 → 1 * 2 ^ k % 18446744073709551616 < 65536

@@ -7,10 +7,10 @@ use mathlib.Core.List.{List, [], _∷_, _++_, append-nil, append-assoc}
 use native.Mathlib.Omega.{arith}
 use native.Mathlib.Numerals.{add-one}
 use lib.ListN.{getD, length, set, length-set}
-use lib.Seq.{length-sets, getD-set-same, getD-set-other}
+use lib.Seq.{sets, length-sets, getD-set-same, getD-set-other, set-getD}
 use Rattle.laws.specs.Weights.{All, all-keep, keep, keep-le}
 use Rattle.laws.specs.Build.{build, build-ext, build-snoc, build-length, build-at}
-use Rattle.laws.specs.Rows.{rowIn, row-length, row-self, row-put, row-put-other, all-build}
+use Rattle.laws.specs.Rows.{rowIn, row-length, row-self, row5, row-put, row-put-other, all-build}
 use Rattle.rings.specs.Rings.{peers, ringSize, rowCount, endCount, Rows, Rings, Sized, fieldsOf, entryOf, entryAt, putAt, rowOf, headOf, lengthOf, entriesFrom, queueOf, firstOf, pushed, popped, cleared, storedFrom, matches, others, removed}
 use Rattle.rings.specs.declared.Entry.{Entry}
 use Rattle.rings.specs.declared.Match.{Match}
@@ -48,6 +48,32 @@ get-put-other t r q e ne =
     let b = row-put-other 8 (t .carried) r q (rowIn 8 (e .carried) 0) (row-length 8 (e .carried) 0) ne in
     let d = getD-set-other (t .numbers) r q (e .number) 0 (λ f. ne (sym f)) in
     rw (a, b, d)
+
+-- What stands at a place, stored there again, changes nothing: in a list, in a row of a table, and for a whole entry.
+pub sets-own : (l : List ℕ) (i : ℕ) (vs : List ℕ) → ((k : ℕ) → k < length vs → getD vs k 0 ≡ getD l (i + k) 0) → sets l i vs ≡ l
+sets-own l i [] h = refl
+sets-own l i (v ∷ vs) h =
+    let z : i + 0 ≡ i = omega arith in
+    let e : v ≡ getD l i 0 = rw z at (h 0 (omega arith)) in
+    let f : set l i v ≡ l = ap (set l i) e ∙ set-getD l i 0 in
+    ap (λ (m : List ℕ). sets m (suc i) vs) f
+    ∙ sets-own l (suc i) vs (λ k lt. h (suc k) (omega arith) ∙ (let g : i + suc k ≡ suc i + k = omega arith in ap (λ (n : ℕ). getD l n 0) g))
+
+pub row-at : (w : ℕ) (l : List ℕ) (r k : ℕ) → k < w → getD (rowIn w l r) k 0 ≡ getD l (w * r + k) 0
+unfolding rowIn
+row-at w l r k lt = build-at (λ j. getD l (w * r + j) 0) w k 0 lt
+
+row-own : (w : ℕ) (l : List ℕ) (r : ℕ) → sets l (w * r) (rowIn w l r) ≡ l
+row-own w l r = sets-own l (w * r) (rowIn w l r) (λ k lt. row-at w l r k (omega (arith, row-length w l r)))
+
+fields-row : (l c : List ℕ) (n r : ℕ) → fieldsOf (entryOf (rowIn 5 l r) c n) ≡ rowIn 5 l r
+unfolding fieldsOf
+fields-row l c n r = rw row5
+
+pub put-own : (t : Rows) (r : ℕ) → putAt t r (entryAt t r) ≡ t
+unfolding entryAt putAt
+put-own t r =
+    rw (fields-row (t .entries) (rowIn 8 (t .carried) r) (getD (t .numbers) r 0) r, row-self 8 (rowIn 8 (t .carried) r) (row-length 8 (t .carried) r), row-own 5 (t .entries) r, row-own 8 (t .carried) r, set-getD (t .numbers) r 0)
 
 -- The places of a ring: no two of one peer's are the same row, nor two of two peers'.
 row-apart : (p h i j : ℕ) → i < ringSize → j < ringSize → (i ≡ j → ⊥) → rowOf p h i ≡ rowOf p h j → ⊥

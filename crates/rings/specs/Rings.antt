@@ -111,8 +111,11 @@ kindBit k = pick (ltb k 3) k 0
 unfoldable pub slotIn : ℕ → ℕ → ℕ → Bool
 slotIn first mask s = pick (leb first s) (pick (ltb s (first + slots)) (bitAt mask (s - first)) false) false
 
+abbrev pub matchesOf : Match → ℕ → ℕ → Bool
+matchesOf m kind slot = pick (bitAt (m .kinds) (kindBit kind)) (slotIn (m .first) (m .mask) slot) false
+
 unfoldable pub matches : Match → Entry → Bool
-matches m e = pick (bitAt (m .kinds) (kindBit (e .kind))) (slotIn (m .first) (m .mask) (e .slot)) false
+matches m e = matchesOf m (e .kind) (e .slot)
 
 -- The match of one slot: of its owner's slots that one.
 unfoldable pub oneSlot : ℕ → ℕ → Match

@@ -1,6 +1,6 @@
 -- The sweep of a removal, entry by entry: after i entries those of them that stay are stored from the head on, and the rest of the ring is untouched.
 -- Assumes nothing.
-use Prim.Native.Nat.{ℕ, _+_, _≤_, _<_}
+use Prim.Native.Nat.{ℕ, zero, suc, _+_, _≤_, _<_}
 use mathlib.Core.Path.{_≡_, refl, sym, ap, _∙_}
 use mathlib.Core.Bool.{true, false, not}
 use mathlib.Core.List.{List, [], _∷_, _++_, append-nil}
@@ -11,7 +11,7 @@ use Rattle.laws.specs.Tests.{Seen, Seen.is-true, Seen.is-false, look}
 use Rattle.laws.specs.Weights.{keep-append}
 use Rattle.laws.specs.Build.{build}
 use Rattle.rings.specs.Rings.{ringSize, Rows, Sized, entryAt, putAt, rowOf, entriesFrom, storedFrom, matches, others, Swept, swept, keptEntry, keptEntries}
-use Rattle.rings.specs.Laws.{put-sized, entries-snoc, store-after, store-more}
+use Rattle.rings.specs.Laws.{put-sized, put-own, entries-snoc, store-after, store-more}
 use Rattle.rings.specs.declared.Entry.{Entry}
 use Rattle.rings.specs.declared.Match.{Match}
 
@@ -36,7 +36,7 @@ pub record Sweeping (t₀ : Rows) (p h n : ℕ) (m : Match) (t : Rows) (w i : �
   pub rows : t ≡ storedFrom t₀ p h 0 (others m (entriesFrom t₀ p h i))
 
 module _ (t₀ : Rows) (p h n : ℕ) (m : Match) where
-  pub sweep-start : Sized t₀ → Sweeping t₀ p h n m t₀ 0 0
+  sweep-start : Sized t₀ → Sweeping t₀ p h n m t₀ 0 0
   unfolding entriesFrom build others storedFrom
   sweep-start s = record { read = omega arith; low = omega arith; sized = s; count = refl; rows = refl }
 
@@ -86,6 +86,18 @@ module _ (t₀ : Rows) (p h n : ℕ) (m : Match) where
                 rw (et, k, same, s .count)
                 (ap (λ (u : Rows). putAt u (rowOf p h (length kept)) x₀) (s .rows) ∙ sym (store-more p h t₀ kept x₀));
           }
+
+-- An entry that is read where it would be stored leaves the rows; so a sweep may start at a place before which no entry matches.
+kept-own : (t : Rows) (p h i : ℕ) (m : Match) → matches m (entryAt t (rowOf p h i)) ≡ false → swept (i + 1) t ≡ keptEntry t p h i i m
+unfolding keptEntry
+kept-own t p h i m f = rw (f, put-own t (rowOf p h i))
+
+pub sweep-from : (t : Rows) (p h n : ℕ) (m : Match) (i : ℕ) → Sized t → i ≤ n → n ≤ ringSize → ((j : ℕ) → j < i → matches m (entryAt t (rowOf p h j)) ≡ false) →
+    Sweeping t p h n m t i i
+sweep-from t p h n m zero s le fit none = sweep-start t p h n m s
+sweep-from t p h n m (suc i) s le fit none =
+    rw (← add-one i)
+    (sweep-next t p h n m (sweep-from t p h n m i s (omega arith) fit (λ j lt. none j (omega arith))) (omega arith) fit (kept-own t p h i m (none i (omega arith))))
 
 pub sweep-done : {t₀ : Rows} {p h n : ℕ} {m : Match} {t : Rows} {w i : ℕ} → Sweeping t₀ p h n m t w i → i ≡ n → (swept w t ≡ keptEntries t₀ p h n m) × (w ≤ n)
 unfolding keptEntries

@@ -2,18 +2,17 @@
 // head on, oldest first. Row r of the peer p is row p * RING + r of the tables `entries` (5 numbers a row), `carried`
 // (8 slots a row) and `numbers` (the number of the command that queued it); `ends` has 2 numbers a peer, head and length.
 ghost use mathlib.Core.Path.{_≡_};
-ghost use Prim.Native.Nat.{_+_, _*_, _-_, _<_, _≤_};
+ghost use mathlib.Core.Bool.{false};
+ghost use mathlib.Core.List.{List};
+ghost use Prim.Native.Nat.{ℕ, _+_, _*_, _-_, _<_, _≤_};
 ghost use lib.ListN.{length};
 ghost use lib.Seq.{sets};
 ghost use Rattle.laws.specs.Rows.{rowIn};
-ghost use Rattle.rings.specs.Rings.{peers, ringSize, rowCount, endCount, rowsOf, ringsOf, Sized, fieldsOf, entryAt, putAt, rowOf, headOf, lengthOf, firstOf, pushed, popped, cleared, bitAt, kindBit, slotIn, matches, oneSlot, removed, swept, keptEntry, keptEntries};
+ghost use Rattle.laws.specs.Search.{first};
+ghost use Rattle.rings.specs.Rings.{peers, ringSize, rowCount, endCount, rowsOf, ringsOf, Sized, fieldsOf, entryAt, putAt, rowOf, headOf, lengthOf, firstOf, pushed, popped, cleared, bitAt, kindBit, slotIn, matchesOf, matches, oneSlot, removed, swept, keptEntry, keptEntries};
 use ids::Peer;
-
-// The rows of one peer's ring.
-const RING: usize = 512;
-
-// The slots of one owner, each a bit of a mask.
-const SLOTS: usize = 16;
+use ids::RING;
+use ids::SLOTS;
 
 // A queued entry. Kind 1 is a destroy notice, 2 a release notice, anything else a message with its destination's slot,
 // its sender's user, its payload bytes, its attached handles and their slots.
@@ -215,7 +214,8 @@ fn has_slot(first: usize, mask: usize, slot: usize) -> bool
     bit(mask, k)
 }
 
-fn byte_wide(x: u8) -> usize
+// A byte of a table as an index.
+pub fn byte_wide(x: u8) -> usize
     ensures { λ r. ⌜ r ≡ x ⌝ }
 {
     x as usize
@@ -235,15 +235,47 @@ impl Match {
     }
 }
 
+// Does a removal take out an entry of this kind and this slot?
+fn takes(m: Match, kind: u16, slot: u16) -> bool
+    ensures { λ r. ⌜ r ≡ matchesOf m kind slot ⌝ }
+{
+    if !has_slot(m.first, wide(m.mask), wide(slot)) {
+        return false;
+    }
+    let k = kind_bit(kind);
+    bit(byte_wide(m.kinds), k)
+}
+
 // Does a removal take the entry out?
 pub fn is_match(m: Match, e: Entry) -> bool
     ensures { λ r. ⌜ r ≡ matches m e ⌝ }
 {
-    let k = kind_bit(e.kind);
-    if !bit(byte_wide(m.kinds), k) {
-        return false;
+    takes(m, e.kind, e.slot)
+}
+
+// Does a removal take out the entry in the row? Its kind and its slot say so, whatever the other tables hold.
+fn is_match_at(entries: &[u16], row: usize, m: Match) -> bool
+    requires { ⌜ (length (now entries) ≡ rowCount * 5) × (row < rowCount) ⌝ }
+    ensures { λ r. ⌜ ((c n : List ℕ) → r ≡ matches m (entryAt (rowsOf (now (entries .entry)) c n) row)) ⌝ }
+{
+    let a = 5 * row;
+    takes(m, entries[a], entries[a + 1])
+}
+
+// The place in a queue of the first entry that a removal takes out, or the length where it takes none.
+pub fn first_match(entries: &[u16], p: Peer, head: usize, len: usize, m: Match) -> usize
+    requires { ⌜ (length (now entries) ≡ rowCount * 5) × (p .0 < peers) × (head < 65536) × (len ≤ ringSize) ⌝ }
+    ensures { λ r. ⌜ ((c n : List ℕ) → r ≡ first (λ i. matches m (entryAt (rowsOf (now (entries .entry)) c n) (rowOf (p .0) head i))) len) ⌝ }
+{
+    let mut i = 0;
+    while i < len {
+        let row = row_of(p, head, i);
+        if is_match_at(entries, row, m) {
+            return i;
+        }
+        i += 1;
     }
-    has_slot(m.first, wide(m.mask), wide(e.slot))
+    len
 }
 
 // Where a sweep stands: the peer and its head, the entries read, the entries kept.
@@ -275,7 +307,7 @@ fn keep_entry(
     at.kept + 1
 }
 
-// Every entry of a queue that does not match moves up, in order. How many are kept.
+// Every entry of a queue that does not match moves up, in order; none before the place `from` matches. How many are kept.
 fn sweep(
     entries: &mut [u16],
     carried: &mut [u8],
@@ -284,12 +316,13 @@ fn sweep(
     head: usize,
     len: usize,
     m: Match,
+    from: usize,
 ) -> usize
-    requires { ⌜ Sized (rowsOf (now entries) (now carried) (now numbers)) × (p .0 < peers) × (head < 65536) × (len ≤ ringSize) ⌝ }
+    requires { ⌜ Sized (rowsOf (now entries) (now carried) (now numbers)) × (p .0 < peers) × (head < 65536) × (len ≤ ringSize) × (from ≤ len) × ((j : ℕ) → j < from → matches m (entryAt (rowsOf (now entries) (now carried) (now numbers)) (rowOf (p .0) head j)) ≡ false) ⌝ }
     ensures { λ r. ⌜ (swept r (rowsOf (now (entries .exit)) (now (carried .exit)) (now (numbers .exit))) ≡ keptEntries (rowsOf (now (entries .entry)) (now (carried .entry)) (now (numbers .entry))) (p .0) head len m) × (r ≤ len) ⌝ }
 {
-    let mut kept = 0;
-    let mut read = 0;
+    let mut kept = from;
+    let mut read = from;
     while read < len {
         kept = keep_entry(
             entries,
@@ -322,7 +355,11 @@ pub fn remove(
 {
     let head = head_of(ends, p);
     let len = len_of(ends, p);
-    let kept = sweep(entries, carried, numbers, p, head, len, m);
+    let from = first_match(entries, p, head, len, m);
+    if from == len {
+        return;
+    }
+    let kept = sweep(entries, carried, numbers, p, head, len, m, from);
     let at = p.0 * 2 + 1;
     ends[at] = kept as u16;
 }

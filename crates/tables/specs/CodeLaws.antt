@@ -2,7 +2,7 @@
 -- Assumes nothing.
 use Prim.Native.Nat.{ℕ, _+_, _*_, _%_, _^_, _≤_, _<_}
 use mathlib.Core.Path.{_≡_, refl}
-use mathlib.Core.Bool.{true, false}
+use mathlib.Core.Bool.{Bool, true, false, not}
 use mathlib.Core.List.{List, [], _∷_}
 use native.Mathlib.Omega.{arith}
 use native.Mathlib.Nat.{add-zero}
@@ -10,7 +10,8 @@ use native.Mathlib.Numerals.{add-one}
 use lib.ListN.{getD}
 use lib.Dec.{eqb}
 use lib.Pow.{pow-mono, pow-lt}
-use borrow.Author.Tests.{ne-eqb, lt-ltb}
+use borrow.Author.Tests.{ne-eqb, eq-eqb, lt-ltb, le-ltb}
+use Rattle.laws.specs.Tests.{pick}
 use Rattle.laws.specs.Sums.{sumTo}
 use Rattle.laws.specs.Search.{first, first-is}
 use Rattle.laws.specs.Build.{build}
@@ -18,10 +19,11 @@ use Rattle.quota.specs.declared.Charge.{Charge}
 use Rattle.quota.specs.declared.Charges.{Charges}
 use Rattle.quota.specs.Charges.{nothing}
 use Rattle.tables.specs.declared.Status.{Status}
+use Rattle.tables.specs.declared.Found.{Found}
 use Rattle.tables.specs.declared.Found.the-variants.{At, Nothing}
 use Rattle.laws.specs.Bits.{bits}
 use Rattle.tables.specs.Peers.{statusAt, refusalOf, standingAt}
-use Rattle.tables.specs.Handles.{countAt, hasAt, findAt, lookup, totalBelow, totalAt, bitAt, holdersBelow, holdersAt, putHandle, clearBelow, clearPeer}
+use Rattle.tables.specs.Handles.{countAt, hasAt, foundBy, foundOwn, foundAtPlace, isFound, foundAny, lookup, totalBelow, totalAt, bitAt, holdersBelow, holdersAt, putHandle, clearBelow, clearPeer}
 use Rattle.tables.specs.Charges.{chargeAt, chargesAt, putCharge, putBelow, putCharges}
 
 -- standing
@@ -30,27 +32,80 @@ unfolding standingAt
 standing-is ps p y e f = rw (← e, f)
 
 -- holds, find
-module _ (h : List ℕ) (p i s : ℕ) {c : ℕ} (e : c ≡ countAt h p s) where
-  pub holds-none : c ≡ 0 → false ≡ hasAt h p i s
+module _ (h : List ℕ) (p i s : ℕ) where
+  pub holds-other : (getD h (p * 256 + 2 * s) 0 ≡ i → ⊥) → false ≡ hasAt h p i s
   unfolding hasAt
-  holds-none z = rw (← e, z)
+  holds-other ne = rw (ne-eqb (getD h (p * 256 + 2 * s) 0) i ne) (go (eqb (countAt h p s) 0))
+    where
+      go : (b : Bool) → false ≡ pick b false false
+      go true = refl
+      go false = refl
 
-  pub holds-some : (c ≡ 0 → ⊥) → eqb (getD h (p * 256 + 2 * s) 0) i ≡ hasAt h p i s
+  pub holds-some : getD h (p * 256 + 2 * s) 0 ≡ i → {c : ℕ} → c ≡ countAt h p s → not (eqb c 0) ≡ hasAt h p i s
   unfolding hasAt
-  holds-some z = rw (← e, ne-eqb c 0 z)
+  holds-some e {c = c} ec = rw (eq-eqb (getD h (p * 256 + 2 * s) 0) i e, ← ec) (go (eqb c 0))
+    where
+      go : (b : Bool) → not b ≡ pick b false true
+      go true = refl
+      go false = refl
 
-module _ (h : List ℕ) (p i : ℕ) where
-  pub found-at : (s : ℕ) → s < 128 → ((j : ℕ) → j < s → hasAt h p i j ≡ false) → hasAt h p i s ≡ true → At s ≡ lookup h p i
-  unfolding lookup findAt
-  found-at s l before here =
-      let e : s ≡ first (hasAt h p i) 128 = first-is (hasAt h p i) 128 s (omega arith) before (λ _. here) in
-      rw (← e, lt-ltb s 128 l)
+module _ (h : List ℕ) (p i : ℕ) (at : ℕ → ℕ) (n : ℕ) where
+  pub found-at : (k : ℕ) → k < n → ((j : ℕ) → j < k → hasAt h p i (at j) ≡ false) → hasAt h p i (at k) ≡ true → At (at k) ≡ foundBy h p i at n
+  unfolding foundBy
+  found-at k l before here =
+      let e : k ≡ first (λ j. hasAt h p i (at j)) n = first-is (λ j. hasAt h p i (at j)) n k (omega arith) before (λ _. here) in
+      rw (← e, lt-ltb k n l)
 
-  pub found-nothing : ((j : ℕ) → j < 128 → hasAt h p i j ≡ false) → Nothing ≡ lookup h p i
-  unfolding lookup findAt
+  pub found-nothing : ((j : ℕ) → j < n → hasAt h p i (at j) ≡ false) → Nothing ≡ foundBy h p i at n
+  unfolding foundBy
   found-nothing before =
-      let e : 128 ≡ first (hasAt h p i) 128 = first-is (hasAt h p i) 128 128 (omega arith) before (λ l. absurd (omega arith)) in
+      let e : n ≡ first (λ j. hasAt h p i (at j)) n = first-is (λ j. hasAt h p i (at j)) n n (omega arith) before (λ l. absurd (omega arith)) in
+      rw (← e, le-ltb n n (omega arith))
+
+-- find_own, find_at_place
+module _ (h : List ℕ) (p i : ℕ) where
+  pub own-at : (k : ℕ) → k < 16 → ((j : ℕ) → j < k → hasAt h p i (p * 16 + j) ≡ false) → hasAt h p i (p * 16 + k) ≡ true → At (p * 16 + k) ≡ foundOwn h p i
+  unfolding foundOwn
+  own-at k l before here = found-at h p i (λ j. p * 16 + j) 16 k l before here
+
+  pub own-nothing : ((j : ℕ) → j < 16 → hasAt h p i (p * 16 + j) ≡ false) → Nothing ≡ foundOwn h p i
+  unfolding foundOwn
+  own-nothing before = found-nothing h p i (λ j. p * 16 + j) 16 before
+
+  pub place-at : (k q : ℕ) → q < 8 → ((j : ℕ) → j < q → hasAt h p i (j * 16 + k) ≡ false) → hasAt h p i (q * 16 + k) ≡ true → At (q * 16 + k) ≡ foundAtPlace h p i k
+  unfolding foundAtPlace
+  place-at k q l before here = found-at h p i (λ j. j * 16 + k) 8 q l before here
+
+  pub place-nothing : (k : ℕ) → ((j : ℕ) → j < 8 → hasAt h p i (j * 16 + k) ≡ false) → Nothing ≡ foundAtPlace h p i k
+  unfolding foundAtPlace
+  place-nothing k before = found-nothing h p i (λ j. j * 16 + k) 8 before
+
+  -- find_any
+  pub any-at : (k : ℕ) → k < 16 → ((j : ℕ) → j < k → isFound (foundAtPlace h p i j) ≡ false) → {r : Found} → r ≡ foundAtPlace h p i k → (s : ℕ) → r ≡ At s → r ≡ foundAny h p i
+  unfolding foundAny
+  any-at k l before {r = r} er s es =
+      let here : isFound (foundAtPlace h p i k) ≡ true = rw (← er, es) in
+      let e : k ≡ first (λ j. isFound (foundAtPlace h p i j)) 16 = first-is (λ j. isFound (foundAtPlace h p i j)) 16 k (omega arith) before (λ _. here) in
+      rw (← e, lt-ltb k 16 l) er
+
+  pub any-more : (k : ℕ) {r : Found} → r ≡ foundAtPlace h p i k → r ≡ Nothing → isFound (foundAtPlace h p i k) ≡ false
+  any-more k er en = rw (← er, en)
+
+  pub any-nothing : ((j : ℕ) → j < 16 → isFound (foundAtPlace h p i j) ≡ false) → Nothing ≡ foundAny h p i
+  unfolding foundAny
+  any-nothing before =
+      let e : 16 ≡ first (λ j. isFound (foundAtPlace h p i j)) 16 = first-is (λ j. isFound (foundAtPlace h p i j)) 16 16 (omega arith) before (λ l. absurd (omega arith)) in
       rw (← e)
+
+-- find
+module _ (h : List ℕ) (p i : ℕ) {r : Found} where
+  pub found-own : i % 4 ≡ 0 → r ≡ foundOwn h p i → r ≡ lookup h p i
+  unfolding lookup
+  found-own e f = rw (eq-eqb (i % 4) 0 e) f
+
+  pub found-any : (i % 4 ≡ 0 → ⊥) → r ≡ foundAny h p i → r ≡ lookup h p i
+  unfolding lookup
+  found-any ne f = rw (ne-eqb (i % 4) 0 ne) f
 
 -- total
 module _ (h : List ℕ) (s : ℕ) where

@@ -1,7 +1,7 @@
 -- The table of handles, 2,048 numbers: for each peer and slot the ID and the count, 0 where the peer has no handle to the slot's node.
 -- Assumes nothing.
 use Prim.Native.Nat.{ℕ, zero, suc, _+_, _*_, _%_}
-use mathlib.Core.Bool.{Bool, false, not}
+use mathlib.Core.Bool.{Bool, true, false, not}
 use mathlib.Core.List.{List}
 use lib.ListN.{getD, set}
 use lib.Dec.{eqb, ltb}
@@ -27,15 +27,36 @@ countAt h p s = getD h (handleRow p s + 1) 0 % modulus
 unfoldable pub hasAt : List ℕ → ℕ → ℕ → ℕ → Bool
 hasAt h p i s = pick (eqb (countAt h p s) 0) false (eqb (idAt h p s) i)
 
--- The slot of an ID at a peer, 128 where it does not hold it; the same as what `find` answers.
-unfoldable pub findAt : List ℕ → ℕ → ℕ → ℕ
-findAt h p i = first (hasAt h p i) 128
+-- The first of n slots, given by their places, that the peer holds under this ID.
+unfoldable pub foundBy : List ℕ → ℕ → ℕ → (ℕ → ℕ) → ℕ → Found
+foundBy h p i at n = let k = first (λ j. hasAt h p i (at j)) n in pick (ltb k n) (At (at k)) Nothing
 
-abbrev pub foundOf : ℕ → Found
-foundOf s = pick (ltb s 128) (At s) Nothing
+-- Among the peer's own slots; among those at the place k of each owner.
+unfoldable pub foundOwn : List ℕ → ℕ → ℕ → Found
+foundOwn h p i = foundBy h p i (λ k. p * 16 + k) 16
 
+unfoldable pub foundAtPlace : List ℕ → ℕ → ℕ → ℕ → Found
+foundAtPlace h p i k = foundBy h p i (λ q. q * 16 + k) 8
+
+abbrev pub isFound : Found → Bool
+isFound (At s) = true
+isFound Nothing = false
+
+-- Among all slots, place by place.
+unfoldable pub foundAny : List ℕ → ℕ → ℕ → Found
+foundAny h p i = let k = first (λ j. isFound (foundAtPlace h p i j)) 16 in pick (ltb k 16) (foundAtPlace h p i k) Nothing
+
+-- What is found for an ID at a peer: a chosen one, its two low bits clear, is looked for among the peer's own slots, any other among all.
 unfoldable pub lookup : List ℕ → ℕ → ℕ → Found
-lookup h p i = foundOf (findAt h p i)
+lookup h p i = pick (eqb (i % 4) 0) (foundOwn h p i) (foundAny h p i)
+
+-- What was found as a number, 128 where it is nothing.
+abbrev pub slotFound : Found → ℕ
+slotFound (At s) = s
+slotFound Nothing = 128
+
+unfoldable pub findAt : List ℕ → ℕ → ℕ → ℕ
+findAt h p i = slotFound (lookup h p i)
 
 -- The sum of the counts of the peers below n, and of all of them.
 unfoldable pub totalBelow : List ℕ → ℕ → ℕ → ℕ

@@ -1,6 +1,6 @@
 -- The table of handles seen as the model's handles: at count 0 there is none.
 -- Assumes nothing.
-use Prim.Native.Nat.{ℕ, zero, suc, _+_, _*_, _%_, _^_, _≤_, _<_}
+use Prim.Native.Nat.{ℕ, zero, suc, _+_, _-_, _*_, _/_, _%_, _^_, _≤_, _<_}
 use mathlib.Core.Path.{_≡_, refl, sym, ap, _∙_, fun-ext}
 use mathlib.Core.Bool.{Bool, true, false, not}
 use mathlib.Core.List.{List}
@@ -15,18 +15,20 @@ use borrow.Author.Tests.{ltb-true, ltb-false, eqb-true, eqb-false, ne-eqb, lt-lt
 use Rattle.laws.specs.Tests.{pick, Seen, Seen.is-true, Seen.is-false, look, Same, Same.same, Same.other, same?, clash}
 use Rattle.laws.specs.Tables.{upd, upd-same, upd-other, upd-self, upd-twice}
 use Rattle.laws.specs.Sums.{sumTo, sum-ext}
-use Rattle.laws.specs.Search.{first, first-le, first-found, first-ext}
+use Rattle.laws.specs.Search.{first, first-found, first-before, first-is}
 use Rattle.model.specs.Numbers.{peers, nodes}
 use Rattle.model.specs.Lists.{anyBelow}
 use Rattle.model.specs.State.{Handle, handleOf, held, count, idOr, hasId, State, slotOf, total, heldByAny}
 use Rattle.model.specs.State.Handle.{none, some}
 use Rattle.model.specs.Changes.{givenAfter}
+use Rattle.model.specs.Ids.{Handles}
 use Rattle.model.specs.Replies.{holdersOf}
+use Rattle.tables.specs.declared.Found.{Found}
 use Rattle.tables.specs.declared.Found.the-variants.{At, Nothing}
 use Rattle.laws.specs.Bits.{bit, bits, bits-ext, bits-first}
 use Rattle.laws.specs.Guards.{upto, upto-at, upto-ext, upto-upd}
 use Rattle.tables.specs.Peers.{modulus}
-use Rattle.tables.specs.Handles.{idAt, countAt, hasAt, findAt, foundOf, lookup, totalBelow, totalAt, heldAt, holdersBelow, holdersAt, putHandle, clearBelow, clearPeer}
+use Rattle.tables.specs.Handles.{idAt, countAt, hasAt, foundBy, foundOwn, foundAtPlace, isFound, foundAny, lookup, slotFound, findAt, totalBelow, totalAt, heldAt, holdersBelow, holdersAt, putHandle, clearBelow, clearPeer}
 
 abbrev pub handleIn : List ℕ → ℕ → ℕ → Handle
 handleIn h p s = handleOf (idAt h p s) (countAt h p s)
@@ -146,65 +148,178 @@ module _ (h : List ℕ) (p s : ℕ) (lp : p < 8) (ls : s < 128) where
 pub count-small : (h : List ℕ) (p s : ℕ) → countAt h p s < modulus
 count-small h p s = omega arith
 
--- The lookup is the model's.
-module _ (h : List ℕ) (p i : ℕ) (lp : p < 8) where
-  pub find-is : findAt h p i ≡ slotOf (handleV h p) i
-  unfolding findAt hasAt slotOf
-  find-is =
-      first-ext (hasAt h p i) (λ s. hasId i (handleV h p s)) 128
-      (λ s ls. rw (handle-is h p s lp ls) (sym (of-has (idAt h p s) (countAt h p s) i)))
+-- What a search finds, and what it says where it finds nothing.
+not-nothing : {s : ℕ} → Nothing ≡ At s → ⊥
+not-nothing {s} e = let z : _≡_ {A = ℕ} 0 1 = cc in absurd (omega arith)
 
-  found-of : (n s : ℕ) → foundOf n ≡ At s → (s ≡ n) × (s < 128)
-  found-of n s e = go (look (ltb n 128))
+not-at : {s : ℕ} → At s ≡ Nothing → ⊥
+not-at {s} e = not-nothing (sym e)
+
+module _ (h : List ℕ) (p i : ℕ) where
+  by-some : (at : ℕ → ℕ) (n s : ℕ) → foundBy h p i at n ≡ At s → (j : ℕ) × (j < n) × (s ≡ at j) × (hasAt h p i s ≡ true)
+  unfolding foundBy
+  by-some at n s e = go (look (ltb k n))
     where
-      go : Seen (ltb n 128) → (s ≡ n) × (s < 128)
+      t : ℕ → Bool
+      t j = hasAt h p i (at j)
+
+      k : ℕ
+      k = first t n
+
+      go : Seen (ltb k n) → (j : ℕ) × (j < n) × (s ≡ at j) × (hasAt h p i s ≡ true)
       go (is-true f) =
-          let x : At n ≡ At s = rw f at e in
-          let y : s ≡ n = cc in
-          (y, rw y (ltb-true n 128 f))
+          let x : At (at k) ≡ At s = rw f at e in
+          let y : s ≡ at k = cc in
+          let l : k < n = ltb-true k n f in
+          (k, l, y, ap (hasAt h p i) y ∙ first-found t n l)
+      go (is-false f) = absurd (not-nothing (rw f at e))
+
+  by-none : (at : ℕ → ℕ) (n : ℕ) → foundBy h p i at n ≡ Nothing → (j : ℕ) → j < n → hasAt h p i (at j) ≡ false
+  unfolding foundBy
+  by-none at n e j l = go (look (ltb k n))
+    where
+      t : ℕ → Bool
+      t j = hasAt h p i (at j)
+
+      k : ℕ
+      k = first t n
+
+      go : Seen (ltb k n) → hasAt h p i (at j) ≡ false
+      go (is-true f) = absurd (not-at (rw f at e))
+      go (is-false f) = let m : n ≤ k = ltb-false k n f in first-before t n j (omega (arith, m))
+
+  own-some : p < 8 → (s : ℕ) → foundOwn h p i ≡ At s → (s < 128) × (hasAt h p i s ≡ true)
+  unfolding foundOwn
+  own-some lp s e = let x = by-some (λ k. p * 16 + k) 16 s e in (omega (arith, x .1, x .2), x .3)
+
+  own-none : foundOwn h p i ≡ Nothing → (k : ℕ) → k < 16 → hasAt h p i (p * 16 + k) ≡ false
+  unfolding foundOwn
+  own-none e = by-none (λ k. p * 16 + k) 16 e
+
+  place-some : (k : ℕ) → k < 16 → (s : ℕ) → foundAtPlace h p i k ≡ At s → (s < 128) × (hasAt h p i s ≡ true)
+  unfolding foundAtPlace
+  place-some k lk s e = let x = by-some (λ q. q * 16 + k) 8 s e in (omega (arith, x .1, x .2), x .3)
+
+  place-none : (k : ℕ) → isFound (foundAtPlace h p i k) ≡ false → (q : ℕ) → q < 8 → hasAt h p i (q * 16 + k) ≡ false
+  unfolding foundAtPlace
+  place-none k e = go (foundBy h p i (λ q. q * 16 + k) 8) refl
+    where
+      go : (x : Found) → foundBy h p i (λ q. q * 16 + k) 8 ≡ x → (q : ℕ) → q < 8 → hasAt h p i (q * 16 + k) ≡ false
+      go (At s) f q l = clash (rw f at e)
+      go Nothing f q l = by-none (λ q. q * 16 + k) 8 f q l
+
+  any-some : (s : ℕ) → foundAny h p i ≡ At s → (s < 128) × (hasAt h p i s ≡ true)
+  unfolding foundAny
+  any-some s e = go (look (ltb k 16))
+    where
+      k : ℕ
+      k = first (λ j. isFound (foundAtPlace h p i j)) 16
+
+      go : Seen (ltb k 16) → (s < 128) × (hasAt h p i s ≡ true)
+      go (is-true f) = place-some k (ltb-true k 16 f) s (rw f at e)
+      go (is-false f) = absurd (not-nothing (rw f at e))
+
+  any-none : foundAny h p i ≡ Nothing → (s : ℕ) → s < 128 → hasAt h p i s ≡ false
+  unfolding foundAny
+  any-none e s l = go (look (ltb k 16))
+    where
+      t : ℕ → Bool
+      t j = isFound (foundAtPlace h p i j)
+
+      k : ℕ
+      k = first t 16
+
+      at-none : (x : Found) → foundAtPlace h p i k ≡ x → x ≡ Nothing → isFound (foundAtPlace h p i k) ≡ false
+      at-none x f n = rw (f, n)
+
+      go : Seen (ltb k 16) → hasAt h p i s ≡ false
+      go (is-true f) =
+          let n : foundAtPlace h p i k ≡ Nothing = rw f at e in
+          let y : isFound (foundAtPlace h p i k) ≡ true = first-found t 16 (ltb-true k 16 f) in
+          clash (sym y ∙ at-none (foundAtPlace h p i k) refl n)
       go (is-false f) =
-          let x : Nothing ≡ At s = rw f at e in
-          let z : _≡_ {A = ℕ} 0 1 = cc in
-          absurd (omega arith)
+          let m : 16 ≤ k = ltb-false k 16 f in
+          let x : hasAt h p i (s / 16 * 16 + s % 16) ≡ false = place-none (s % 16) (first-before t 16 (s % 16) (omega (arith, m))) (s / 16) (omega arith) in
+          let y : s / 16 * 16 + s % 16 ≡ s = omega arith in
+          rw y at x
 
-  found-none : (n : ℕ) → foundOf n ≡ Nothing → 128 ≤ n
-  found-none n e = go (look (ltb n 128))
-    where
-      go : Seen (ltb n 128) → 128 ≤ n
-      go (is-true f) =
-          let x : At n ≡ Nothing = rw f at e in
-          let z : _≡_ {A = ℕ} 0 1 = cc in
-          absurd (omega arith)
-      go (is-false f) = ltb-false n 128 f
-
-  pub lookup-at : (s : ℕ) → lookup h p i ≡ At s → (s ≡ slotOf (handleV h p) i) × (s < 128)
+  lookup-some : p < 8 → (s : ℕ) → lookup h p i ≡ At s → (s < 128) × (hasAt h p i s ≡ true)
   unfolding lookup
-  lookup-at s e = let x = found-of (findAt h p i) s e in (x .0 ∙ find-is, x .1)
-
-  pub lookup-nothing : lookup h p i ≡ Nothing → slotOf (handleV h p) i ≡ nodes
-  unfolding lookup findAt
-  lookup-nothing e =
-      let a : 128 ≤ findAt h p i = found-none (findAt h p i) e in
-      let b : findAt h p i ≤ 128 = first-le (hasAt h p i) 128 in
-      let c : findAt h p i ≡ 128 = omega arith in
-      sym find-is ∙ c
-
-  -- What was found is held under this ID.
-  pub lookup-held : (s : ℕ) → lookup h p i ≡ At s → handleV h p s ≡ some i (countAt h p s)
-  unfolding lookup findAt hasAt
-  lookup-held s e = go (look (eqb (countAt h p s) 0))
+  lookup-some lp s e = go (look (eqb (i % 4) 0))
     where
-      x : (s ≡ findAt h p i) × (s < 128)
-      x = found-of (findAt h p i) s e
+      go : Seen (eqb (i % 4) 0) → (s < 128) × (hasAt h p i s ≡ true)
+      go (is-true f) = own-some lp s (rw f at e)
+      go (is-false f) = any-some s (rw f at e)
 
-      t : hasAt h p i s ≡ true
-      t = rw (x .0) (first-found (hasAt h p i) 128 (rw (← x .0) (x .1)))
+  pub lookup-at : p < 8 → (s : ℕ) → lookup h p i ≡ At s → (s ≡ findAt h p i) × (s < 128)
+  unfolding findAt
+  lookup-at lp s e = (rw e, lookup-some lp s e .0)
 
-      go : Seen (eqb (countAt h p s) 0) → handleV h p s ≡ some i (countAt h p s)
-      go (is-true f) = clash (sym (rw f at t))
-      go (is-false f) =
-          let y : idAt h p s ≡ i = eqb-true (idAt h p s) i (rw f at t) in
-          rw (handle-is h p s lp (x .1), ← y) (of-some (idAt h p s) (countAt h p s) (eqb-false (countAt h p s) 0 f))
+  pub lookup-nothing : lookup h p i ≡ Nothing → findAt h p i ≡ nodes
+  unfolding findAt
+  lookup-nothing e = rw e
+
+-- On a bus of a run the lookup is the model's: two handles of a peer have two IDs, and an ID with its two low bits clear is that of an own node.
+module _ (h : List ℕ) (p g : ℕ) (lp : p < 8) (w : Handles p g (handleV h p)) (i : ℕ) where
+  has-is : (s : ℕ) → s < 128 → hasAt h p i s ≡ hasId i (handleV h p s)
+  unfolding hasAt
+  has-is s ls = rw (handle-is h p s lp ls) (sym (of-has (idAt h p s) (countAt h p s) i))
+
+  -- what holds the ID
+  has-some : (x : Handle) → hasId i x ≡ true → (c : ℕ) × (x ≡ some i c)
+  has-some none e = clash (sym e)
+  has-some (some j c) e = let y : j ≡ i = eqb-true j i e in (c, rw y)
+
+  -- the slot of the ID, if it is held
+  slot-is : (s : ℕ) → s < 128 → hasId i (handleV h p s) ≡ true → s ≡ slotOf (handleV h p) i
+  unfolding slotOf
+  slot-is s ls e = first-is (λ t. hasId i (handleV h p t)) 128 s (omega arith) (λ t lt. go t lt (look (hasId i (handleV h p t)))) (λ _. e)
+    where
+      go : (t : ℕ) → t < s → Seen (hasId i (handleV h p t)) → hasId i (handleV h p t) ≡ false
+      go t lt (is-true f) =
+          let x = has-some (handleV h p s) e in
+          let y = has-some (handleV h p t) f in
+          absurd (omega (arith, w .distinct s t i (x .0) (y .0) (x .1) (y .1)))
+      go t lt (is-false f) = f
+
+  -- no slot has it
+  slot-none : ((s : ℕ) → s < 128 → hasId i (handleV h p s) ≡ false) → 128 ≡ slotOf (handleV h p) i
+  unfolding slotOf
+  slot-none none-has = first-is (λ t. hasId i (handleV h p t)) 128 128 (omega arith) none-has (λ l. absurd (omega arith))
+
+  -- a chosen ID is that of an own node
+  own-place : i % 4 ≡ 0 → (s : ℕ) → hasId i (handleV h p s) ≡ true → s / 16 ≡ p
+  own-place e s f = go (same? (s / 16) p)
+    where
+      go : Same (s / 16) p → s / 16 ≡ p
+      go (same o) = o
+      go (other ne) =
+          let x = has-some (handleV h p s) f in
+          let y = w .given s i (x .0) (x .1) ne in
+          absurd (omega (arith, y .2))
+
+  missed : lookup h p i ≡ Nothing → (s : ℕ) → s < 128 → hasAt h p i s ≡ false
+  unfolding lookup
+  missed e s l = go (look (eqb (i % 4) 0))
+    where
+      own : i % 4 ≡ 0 → foundOwn h p i ≡ Nothing → Seen (hasAt h p i s) → hasAt h p i s ≡ false
+      own c n (is-false f) = f
+      own c n (is-true f) =
+          let o : s / 16 ≡ p = own-place c s (sym (has-is s l) ∙ f) in
+          let y : p * 16 + s % 16 ≡ s = omega arith in
+          rw y at (own-none h p i n (s % 16) (omega arith))
+
+      go : Seen (eqb (i % 4) 0) → hasAt h p i s ≡ false
+      go (is-true f) = own (eqb-true (i % 4) 0 f) (rw f at e) (look (hasAt h p i s))
+      go (is-false f) = any-none h p i (rw f at e) s l
+
+  pub find-is : findAt h p i ≡ slotOf (handleV h p) i
+  unfolding findAt
+  find-is = go (lookup h p i) refl
+    where
+      go : (x : Found) → lookup h p i ≡ x → slotFound (lookup h p i) ≡ slotOf (handleV h p) i
+      go (At s) e = let x = lookup-some h p i lp s e in rw e (slot-is s (x .0) (sym (has-is s (x .0)) ∙ x .1))
+      go Nothing e = rw e (slot-none (λ s l. sym (has-is s l) ∙ missed e s l))
 
 any-bits : (t : ℕ → Bool) (n : ℕ) → anyBelow t n ≡ not (eqb (bits t n) 0)
 unfolding bits sumTo

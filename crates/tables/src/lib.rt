@@ -6,12 +6,13 @@ ghost use lib.Count.{trailingZeros};
 ghost use lib.ListN.{length};
 ghost use Rattle.tables.specs.Peers.{modulus, acceptedAt, statusAt, standingAt, userAt, givenAt, setOpen, setDisconnected, setGiven, countCommand};
 ghost use Rattle.tables.specs.Nodes.{liveAt, setLive, setDead};
-ghost use Rattle.tables.specs.Handles.{idAt, countAt, hasAt, lookup, totalAt, bitAt, holdersAt, putHandle, clearPeer};
+ghost use Rattle.tables.specs.Handles.{idAt, countAt, hasAt, foundOwn, foundAtPlace, foundAny, lookup, totalAt, bitAt, holdersAt, putHandle, clearPeer};
 ghost use Rattle.tables.specs.Charges.{chargeAt, chargesAt, putCharge, putCharges};
 use ids::EBADF;
 use ids::ESHUTDOWN;
 use ids::HandleId;
 use ids::Peer;
+use ids::SLOTS;
 use ids::User;
 use quota::Charge;
 use quota::Charges;
@@ -168,26 +169,69 @@ fn holds(handles: &[u64], p: Peer, id: HandleId, s: usize) -> bool
     requires { ⌜ (length (now handles) ≡ 2048) × (p .0 < 8) × (s < 128) ⌝ }
     ensures { λ r. ⌜ r ≡ hasAt (now (handles .entry)) (p .0) (id .0) s ⌝ }
 {
-    let c = count_of(handles, p, s);
-    if c == 0 {
+    if handles[p.0 * 256 + 2 * s] != id.0 {
         return false;
     }
-    handles[p.0 * 256 + 2 * s] == id.0
+    count_of(handles, p, s) != 0
 }
 
-// The slot that the peer knows by this ID.
+// The first of the peer's own slots that it knows by this ID.
+fn find_own(handles: &[u64], p: Peer, id: HandleId) -> Found
+    requires { ⌜ (length (now handles) ≡ 2048) × (p .0 < 8) ⌝ }
+    ensures { λ r. ⌜ r ≡ foundOwn (now (handles .entry)) (p .0) (id .0) ⌝ }
+{
+    let mut k = 0;
+    while k < SLOTS {
+        if holds(handles, p, id, p.0 * SLOTS + k) {
+            return Found::At(p.0 * SLOTS + k);
+        }
+        k += 1;
+    }
+    Found::Nothing
+}
+
+// The first of the slots at the place k of each owner that the peer knows by this ID.
+fn find_at_place(handles: &[u64], p: Peer, id: HandleId, k: usize) -> Found
+    requires { ⌜ (length (now handles) ≡ 2048) × (p .0 < 8) × (k < 16) ⌝ }
+    ensures { λ r. ⌜ r ≡ foundAtPlace (now (handles .entry)) (p .0) (id .0) k ⌝ }
+{
+    let mut q = 0;
+    while q < 8 {
+        if holds(handles, p, id, q * SLOTS + k) {
+            return Found::At(q * SLOTS + k);
+        }
+        q += 1;
+    }
+    Found::Nothing
+}
+
+// A slot that the peer knows by this ID: the first place of every owner, then the second, since nodes are made at the
+// lowest places.
+fn find_any(handles: &[u64], p: Peer, id: HandleId) -> Found
+    requires { ⌜ (length (now handles) ≡ 2048) × (p .0 < 8) ⌝ }
+    ensures { λ r. ⌜ r ≡ foundAny (now (handles .entry)) (p .0) (id .0) ⌝ }
+{
+    let mut k = 0;
+    while k < SLOTS {
+        let r = find_at_place(handles, p, id, k);
+        let Found::Nothing = r else {
+            return r;
+        };
+        k += 1;
+    }
+    Found::Nothing
+}
+
+// The slot that the peer knows by this ID. An ID whose two low bits are clear was chosen: it names one of the peer's own
+// nodes, or none.
 pub fn find(handles: &[u64], p: Peer, id: HandleId) -> Found
     requires { ⌜ (length (now handles) ≡ 2048) × (p .0 < 8) ⌝ }
     ensures { λ r. ⌜ r ≡ lookup (now (handles .entry)) (p .0) (id .0) ⌝ }
 {
-    let mut s = 0;
-    while s < 128 {
-        if holds(handles, p, id, s) {
-            return Found::At(s);
-        }
-        s += 1;
+    if id.0 % 4 == 0 {
+        return find_own(handles, p, id);
     }
-    Found::Nothing
+    find_any(handles, p, id)
 }
 
 // The peer's handle to the slot's node has this ID and this count; at 0 there is none.

@@ -1,4 +1,4 @@
-//! The library against the bus in ordinary Rust, a million random commands.
+//! The library against the bus in ordinary Rust, 1.2 million random commands.
 //! The seed is fresh and printed; `SEED=n` repeats a run.
 
 mod compare;

@@ -1,6 +1,6 @@
 //! The message bus of document 01 in ordinary Rust.
 //!
-//! Written from document 01 and the agreed readings of its doubtful clauses,
+//! Written from document 01 and the readings of its doubtful clauses in docs/DECISIONS.md,
 //! not from the proved core's definitions, so that agreement with the core
 //! means something. It keeps its state in its own tables, not in lent buffers,
 //! so EIO (5) has no case here.

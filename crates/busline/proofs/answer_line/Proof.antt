@@ -1,39 +1,45 @@
--- `busline::answer_line` meets its contract: a line that is read fits in the frame buffer and in the input. Assumes nothing.
-use mathlib.Core.Path.{refl, sym, ap, _∙_}
-use lib.ListN.{length}
+-- `busline::answer_line` meets its contract: what was read fits in the input, and its answer in the answer buffer. Assumes nothing.
+use mathlib.Core.Path.{sym}
+use lib.ListN.{length-take, length-drop}
 use lib.Seq.{length-take-le}
-use Rattle.lines.specs.LineLaws.{read-fits, after-length}
+use Rattle.lines.specs.LineLaws.{read-fits}
 use native.Mathlib.Omega.{arith}
 use borrow.Author.Needs.{needs}
 use Rattle.busline.proofs.answer_line.Statement.{statement}
 use Rattle.busline.proofs.answer_line.Tie as tie
 
+sub-line : tie.Need-sub-line
+sub-line c = search needs
+
+part-line-start : tie.Need-part-line-start
+part-line-start c = search needs
+
+part-line-end : tie.Need-part-line-end
+part-line-end c = search needs
+
 read-line-requires : tie.Need-read-line-requires
 read-line-requires c κs = search needs
 
-enum-known-m : tie.Need-enum-known-m
-enum-known-m c = search needs
+answer-read-requires : tie.Need-answer-read-requires
+answer-read-requires c κs = search needs
 
-least-requires : tie.Need-least-requires
-least-requires c κs = search needs
+slice-reshare-prefix-say : tie.Need-slice-reshare-prefix-say
+slice-reshare-prefix-say c = omega (arith, (c .before .before .before .before .before .before .before .before .before .before .before .before .before .before .before .before .before .before .before .before .before .answer-read) .ensures, (c .before .before .before .before .before .before .before .before .before .before .before .before .before .before .before .before .before .before .before .before .before .answer-read) .kept .1 .1 .1 .1 .1 .1 .1 .1 .1 .1 .1 .0, (c .before .before .before .before .before .before .before .before .before .before .before .before .before .before .before .before .before .before .before .before .before .before .before .before .before .before .before .before .before .before .before .before .before .before .before .before .before .before .before .before .before .before .before .before .before .before .before .before .before) .pre .2)
 
-array-share-prefix-frame : tie.Need-array-share-prefix-frame
-array-share-prefix-frame c = let e = ap length ((c .before .before .before .before .before .before .before .before .before .before .before .before .before .read-line) .ensures .1) ∙ after-length ((c .before .before .before .before .before .before .before .before .before .before .before .before .before .before .before .before .before .before .before .before .before .before .before .before .before .before .args) .s .now) _ refl in omega (arith, e, (c .before .before .before .before .before .before .before .before .before .least) .ensures)
+slice-aggregate-say : tie.Need-slice-aggregate-say
+slice-aggregate-say c = sym (length-take-le _ ((c .before .before .before .before .before .before .before .before .before .before .before .before .before .before .before .before .before .before .before .before .before .before .answer-read) .last .1 .1 .1 .1 .1 .1 .1 .1 .1 .1 .1 .0) (omega (arith, (c .before .before .before .before .before .before .before .before .before .before .before .before .before .before .before .before .before .before .before .before .before .before .answer-read) .ensures, (c .before .before .before .before .before .before .before .before .before .before .before .before .before .before .before .before .before .before .before .before .before .before .answer-read) .kept .1 .1 .1 .1 .1 .1 .1 .1 .1 .1 .1 .0, (c .before .before .before .before .before .before .before .before .before .before .before .before .before .before .before .before .before .before .before .before .before .before .before .before .before .before .before .before .before .before .before .before .before .before .before .before .before .before .before .before .before .before .before .before .before .before .before .before .before .before) .pre .2)))
 
-slice-aggregate-answer-frame : tie.Need-slice-aggregate-answer-frame
-slice-aggregate-answer-frame c = let e = ap length ((c .before .before .before .before .before .before .before .before .before .before .before .before .before .before .read-line) .ensures .1) ∙ after-length ((c .before .before .before .before .before .before .before .before .before .before .before .before .before .before .before .before .before .before .before .before .before .before .before .before .before .before .before .args) .s .now) _ refl in sym (length-take-le _ ((c .before .before .before .before .before .before .before .before .before .before .before .before .before .before .read-line) .last .1 .0) (omega (arith, e, (c .before .before .before .before .before .before .before .before .before .before .least) .ensures)))
+say-requires : tie.Need-say-requires
+say-requires c κs = ((c .before .before .before .before .before .before .before .before .before .before .before .before .before .before .before .before .before .before .before .before .before .before .before .before .before .before .before .before .before .before .before .before .before .before .before .before .before .before .before .before .before .before .before .before .before .before .before .before .before .before) .pre .1, (c .before .before .before .before .before .before .before .before .before .before .before .before .before .before .before .before .before .before .before .before .before .before .before .before .before .before .before .before .before .before .before .before .before .before .before .before .before .before .before .before .before .before .before .before .before .before .before .before .before .before) .pre .3, simp length-take (omega (arith, (c .before .before .before .before .before .before .before .before .before .before .before .before .before .before .before .before .before .before .before .before .before .before .answer-read) .ensures)))
 
-answer-frame-requires : tie.Need-answer-frame-requires
-answer-frame-requires c κs = search needs
+used-by-requires : tie.Need-used-by-requires
+used-by-requires c κs = rw ((c .before .before .before .before .before .before .before .before .before .before .before .before .before .before .before .before .before .before .before .before .before .before .before .before .before .before .before .before .before .before .before .before .before .before .before .before .before .before .read-line) .ensures .0) (read-fits _)
 
-enum-known-next : tie.Need-enum-known-next
-enum-known-next c = search needs
+add-turned : tie.Need-add-turned
+add-turned c = omega (arith, simp (length-take, length-drop) at ((c .used-by) .ensures), (c .before .before .before .before .before .before .before .before .before .before .before .before .before .before .before .before .before .before .before .before .before .before .before .before .before .before .before .before .before .before .before .before .before .before .before .before .before .before .before .before .before .before .before .before .before .before .before .before .before .before .before .before .before .before) .pre .0, (c .before .before .before .before .before .before .before .before .before .before .before .before .before .before .before .before .before .before .before .before .before .before .before .before .before .before .before .before .before .before .before .before .before .before .before .before .before .before .before .before .before .before .before .before .before .before .before .before .before .before .before .before .before .before) .good)
 
-refuse-requires : tie.Need-refuse-requires
-refuse-requires c κs = search needs
-
-enum-told : tie.Need-enum-told
-enum-told c = search needs
+turned-requires : tie.Need-turned-requires
+turned-requires c κs = search needs
 
 same-length : tie.Need-same-length
 same-length c = search needs
@@ -65,31 +71,27 @@ same-length-9 c = search needs
 same-length-10 : tie.Need-same-length-10
 same-length-10 c = search needs
 
-returns : tie.Need-returns
-returns c = let r = rw (sym ((c .before .before .before .before .before .before .before .before .before .before .before .before .before .before .before .before .before .before .before .before .before .before .before .before .before .before .before .before .before .before .before .before .before .before .before .before .read-line) .ensures .0) ∙ (c .before .before .before .before .before .before .before .before .before .before .before .before .before .before .before .before .before .before .before .before .before .before .before .before .before .before .before .before .before .before .before .before .before .before .m) .given .1) at (read-fits ((c .before .before .before .before .before .before .before .before .before .before .before .before .before .before .before .before .before .before .before .before .before .before .before .before .before .before .before .before .before .before .before .before .before .before .before .before .before .before .before .before .before .before .before .before .before .before .before .before .before .args) .s .now)) in (r .2, (c .before .before .before .before .before .before .before .before .before .before .before .before .before .before .before .before .before .before .before .before .answer-frame) .ensures)
-
 same-length-11 : tie.Need-same-length-11
 same-length-11 c = search needs
 
-returns-2 : tie.Need-returns-2
-returns-2 c = let r = rw (sym ((c .before .before .before .before .before .before .before .read-line) .ensures .0) ∙ (c .before .before .before .before .before .next) .given .1) at (read-fits ((c .before .before .before .before .before .before .before .before .before .before .before .before .before .before .before .before .before .before .before .before .args) .s .now)) in (r .2, (c .before .before .refuse) .ensures)
-
-returns-3 : tie.Need-returns-3
-returns-3 c = search needs
+returns : tie.Need-returns
+returns c = (omega (arith, (c .turned) .ensures), omega (arith, (c .turned) .ensures, simp (length-take, length-drop) at ((c .before .used-by) .ensures), (c .before .before .before .before .before .before .before .before .before .before .before .before .before .before .before .before .before .before .before .before .before .before .before .before .before .before .before .before .before .before .before .before .before .before .before .before .before .before .before .before .before .before .before .before .before .before .before .before .before .before .before .before .before .before .before) .pre .0), omega (arith, (c .turned) .ensures, (c .before .before .before .before .say) .ensures))
 
 pub answer-line-spec : {M : Type 1} → statement M
 answer-line-spec =
     tie.close
     (tie.spec
+    sub-line
+    part-line-start
+    part-line-end
     read-line-requires
-    enum-known-m
-    least-requires
-    array-share-prefix-frame
-    slice-aggregate-answer-frame
-    answer-frame-requires
-    enum-known-next
-    refuse-requires
-    enum-told
+    answer-read-requires
+    slice-reshare-prefix-say
+    slice-aggregate-say
+    say-requires
+    used-by-requires
+    add-turned
+    turned-requires
     same-length
     same-length-2
     same-length-3
@@ -100,7 +102,5 @@ answer-line-spec =
     same-length-8
     same-length-9
     same-length-10
-    returns
     same-length-11
-    returns-2
-    returns-3)
+    returns)

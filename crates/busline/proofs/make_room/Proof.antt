@@ -12,7 +12,7 @@ returns : tie.Need-returns
 returns c = search needs
 
 slice-aggregate-write-all : tie.Need-slice-aggregate-write-all
-slice-aggregate-write-all c = sym (length-take-le _ ((c .before .before .before .args) .text .now) ((c .before .before .before) .pre))
+slice-aggregate-write-all c = sym (length-take-le _ ((c .before .before .before .args) .text .now) ((c .before .before .before) .pre .0))
 
 write-all-requires : tie.Need-write-all-requires
 write-all-requires c κs = search needs

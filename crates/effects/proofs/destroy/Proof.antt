@@ -1,4 +1,4 @@
--- `effects::destroy` meets its contract: the number, the slot's match and the destroyed set give the definition's parts. Assumes nothing.
+-- `effects::destroy` meets its contract: the number and the destroyed node give the definition's parts. Assumes nothing.
 use Rattle.rings.specs.Rings.{ringsOf}
 use Rattle.effects.specs.CodeChanges.{destroy-done}
 use borrow.Author.Needs.{needs}
@@ -8,11 +8,8 @@ use Rattle.effects.proofs.destroy.Tie as tie
 next-number-requires : tie.Need-next-number-requires
 next-number-requires c κs = search needs
 
-one-slot-requires : tie.Need-one-slot-requires
-one-slot-requires c κs = search needs
-
-destroy-set-requires : tie.Need-destroy-set-requires
-destroy-set-requires c κs = search needs
+destroy-one-requires : tie.Need-destroy-one-requires
+destroy-one-requires c κs = search needs
 
 same-length : tie.Need-same-length
 same-length c = search needs
@@ -33,15 +30,14 @@ same-length-6 : tie.Need-same-length-6
 same-length-6 c = search needs
 
 returns : tie.Need-returns
-returns c = let a = (c .before .before .before .before .before .before .before .before .before .before .before .before .before .before .before .before .before .before .before .before .before .before .before .before .before .before .before .before .args) in destroy-done (a .peers .now) (a .nodes .now) (a .handles .now) (ringsOf (a .ends .now) (a .entries .now) (a .carried .now) (a .numbers .now)) (a .p .0) (a .s) ((c .before .before .before .before .before .before .before .before .before .before .before .before .before .before .before .before .before .before .before .next-number) .ensures) ((c .before .before .before .before .before .before .before .before .before .before .before .before .before .before .before .before .one-slot) .ensures) ((c .before .before .before .before .before .before .before .before .before .before .destroy-set) .ensures)
+returns c = let a = (c .before .before .before .before .before .before .before .before .before .before .before .before .before .before .before .before .before .before .before .before .before .before .before .before .before .before .before .args) in destroy-done (a .peers .now) (a .nodes .now) (a .handles .now) (ringsOf (a .ends .now) (a .entries .now) (a .carried .now) (a .numbers .now)) (a .p .0) (a .s) ((c .before .before .before .before .before .before .before .before .before .before .before .before .before .before .before .before .before .before .next-number) .ensures) ((c .before .before .before .before .before .before .before .before .before .before .destroy-one) .ensures)
 
 pub destroy-spec : {M : Type 1} → statement M
 destroy-spec =
     tie.close
     (tie.spec
     next-number-requires
-    one-slot-requires
-    destroy-set-requires
+    destroy-one-requires
     same-length
     same-length-2
     same-length-3

@@ -9,19 +9,19 @@ is-live-requires : tie.Need-is-live-requires
 is-live-requires c κs = search needs
 
 returns : tie.Need-returns
-returns c = counts-live ((c .before .before .before .before .before .before .before .before .args) .nodes .now) ((c .before .before .before .before .before .before .before .before .args) .handles .now) (ringsOf ((c .before .before .before .before .before .before .before .before .args) .ends .now) ((c .before .before .before .before .before .before .before .before .args) .entries .now) ((c .before .before .before .before .before .before .before .before .args) .carried .now) ((c .before .before .before .before .before .before .before .before .args) .numbers .now)) ((c .before .before .before .before .before .before .before .before .args) .s) ((c .before .before .before .before .before .before .before .before) .pre .5) ((c .before .is-live) .ensures) ((c .if1) .taken)
+returns c = counts-live ((c .before .before .before .before .before .before .before .before .before .args) .nodes .now) ((c .before .before .before .before .before .before .before .before .before .args) .handles .now) ((c .before .before .before .before .before .before .before .before .before .args) .charges .now) (ringsOf ((c .before .before .before .before .before .before .before .before .before .args) .ends .now) ((c .before .before .before .before .before .before .before .before .before .args) .entries .now) ((c .before .before .before .before .before .before .before .before .before .args) .carried .now) ((c .before .before .before .before .before .before .before .before .before .args) .numbers .now)) ((c .before .before .before .before .before .before .before .before .before .args) .s) ((c .before .is-live) .ensures) ((c .if1) .taken)
 
 holders-requires : tie.Need-holders-requires
 holders-requires c κs = search needs
 
 returns-2 : tie.Need-returns-2
-returns-2 c = counts-held ((c .before .before .before .before .before .before .before .before .before .before .args) .nodes .now) ((c .before .before .before .before .before .before .before .before .before .before .args) .handles .now) (ringsOf ((c .before .before .before .before .before .before .before .before .before .before .args) .ends .now) ((c .before .before .before .before .before .before .before .before .before .before .args) .entries .now) ((c .before .before .before .before .before .before .before .before .before .before .args) .carried .now) ((c .before .before .before .before .before .before .before .before .before .before .args) .numbers .now)) ((c .before .before .before .before .before .before .before .before .before .before .args) .s) ((c .before .before .before .before .before .before .before .before .before .before) .pre .5) ((c .before .before .before .is-live) .ensures) ((c .before .before .if1) .left) ((c .before .holders) .ensures) ((c .if2) .taken)
+returns-2 c = counts-held ((c .before .before .before .before .before .before .before .before .before .before .before .args) .nodes .now) ((c .before .before .before .before .before .before .before .before .before .before .before .args) .handles .now) ((c .before .before .before .before .before .before .before .before .before .before .before .args) .charges .now) (ringsOf ((c .before .before .before .before .before .before .before .before .before .before .before .args) .ends .now) ((c .before .before .before .before .before .before .before .before .before .before .before .args) .entries .now) ((c .before .before .before .before .before .before .before .before .before .before .before .args) .carried .now) ((c .before .before .before .before .before .before .before .before .before .before .before .args) .numbers .now)) ((c .before .before .before .before .before .before .before .before .before .before .before .args) .s) ((c .before .before .before .is-live) .ensures) ((c .before .before .if1) .left) ((c .before .holders) .ensures) ((c .if2) .taken)
 
 named-requires : tie.Need-named-requires
 named-requires c κs = search needs
 
 returns-3 : tie.Need-returns-3
-returns-3 c = counts-named ((c .before .before .before .before .before .before .before .before .before .before .before .args) .nodes .now) ((c .before .before .before .before .before .before .before .before .before .before .before .args) .handles .now) (ringsOf ((c .before .before .before .before .before .before .before .before .before .before .before .args) .ends .now) ((c .before .before .before .before .before .before .before .before .before .before .before .args) .entries .now) ((c .before .before .before .before .before .before .before .before .before .before .before .args) .carried .now) ((c .before .before .before .before .before .before .before .before .before .before .before .args) .numbers .now)) ((c .before .before .before .before .before .before .before .before .before .before .before .args) .s) ((c .before .before .before .before .before .before .before .before .before .before .before) .pre .5) ((c .before .before .before .before .is-live) .ensures) ((c .before .before .before .if1) .left) ((c .before .before .holders) .ensures) ((c .before .if2) .left) ((c .named) .ensures)
+returns-3 c = counts-named ((c .before .before .before .before .before .before .before .before .before .before .before .before .args) .nodes .now) ((c .before .before .before .before .before .before .before .before .before .before .before .before .args) .handles .now) ((c .before .before .before .before .before .before .before .before .before .before .before .before .args) .charges .now) (ringsOf ((c .before .before .before .before .before .before .before .before .before .before .before .before .args) .ends .now) ((c .before .before .before .before .before .before .before .before .before .before .before .before .args) .entries .now) ((c .before .before .before .before .before .before .before .before .before .before .before .before .args) .carried .now) ((c .before .before .before .before .before .before .before .before .before .before .before .before .args) .numbers .now)) ((c .before .before .before .before .before .before .before .before .before .before .before .before .args) .s) ((c .before .before .before .before .is-live) .ensures) ((c .before .before .before .if1) .left) ((c .before .before .holders) .ensures) ((c .before .if2) .left) ((c .named) .ensures)
 
 pub counts-spec : {M : Type 1} → statement M
 counts-spec =

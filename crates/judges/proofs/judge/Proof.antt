@@ -28,7 +28,7 @@ enum-known-c-3 : tie.Need-enum-known-c-3
 enum-known-c-3 c = search needs
 
 judge-create-requires : tie.Need-judge-create-requires
-judge-create-requires c κs = ((c .before .before .before .before .before .before .before .before .before .before .before .before) .pre .0, (c .before .before .before .before .before .before .before .before .before .before .before .before) .pre .1, (c .before .before .before .before .before .before .before .before .before .before .before .before) .pre .2, (c .before .before .before .before .before .before .before .before .before .before .before .before) .pre .4, (c .before .before .before .before .before .before .before .before .before .before .before .before) .pre .5, (c .before .before .before .before .before .before .before .before .before .before .before .before) .pre .6, omega (arith, (legal-as ((c .before .before .before .before .before .before .before .before .before .before .before .before .args) .frame .now) _ ((c .before .before .before .before .before .before .before .before .before .before .before .before) .pre .7) ((c .before .c3) .given .1)) .0))
+judge-create-requires c κs = ((c .before .before .before .before .before .before .before .before .before .before .before .before) .pre .0, (c .before .before .before .before .before .before .before .before .before .before .before .before) .pre .1, (c .before .before .before .before .before .before .before .before .before .before .before .before) .pre .2, (c .before .before .before .before .before .before .before .before .before .before .before .before) .pre .3, (c .before .before .before .before .before .before .before .before .before .before .before .before) .pre .4, (c .before .before .before .before .before .before .before .before .before .before .before .before) .pre .5, (c .before .before .before .before .before .before .before .before .before .before .before .before) .pre .6, omega (arith, (legal-as ((c .before .before .before .before .before .before .before .before .before .before .before .before .args) .frame .now) _ ((c .before .before .before .before .before .before .before .before .before .before .before .before) .pre .7) ((c .before .c3) .given .1)) .0))
 
 plain-requires-3 : tie.Need-plain-requires-3
 plain-requires-3 c κs = search needs

@@ -7,22 +7,28 @@ use Rattle.queues.proofs.is_among.Statement.{statement}
 use Rattle.queues.proofs.is_among.Tie as tie
 
 abbrev Inv-loop : tie.InvT-loop
-Inv-loop n s slots k₀ k = Among slots n s k
+Inv-loop carried row n s a k₀ k = Among carried row n s k
 
 abbrev μ-loop : tie.MeasureT-loop
-μ-loop n s slots k₀ k = n - k
+μ-loop carried row n s a k₀ k = n - k
+
+mul-a : tie.Need-mul-a Inv-loop μ-loop
+mul-a c = search needs
 
 loop-holds : tie.Need-loop-holds Inv-loop μ-loop
-loop-holds c = among-start _ _ _
+loop-holds c = among-start _ _ _ _
 
-array-read-byte-wide : tie.Need-array-read-byte-wide Inv-loop μ-loop
-array-read-byte-wide c = search needs
+add-byte-wide : tie.Need-add-byte-wide Inv-loop μ-loop
+add-byte-wide c = search needs
+
+shared-slice-read-byte-wide : tie.Need-shared-slice-read-byte-wide Inv-loop μ-loop
+shared-slice-read-byte-wide c = search needs
 
 byte-wide-requires : tie.Need-byte-wide-requires Inv-loop μ-loop
 byte-wide-requires c κs = search needs
 
 returns : tie.Need-returns Inv-loop μ-loop
-returns c = among-found ((c .before .before .before .loop) .inv) ((c .before .before .before .before) .good .0 .1 .0 .1) (omega arith) ((c .before .before .loop-test) .taken) ((c .before .byte-wide) .ensures) ((c .if1) .taken)
+returns c = among-found (c .before .before .before .before .loop .inv) (omega arith) (c .before .before .before .loop-test .taken) (c .before .byte-wide .ensures) (c .if1 .taken)
 
 add-k : tie.Need-add-k Inv-loop μ-loop
 add-k c = search needs
@@ -31,10 +37,10 @@ loop-less : tie.Need-loop-less Inv-loop μ-loop
 loop-less c = search needs
 
 loop-again : tie.Need-loop-again Inv-loop μ-loop
-loop-again c = among-next ((c .before .before .before .loop) .inv) ((c .before .before .before .before) .good .0 .1 .0 .1) (omega arith) ((c .before .before .loop-test) .taken) ((c .before .byte-wide) .ensures) ((c .if1) .left)
+loop-again c = among-next (c .before .before .before .before .loop .inv) (omega arith) (c .before .before .before .loop-test .taken) (c .before .byte-wide .ensures) (c .if1 .left)
 
 returns-2 : tie.Need-returns-2 Inv-loop μ-loop
-returns-2 c = among-end ((c .before .loop) .inv) ((c .before .before) .good .0 .1 .0 .1) (omega arith) ((c .loop-test) .left)
+returns-2 c = among-end (c .before .loop .inv) (omega arith) (c .loop-test .left)
 
 pub is-among-spec : {M : Type 1} → statement M
 is-among-spec =
@@ -42,8 +48,10 @@ is-among-spec =
     (tie.spec
     Inv-loop
     μ-loop
+    mul-a
     loop-holds
-    array-read-byte-wide
+    add-byte-wide
+    shared-slice-read-byte-wide
     byte-wide-requires
     returns
     add-k

@@ -1,13 +1,14 @@
--- `queues::is_message` meets its contract: each return is one side of the definition's tests. Assumes nothing.
-use Rattle.queues.specs.Code.{message-destroyed, message-else}
+-- `queues::is_message` meets its contract: the entry's kind decides. Assumes nothing.
+use Rattle.queues.specs.Code.{message-entry}
+use borrow.Author.Needs.{needs}
 use Rattle.queues.proofs.is_message.Statement.{statement}
 use Rattle.queues.proofs.is_message.Tie as tie
 
-returns : tie.Need-returns
-returns c = message-destroyed _ ((c .if1) .taken)
+is-message-kind-requires : tie.Need-is-message-kind-requires
+is-message-kind-requires c κs = search needs
 
-returns-2 : tie.Need-returns-2
-returns-2 c = message-else _ ((c .before .if1) .left)
+returns : tie.Need-returns
+returns c = message-entry _ (c .is-message-kind .ensures)
 
 pub is-message-spec : {M : Type 1} → statement M
-is-message-spec = tie.close (tie.spec returns returns-2)
+is-message-spec = tie.close (tie.spec is-message-kind-requires returns)

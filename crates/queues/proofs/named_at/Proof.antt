@@ -24,14 +24,11 @@ loop-holds c = naming-start _ _ _
 row-of-requires : tie.Need-row-of-requires Inv-loop μ-loop
 row-of-requires c κs = search needs
 
-get-entry-requires : tie.Need-get-entry-requires Inv-loop μ-loop
-get-entry-requires c κs = search needs
-
 names-requires : tie.Need-names-requires Inv-loop μ-loop
 names-requires c κs = search needs
 
 returns : tie.Need-returns Inv-loop μ-loop
-returns c = naming-found ((c .before .before .before .before .before .loop) .inv) ((c .before .before .before .before .before .before .len-of) .ensures .0) ((c .before .before .before .before .loop-test) .taken) ((c .before .before .before .before .before .before .before .head-of) .ensures .0) ((c .before .before .before .row-of) .ensures .0) ((c .before .before .get-entry) .ensures) ((c .before .names) .ensures) ((c .if1) .taken)
+returns c = naming-found (c .before .before .before .before .loop .inv) (c .before .before .before .before .before .len-of .ensures .0) (c .before .before .before .loop-test .taken) (c .before .before .before .before .before .before .head-of .ensures .0) (c .before .before .row-of .ensures .0) (c .before .names .ensures (c .before .before .before .before .before .before .before .before .before .before .before .args .numbers .now)) (c .if1 .taken)
 
 add-i : tie.Need-add-i Inv-loop μ-loop
 add-i c = search needs
@@ -40,10 +37,10 @@ loop-less : tie.Need-loop-less Inv-loop μ-loop
 loop-less c = search needs
 
 loop-again : tie.Need-loop-again Inv-loop μ-loop
-loop-again c = naming-next ((c .before .before .before .before .before .loop) .inv) ((c .before .before .before .before .before .before .len-of) .ensures .0) ((c .before .before .before .before .loop-test) .taken) ((c .before .before .before .before .before .before .before .head-of) .ensures .0) ((c .before .before .before .row-of) .ensures .0) ((c .before .before .get-entry) .ensures) ((c .before .names) .ensures) ((c .if1) .left)
+loop-again c = naming-next (c .before .before .before .before .loop .inv) (c .before .before .before .before .before .len-of .ensures .0) (c .before .before .before .loop-test .taken) (c .before .before .before .before .before .before .head-of .ensures .0) (c .before .before .row-of .ensures .0) (c .before .names .ensures (c .before .before .before .before .before .before .before .before .before .before .before .args .numbers .now)) (c .if1 .left)
 
 returns-2 : tie.Need-returns-2 Inv-loop μ-loop
-returns-2 c = naming-end ((c .before .loop) .inv) ((c .before .before .len-of) .ensures .0) ((c .loop-test) .left)
+returns-2 c = naming-end (c .before .loop .inv) (c .before .before .len-of .ensures .0) (c .loop-test .left)
 
 pub named-at-spec : {M : Type 1} → statement M
 named-at-spec =
@@ -55,7 +52,6 @@ named-at-spec =
     len-of-requires
     loop-holds
     row-of-requires
-    get-entry-requires
     names-requires
     returns
     add-i

@@ -1,7 +1,6 @@
--- `queues::remove` meets its contract: a queue longer than its ring is left; else charges, pool and queue are each what one callee leaves, and the pool is read from the queue before it is swept. Assumes nothing.
+-- `queues::remove` meets its contract: a queue longer than its ring is left; else charges, pool and queue are each what a callee leaves, and the messages are read from the queue before it is swept. Assumes nothing.
 use Rattle.queues.specs.Queues.{queuesOf}
 use Rattle.queues.specs.Code.{remove-long, remove-done}
-use native.Mathlib.Omega.{arith}
 use borrow.Author.Needs.{needs}
 use Rattle.queues.proofs.remove.Statement.{statement}
 use Rattle.queues.proofs.remove.Tie as tie
@@ -13,22 +12,13 @@ same-length : tie.Need-same-length
 same-length c = search needs
 
 returns : tie.Need-returns
-returns c = let a = (c .before .before .before .before .before .before .before .before .before .args) in remove-long (queuesOf (a .charges .now) (a .ends .now) (a .entries .now) (a .carried .now) (a .numbers .now) (a .pool .now)) (a .p .0) (a .m) ((c .before .len-of) .ensures .0) ((c .if1) .taken)
+returns c = let a = c .before .before .before .before .before .before .before .before .before .args in remove-long (queuesOf (a .charges .now) (a .ends .now) (a .entries .now) (a .carried .now) (a .numbers .now) (a .pool .now)) (a .p .0) (a .m) (c .before .len-of .ensures .0) (c .if1 .taken)
 
-load-requires : tie.Need-load-requires
-load-requires c κs = search needs
-
-lessen-all-requires : tie.Need-lessen-all-requires
-lessen-all-requires c κs = search needs
-
-store-requires : tie.Need-store-requires
-store-requires c κs = search needs
+remove-messages-requires : tie.Need-remove-messages-requires
+remove-messages-requires c κs = search needs
 
 remove-requires : tie.Need-remove-requires
 remove-requires c κs = search needs
-
-remove-requires-2 : tie.Need-remove-requires-2
-remove-requires-2 c κs = ((c .before .before .before .before .before .before .before .before .before .before .before .before .before .before .before .before .before .before .before .before .before .before .before .before .before .before .before .before .before .before .before .before) .pre .1, (c .before .before .before .before .before .before .before .before .before .before .before .before .before .before .before .before .before .before .before .before .before .before .before .before .before .before .before .before .before .before .before .before) .pre .2, (c .before .before .before .before .before .before .before .before .before .before .before .before .before .before .before .before .before .before .before .before .before .before .before .before .before .before .before .before .before .before .before .before) .pre .3, omega (arith, (c .before .before .before .before .before .before .before .before .before .before .before .before .before .before .before .before .before .before .before .before .before .before .before .if1) .left, (c .before .before .before .before .before .before .before .before .before .before .before .before .before .before .before .before .before .before .before .before .before .before .before .before .len-of) .ensures .0))
 
 same-length-2 : tie.Need-same-length-2
 same-length-2 c = search needs
@@ -49,7 +39,7 @@ same-length-7 : tie.Need-same-length-7
 same-length-7 c = search needs
 
 returns-2 : tie.Need-returns-2
-returns-2 c = let a = (c .before .before .before .before .before .before .before .before .before .before .before .before .before .before .before .before .before .before .before .before .before .before .before .before .before .before .before .before .before .before .before .before .before .before .before .before .before .before .before .before .before .args) in remove-done (queuesOf (a .charges .now) (a .ends .now) (a .entries .now) (a .carried .now) (a .numbers .now) (a .pool .now)) (a .p .0) (a .m) ((c .before .before .before .before .before .before .before .before .before .before .before .before .before .before .before .before .before .before .before .before .before .before .before .before .before .before .before .before .before .before .before .before .before .len-of) .ensures .0) ((c .before .before .before .before .before .before .before .before .before .before .before .before .before .before .before .before .before .before .before .before .before .before .before .before .before .before .before .before .before .before .before .before .if1) .left) ((c .before .before .before .before .before .before .before .before .before .before .before .before .before .before .before .before .before .before .before .before .before .before .before .before .before .before .before .before .before .before .load) .ensures) ((c .before .before .before .before .before .before .before .before .before .before .before .before .before .before .before .before .before .before .before .before .before .before .before .before .before .lessen-all) .ensures) ((c .before .before .before .before .before .before .before .before .before .before .before .before .before .before .before .before .before .before .before .before .before .before .before .store) .ensures) ((c .before .before .before .before .before .before .before .before .before .before .before .before .before .before .before .remove) .ensures) ((c .before .before .before .before .before .before .before .before .remove2) .ensures)
+returns-2 c = let a = c .before .before .before .before .before .before .before .before .before .before .before .before .before .before .before .before .before .before .before .before .before .before .before .before .before .before .before .before .before .before .before .before .before .args in remove-done (queuesOf (a .charges .now) (a .ends .now) (a .entries .now) (a .carried .now) (a .numbers .now) (a .pool .now)) (a .p .0) (a .m) (c .before .before .before .before .before .before .before .before .before .before .before .before .before .before .before .before .before .before .before .before .before .before .before .before .before .len-of .ensures .0) (c .before .before .before .before .before .before .before .before .before .before .before .before .before .before .before .before .before .before .before .before .before .before .before .before .if1 .left) (c .before .before .before .before .before .before .before .before .before .before .before .before .before .before .before .before .before .remove-messages .ensures) (c .before .before .before .before .before .before .before .before .remove .ensures)
 
 pub remove-spec : {M : Type 1} → statement M
 remove-spec =
@@ -58,11 +48,8 @@ remove-spec =
     len-of-requires
     same-length
     returns
-    load-requires
-    lessen-all-requires
-    store-requires
+    remove-messages-requires
     remove-requires
-    remove-requires-2
     same-length-2
     same-length-3
     same-length-4

@@ -1,6 +1,6 @@
 -- `rings::sweep` meets its contract: after each turn the rows hold what stays of the entries read, stored from the head on, and nothing else has changed; the measure is what is left to read. Assumes nothing.
 use Prim.Native.Nat.{_-_}
-use Rattle.rings.specs.Sweep.{Sweeping, sweep-start, sweep-next, sweep-done}
+use Rattle.rings.specs.Sweep.{Sweeping, sweep-from, sweep-next, sweep-done}
 use Rattle.rings.specs.Rings.{rowsOf}
 use native.Mathlib.Omega.{arith}
 use borrow.Author.Needs.{needs}
@@ -8,13 +8,13 @@ use Rattle.rings.proofs.sweep.Statement.{statement}
 use Rattle.rings.proofs.sweep.Tie as tie
 
 abbrev Inv-loop : tie.InvT-loop
-Inv-loop entries₀ carried₀ numbers₀ p head len m kept₀ read₀ entries carried numbers kept read = Sweeping (rowsOf entries₀ carried₀ numbers₀) (p .0) head len m (rowsOf entries carried numbers) kept read
+Inv-loop entries₀ carried₀ numbers₀ p head len m from kept₀ read₀ entries carried numbers kept read = Sweeping (rowsOf entries₀ carried₀ numbers₀) (p .0) head len m (rowsOf entries carried numbers) kept read
 
 abbrev μ-loop : tie.MeasureT-loop
-μ-loop entries₀ carried₀ numbers₀ p head len m kept₀ read₀ entries carried numbers kept read = len - read
+μ-loop entries₀ carried₀ numbers₀ p head len m from kept₀ read₀ entries carried numbers kept read = len - read
 
 loop-holds : tie.Need-loop-holds Inv-loop μ-loop
-loop-holds c = let a = (c .before .before .before .args) in sweep-start (rowsOf (a .entries .now) (a .carried .now) (a .numbers .now)) (a .p .0) (a .head) (a .len) (a .m) ((c .before .before .before) .pre .0)
+loop-holds c = let a = c .before .before .before .args in let r = c .before .before .before .pre in sweep-from (rowsOf (a .entries .now) (a .carried .now) (a .numbers .now)) (a .p .0) (a .head) (a .len) (a .m) (a .from) (r .0) (r .4) (r .3) (r .5)
 
 keep-entry-requires : tie.Need-keep-entry-requires Inv-loop μ-loop
 keep-entry-requires c κs = search needs

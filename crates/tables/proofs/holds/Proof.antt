@@ -1,42 +1,42 @@
--- `tables::holds` meets its contract: the test is the definition's choice, over the count that was read. Assumes nothing.
-use Rattle.tables.specs.CodeLaws.{holds-none, holds-some}
+-- `tables::holds` meets its contract: the ID is compared first, then the count. Assumes nothing.
+use Rattle.tables.specs.CodeLaws.{holds-other, holds-some}
 use borrow.Author.Needs.{needs}
 use Rattle.tables.proofs.holds.Statement.{statement}
 use Rattle.tables.proofs.holds.Tie as tie
 
+mul-if1 : tie.Need-mul-if1
+mul-if1 c = search needs
+
+mul-if1-2 : tie.Need-mul-if1-2
+mul-if1-2 c = search needs
+
+add-if1 : tie.Need-add-if1
+add-if1 c = search needs
+
+mul-if1-3 : tie.Need-mul-if1-3
+mul-if1-3 c = search needs
+
+shared-slice-read-if1 : tie.Need-shared-slice-read-if1
+shared-slice-read-if1 c = search needs
+
+returns : tie.Need-returns
+returns c = holds-other _ _ _ _ (c .if1 .taken)
+
 count-of-requires : tie.Need-count-of-requires
 count-of-requires c κs = search needs
 
-returns : tie.Need-returns
-returns c = holds-none _ _ _ _ (c .before .count-of .ensures .0) (c .if1 .taken)
-
-mul-result : tie.Need-mul-result
-mul-result c = search needs
-
-mul-result-2 : tie.Need-mul-result-2
-mul-result-2 c = search needs
-
-add-result : tie.Need-add-result
-add-result c = search needs
-
-mul-result-3 : tie.Need-mul-result-3
-mul-result-3 c = search needs
-
-shared-slice-read-result : tie.Need-shared-slice-read-result
-shared-slice-read-result c = search needs
-
 returns-2 : tie.Need-returns-2
-returns-2 c = holds-some _ _ _ _ (c .before .before .before .before .count-of .ensures .0) (c .before .before .before .if1 .left)
+returns-2 c = holds-some _ _ _ _ (c .before .if1 .left) (c .count-of .ensures .0)
 
 pub holds-spec : {M : Type 1} → statement M
 holds-spec =
     tie.close
     (tie.spec
-    count-of-requires
+    mul-if1
+    mul-if1-2
+    add-if1
+    mul-if1-3
+    shared-slice-read-if1
     returns
-    mul-result
-    mul-result-2
-    add-result
-    mul-result-3
-    shared-slice-read-result
+    count-of-requires
     returns-2)

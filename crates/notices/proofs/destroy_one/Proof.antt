@@ -1,0 +1,68 @@
+-- `notices::destroy_one` meets its contract: what is withdrawn, buried and posted is what the set of one bit gives. Assumes nothing.
+use native.Mathlib.Omega.{arith}
+use Rattle.rings.specs.Rings.{ringsOf}
+use Rattle.notices.specs.Code.{destroy-one}
+use borrow.Author.Needs.{needs}
+use Rattle.notices.proofs.destroy_one.Statement.{statement}
+use Rattle.notices.proofs.destroy_one.Tie as tie
+
+mul-own : tie.Need-mul-own
+mul-own c = search needs
+
+add-own : tie.Need-add-own
+add-own c = search needs
+
+one-slot-requires : tie.Need-one-slot-requires
+one-slot-requires c κs = search needs
+
+withdraw-requires : tie.Need-withdraw-requires
+withdraw-requires c κs = search needs
+
+set-dead-requires : tie.Need-set-dead-requires
+set-dead-requires c κs = search needs
+
+holders-requires : tie.Need-holders-requires
+holders-requires c κs = search needs
+
+notice-requires : tie.Need-notice-requires
+notice-requires c κs = search needs
+
+post-requires : tie.Need-post-requires
+post-requires c κs = let w = (c .before .before .before .before .before .before .before .before .before .before .before .before .before .before .before .before .before .before .withdraw) in let z = (c .before .before .before .before .before .before .before .before .before .before .before .before .before .before .before .before .before .before .before .before .before .before .before .before .before .before .before .before .before .before .before) .pre in (omega (arith, w .kept .0, z .2), record { entries = omega (arith, w .kept .1 .0, z .3 .entries); carried = omega (arith, w .kept .1 .1 .0, z .3 .carried); numbers = omega (arith, w .kept .1 .1 .1 .0, z .3 .numbers) })
+
+same-length : tie.Need-same-length
+same-length c = search needs
+
+same-length-2 : tie.Need-same-length-2
+same-length-2 c = search needs
+
+same-length-3 : tie.Need-same-length-3
+same-length-3 c = search needs
+
+same-length-4 : tie.Need-same-length-4
+same-length-4 c = search needs
+
+same-length-5 : tie.Need-same-length-5
+same-length-5 c = search needs
+
+returns : tie.Need-returns
+returns c = let a = (c .before .before .before .before .before .before .before .before .before .before .before .before .before .before .before .before .before .before .before .before .before .before .before .before .before .before .before .before .before .before .before .before .before .before .before .before .before .before .before .before .args) in destroy-one (a .nodes .now) (a .handles .now) (ringsOf (a .ends .now) (a .entries .now) (a .carried .now) (a .numbers .now)) (a .p .0) (a .s) (a .n) ((c .before .before .before .before .before .before .before .before .before .before .before .before .before .before .before .before .before .before .before .before .before .before .before .before .before .before .before .before .before .before .before .before .one-slot) .ensures) ((c .before .before .before .before .before .before .before .before .before .before .before .before .before .before .before .before .before .before .before .before .before .before .before .before .before .before .before .withdraw) .ensures) ((c .before .before .before .before .before .before .before .before .before .before .before .before .before .before .before .before .before .set-dead) .ensures) ((c .before .before .before .before .before .before .before .before .before .before .before .before .before .before .holders) .ensures) ((c .before .before .before .before .before .before .before .before .before .before .before .before .before .notice) .ensures) ((c .before .before .before .before .before .before .before .before .post) .ensures)
+
+pub destroy-one-spec : {M : Type 1} → statement M
+destroy-one-spec =
+    tie.close
+    (tie.spec
+    mul-own
+    add-own
+    one-slot-requires
+    withdraw-requires
+    set-dead-requires
+    holders-requires
+    notice-requires
+    post-requires
+    same-length
+    same-length-2
+    same-length-3
+    same-length-4
+    same-length-5
+    returns)

@@ -1,0 +1,59 @@
+-- `queues::attached` meets its contract: the sum of the four users' handles. Assumes nothing.
+use Rattle.queues.specs.Queues.{attachedOf}
+use borrow.Author.Needs.{needs}
+use Rattle.queues.proofs.attached.Statement.{statement}
+use Rattle.queues.proofs.attached.Tie as tie
+
+element-copy-out-wide : tie.Need-element-copy-out-wide
+element-copy-out-wide c = search needs
+
+wide-requires : tie.Need-wide-requires
+wide-requires c κs = search needs
+
+element-copy-out-wide-2 : tie.Need-element-copy-out-wide-2
+element-copy-out-wide-2 c = search needs
+
+wide-requires-2 : tie.Need-wide-requires-2
+wide-requires-2 c κs = search needs
+
+add-result : tie.Need-add-result
+add-result c = search needs
+
+element-copy-out-wide-3 : tie.Need-element-copy-out-wide-3
+element-copy-out-wide-3 c = search needs
+
+wide-requires-3 : tie.Need-wide-requires-3
+wide-requires-3 c κs = search needs
+
+add-result-2 : tie.Need-add-result-2
+add-result-2 c = search needs
+
+element-copy-out-wide-4 : tie.Need-element-copy-out-wide-4
+element-copy-out-wide-4 c = search needs
+
+wide-requires-4 : tie.Need-wide-requires-4
+wide-requires-4 c κs = search needs
+
+add-result-3 : tie.Need-add-result-3
+add-result-3 c = search needs
+
+returns : tie.Need-returns
+unfolding attachedOf
+returns c = search needs
+
+pub attached-spec : {M : Type 1} → statement M
+attached-spec =
+    tie.close
+    (tie.spec
+    element-copy-out-wide
+    wide-requires
+    element-copy-out-wide-2
+    wide-requires-2
+    add-result
+    element-copy-out-wide-3
+    wide-requires-3
+    add-result-2
+    element-copy-out-wide-4
+    wide-requires-4
+    add-result-3
+    returns)
