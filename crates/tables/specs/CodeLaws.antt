@@ -1,7 +1,7 @@
 -- The laws that the functions' proofs cite, one for each return or turn of a loop, over plain variables: each is shaped like what the callee ensures.
 -- Assumes nothing.
 use Prim.Native.Nat.{ℕ, _+_, _*_, _%_, _^_, _≤_, _<_}
-use mathlib.Core.Path.{_≡_, refl}
+use mathlib.Core.Path.{_≡_, refl, ap}
 use mathlib.Core.Bool.{Bool, true, false, not}
 use mathlib.Core.List.{List, [], _∷_}
 use native.Mathlib.Omega.{arith}
@@ -22,8 +22,8 @@ use Rattle.tables.specs.declared.Status.{Status}
 use Rattle.tables.specs.declared.Found.{Found}
 use Rattle.tables.specs.declared.Found.the-variants.{At, Nothing}
 use Rattle.laws.specs.Bits.{bits}
-use Rattle.tables.specs.Peers.{statusAt, refusalOf, standingAt}
-use Rattle.tables.specs.Handles.{countAt, hasAt, foundBy, foundOwn, foundAtPlace, isFound, foundAny, lookup, totalBelow, totalAt, bitAt, holdersBelow, holdersAt, putHandle, clearBelow, clearPeer}
+use Rattle.tables.specs.Peers.{modulus, statusAt, refusalOf, standingAt}
+use Rattle.tables.specs.Handles.{countAt, hasIn, hasAt, foundBy, foundOwn, foundAtPlace, isFound, foundAny, lookup, totalBelow, totalAt, bitAt, holdersBelow, holdersAt, putHandle, clearBelow, clearPeer}
 use Rattle.tables.specs.Charges.{chargeAt, chargesAt, putCharge, putBelow, putCharges}
 
 -- standing
@@ -32,22 +32,31 @@ unfolding standingAt
 standing-is ps p y e f = rw (← e, f)
 
 -- holds, find
-module _ (h : List ℕ) (p i s : ℕ) where
-  pub holds-other : (getD h (p * 256 + 2 * s) 0 ≡ i → ⊥) → false ≡ hasAt h p i s
-  unfolding hasAt
-  holds-other ne = rw (ne-eqb (getD h (p * 256 + 2 * s) 0) i ne) (go (eqb (countAt h p s) 0))
+module _ (h : List ℕ) (i at : ℕ) where
+  pub holds-other : (getD h at 0 ≡ i → ⊥) → false ≡ hasIn h i at
+  unfolding hasIn
+  holds-other ne = rw (ne-eqb (getD h at 0) i ne) (go (eqb (getD h (at + 1) 0 % modulus) 0))
     where
       go : (b : Bool) → false ≡ pick b false false
       go true = refl
       go false = refl
 
-  pub holds-some : getD h (p * 256 + 2 * s) 0 ≡ i → {c : ℕ} → c ≡ countAt h p s → not (eqb c 0) ≡ hasAt h p i s
-  unfolding hasAt
-  holds-some e {c = c} ec = rw (eq-eqb (getD h (p * 256 + 2 * s) 0) i e, ← ec) (go (eqb c 0))
+  pub holds-some : getD h at 0 ≡ i → not (eqb (getD h (at + 1) 0 % modulus) 0) ≡ hasIn h i at
+  unfolding hasIn
+  holds-some e = rw (eq-eqb (getD h at 0) i e) (go (eqb (getD h (at + 1) 0 % modulus) 0))
     where
       go : (b : Bool) → not b ≡ pick b false true
       go true = refl
       go false = refl
+
+-- the places of an own slot's handle, and of the handle at a place of an owner
+pub own-row : (h : List ℕ) (p i k : ℕ) → hasIn h i (p * 288 + 2 * k) ≡ hasAt h p i (p * 16 + k)
+unfolding hasAt
+own-row h p i k = let e : p * 288 + 2 * k ≡ p * 256 + 2 * (p * 16 + k) = omega arith in ap (hasIn h i) e
+
+pub place-row : (h : List ℕ) (p i k q : ℕ) → hasIn h i (p * 256 + 2 * k + 32 * q) ≡ hasAt h p i (q * 16 + k)
+unfolding hasAt
+place-row h p i k q = let e : p * 256 + 2 * k + 32 * q ≡ p * 256 + 2 * (q * 16 + k) = omega arith in ap (hasIn h i) e
 
 module _ (h : List ℕ) (p i : ℕ) (at : ℕ → ℕ) (n : ℕ) where
   pub found-at : (k : ℕ) → k < n → ((j : ℕ) → j < k → hasAt h p i (at j) ≡ false) → hasAt h p i (at k) ≡ true → At (at k) ≡ foundBy h p i at n

@@ -23,9 +23,13 @@ idAt h p s = getD h (handleRow p s) 0
 abbrev pub countAt : List ℕ → ℕ → ℕ → ℕ
 countAt h p s = getD h (handleRow p s + 1) 0 % modulus
 
+-- The handle whose ID stands at a place is held, under this ID.
+unfoldable pub hasIn : List ℕ → ℕ → ℕ → Bool
+hasIn h i at = pick (eqb (getD h (at + 1) 0 % modulus) 0) false (eqb (getD h at 0) i)
+
 -- The peer holds the slot's node under this ID.
 unfoldable pub hasAt : List ℕ → ℕ → ℕ → ℕ → Bool
-hasAt h p i s = pick (eqb (countAt h p s) 0) false (eqb (idAt h p s) i)
+hasAt h p i s = hasIn h i (handleRow p s)
 
 -- The first of n slots, given by their places, that the peer holds under this ID.
 unfoldable pub foundBy : List ℕ → ℕ → ℕ → (ℕ → ℕ) → ℕ → Found

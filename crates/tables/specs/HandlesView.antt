@@ -28,7 +28,7 @@ use Rattle.tables.specs.declared.Found.the-variants.{At, Nothing}
 use Rattle.laws.specs.Bits.{bit, bits, bits-ext, bits-first}
 use Rattle.laws.specs.Guards.{upto, upto-at, upto-ext, upto-upd}
 use Rattle.tables.specs.Peers.{modulus}
-use Rattle.tables.specs.Handles.{idAt, countAt, hasAt, foundBy, foundOwn, foundAtPlace, isFound, foundAny, lookup, slotFound, findAt, totalBelow, totalAt, heldAt, holdersBelow, holdersAt, putHandle, clearBelow, clearPeer}
+use Rattle.tables.specs.Handles.{idAt, countAt, hasIn, hasAt, foundBy, foundOwn, foundAtPlace, isFound, foundAny, lookup, slotFound, findAt, totalBelow, totalAt, heldAt, holdersBelow, holdersAt, putHandle, clearBelow, clearPeer}
 
 abbrev pub handleIn : List ℕ → ℕ → ℕ → Handle
 handleIn h p s = handleOf (idAt h p s) (countAt h p s)
@@ -262,7 +262,7 @@ module _ (h : List ℕ) (p i : ℕ) where
 -- On a bus of a run the lookup is the model's: two handles of a peer have two IDs, and an ID with its two low bits clear is that of an own node.
 module _ (h : List ℕ) (p g : ℕ) (lp : p < 8) (w : Handles p g (handleV h p)) (i : ℕ) where
   has-is : (s : ℕ) → s < 128 → hasAt h p i s ≡ hasId i (handleV h p s)
-  unfolding hasAt
+  unfolding hasAt hasIn
   has-is s ls = rw (handle-is h p s lp ls) (sym (of-has (idAt h p s) (countAt h p s) i))
 
   -- what holds the ID

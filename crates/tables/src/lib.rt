@@ -1,12 +1,12 @@
 // The lent tables of peers, nodes, handles and charges, each read and written by small functions of one table. A function
 // requires the size of the table that it is lent and bounds of the indices; any contents have a meaning.
 ghost use mathlib.Core.Path.{_≡_};
-ghost use Prim.Native.Nat.{_-_, _^_, _<_, _≤_};
+ghost use Prim.Native.Nat.{_+_, _-_, _^_, _<_, _≤_};
 ghost use lib.Count.{trailingZeros};
 ghost use lib.ListN.{length};
 ghost use Rattle.tables.specs.Peers.{modulus, acceptedAt, statusAt, standingAt, userAt, givenAt, setOpen, setDisconnected, setGiven, countCommand};
 ghost use Rattle.tables.specs.Nodes.{liveAt, setLive, setDead};
-ghost use Rattle.tables.specs.Handles.{idAt, countAt, hasAt, foundOwn, foundAtPlace, foundAny, lookup, totalAt, bitAt, holdersAt, putHandle, clearPeer};
+ghost use Rattle.tables.specs.Handles.{idAt, countAt, hasIn, foundOwn, foundAtPlace, foundAny, lookup, totalAt, bitAt, holdersAt, putHandle, clearPeer};
 ghost use Rattle.tables.specs.Charges.{chargeAt, chargesAt, putCharge, putCharges};
 use ids::EBADF;
 use ids::ESHUTDOWN;
@@ -164,15 +164,15 @@ pub fn id_of(handles: &[u64], p: Peer, s: usize) -> HandleId
     HandleId(handles[p.0 * 256 + 2 * s])
 }
 
-// Does the peer hold the slot's node under this ID?
-fn holds(handles: &[u64], p: Peer, id: HandleId, s: usize) -> bool
-    requires { ⌜ (length (now handles) ≡ 2048) × (p .0 < 8) × (s < 128) ⌝ }
-    ensures { λ r. ⌜ r ≡ hasAt (now (handles .entry)) (p .0) (id .0) s ⌝ }
+// Is the handle whose ID stands at this place held, under this ID?
+fn holds(handles: &[u64], at: usize, id: HandleId) -> bool
+    requires { ⌜ (length (now handles) ≡ 2048) × (at + 1 < 2048) ⌝ }
+    ensures { λ r. ⌜ r ≡ hasIn (now (handles .entry)) (id .0) at ⌝ }
 {
-    if handles[p.0 * 256 + 2 * s] != id.0 {
+    if handles[at] != id.0 {
         return false;
     }
-    count_of(handles, p, s) != 0
+    handles[at + 1] % MODULUS != 0
 }
 
 // The first of the peer's own slots that it knows by this ID.
@@ -180,9 +180,10 @@ fn find_own(handles: &[u64], p: Peer, id: HandleId) -> Found
     requires { ⌜ (length (now handles) ≡ 2048) × (p .0 < 8) ⌝ }
     ensures { λ r. ⌜ r ≡ foundOwn (now (handles .entry)) (p .0) (id .0) ⌝ }
 {
+    let base = p.0 * 288;
     let mut k = 0;
     while k < SLOTS {
-        if holds(handles, p, id, p.0 * SLOTS + k) {
+        if holds(handles, base + 2 * k, id) {
             return Found::At(p.0 * SLOTS + k);
         }
         k += 1;
@@ -195,9 +196,10 @@ fn find_at_place(handles: &[u64], p: Peer, id: HandleId, k: usize) -> Found
     requires { ⌜ (length (now handles) ≡ 2048) × (p .0 < 8) × (k < 16) ⌝ }
     ensures { λ r. ⌜ r ≡ foundAtPlace (now (handles .entry)) (p .0) (id .0) k ⌝ }
 {
+    let base = p.0 * 256 + 2 * k;
     let mut q = 0;
     while q < 8 {
-        if holds(handles, p, id, q * SLOTS + k) {
+        if holds(handles, base + 32 * q, id) {
             return Found::At(q * SLOTS + k);
         }
         q += 1;
