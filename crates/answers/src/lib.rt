@@ -229,30 +229,20 @@ fn put_plain(out: &mut [u8], a: Answer) -> usize
     }
 }
 
-// Writes a refusal.
+// Writes a refusal, one byte, into a buffer that is long enough.
 pub fn write_refusal(out: &mut [u8], n: u8) -> Outcome
+    requires { ⌜ 591 ≤ length (now out) ⌝ }
     ensures { λ r. ⌜ (r ≡ outcomeOf (answer.Refused n) [] [] (now (out .entry))) × (now (out .exit) ≡ answerAfter (answer.Refused n) [] [] (now (out .entry))) ⌝ }
 {
-    if out.len() < ANSWER_SIZE {
-        return Outcome {
-            number: EINVAL,
-            len: 0,
-        };
-    }
     out[0] = n;
     Outcome { number: n, len: 1 }
 }
 
-// Writes an answer that shows no message and may have contents.
+// Writes an answer that shows no message, with its contents, into a buffer that is long enough.
 fn write_contents(out: &mut [u8], a: Answer) -> Outcome
+    requires { ⌜ 591 ≤ length (now out) ⌝ }
     ensures { λ r. ⌜ (r ≡ outcomeOf a [] [] (now (out .entry))) × (now (out .exit) ≡ answerAfter a [] [] (now (out .entry))) ⌝ }
 {
-    if out.len() < ANSWER_SIZE {
-        return Outcome {
-            number: EINVAL,
-            len: 0,
-        };
-    }
     let number = number_of(a);
     out[0] = number;
     let len = put_plain(out, a);
@@ -263,6 +253,12 @@ fn write_contents(out: &mut [u8], a: Answer) -> Outcome
 pub fn write_plain(out: &mut [u8], a: Answer) -> Outcome
     ensures { λ r. ⌜ (r ≡ outcomeOf a [] [] (now (out .entry))) × (now (out .exit) ≡ answerAfter a [] [] (now (out .entry))) ⌝ }
 {
+    if out.len() < ANSWER_SIZE {
+        return Outcome {
+            number: EINVAL,
+            len: 0,
+        };
+    }
     match a {
         Answer::Refused(n) => write_refusal(out, n),
         Answer::Done => write_refusal(out, 0),
