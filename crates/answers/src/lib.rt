@@ -204,6 +204,15 @@ pub fn write_answer(out: &mut [u8], a: Answer, ids: &[u64], payload: &[u8]) -> O
     Outcome { number, len }
 }
 
+// Writes what a receive took out, without IDs and payload: a notice.
+pub fn write_received(out: &mut [u8], r: Received) -> Outcome
+    ensures { λ o. ⌜ (o ≡ outcomeOf (answer.Received r) [] [] (now (out .entry))) × (now (out .exit) ≡ answerAfter (answer.Received r) [] [] (now (out .entry))) ⌝ }
+{
+    let ids = [0u64; 1];
+    let bytes = [0u8; 1];
+    write_answer(out, Answer::Received(r), &ids[..0], &bytes[..0])
+}
+
 // What was received, without IDs and payload.
 fn put_bare(out: &mut [u8], r: Received) -> usize
     requires { ⌜ 591 ≤ length (now out) ⌝ }

@@ -372,9 +372,9 @@ fn receive_notice(handles: &[u64], ends: &mut [u16], p: Peer, e: Entry, out: &mu
     let id = grants::id_or_invalid(handles, p, rings::wide(e.slot) % 128);
     rings::pop(ends, p);
     if e.kind == notices::DESTROYED {
-        return answers::write_plain(out, Answer::Received(Received::Destroyed(id)));
+        return answers::write_received(out, Received::Destroyed(id));
     }
-    answers::write_plain(out, Answer::Received(Received::Released(id)))
+    answers::write_received(out, Received::Released(id))
 }
 
 // The oldest entry is taken out and shown.

@@ -18,18 +18,28 @@ use Rattle.laws.specs.Build.{build}
 use Rattle.quota.specs.declared.Charge.{Charge}
 use Rattle.quota.specs.declared.Charges.{Charges}
 use Rattle.quota.specs.Charges.{nothing}
-use Rattle.tables.specs.declared.Status.{Status}
 use Rattle.tables.specs.declared.Found.{Found}
 use Rattle.tables.specs.declared.Found.the-variants.{At, Nothing}
 use Rattle.laws.specs.Bits.{bits}
-use Rattle.tables.specs.Peers.{modulus, statusAt, refusalOf, standingAt}
+use Rattle.ids.specs.Refusals.{EBADF, ESHUTDOWN}
+use Rattle.tables.specs.Peers.{modulus, statusAt, standingAt}
 use Rattle.tables.specs.Handles.{countAt, hasIn, hasAt, foundBy, foundOwn, foundAtPlace, isFound, foundAny, lookup, totalBelow, totalAt, bitAt, holdersBelow, holdersAt, putHandle, clearBelow, clearPeer}
 use Rattle.tables.specs.Charges.{chargeAt, chargesAt, putCharge, putBelow, putCharges}
 
 -- standing
-pub standing-is : (ps : List ℕ) (p : ℕ) (y : Status) {x : Status} → x ≡ statusAt ps p → x ≡ y → refusalOf y ≡ standingAt ps p
-unfolding standingAt
-standing-is ps p y e f = rw (← e, f)
+module _ (ps : List ℕ) (p : ℕ) where
+  pub standing-open : getD ps (1 + 3 * p) 0 ≡ 1 → 0 ≡ standingAt ps p
+  unfolding standingAt statusAt
+  standing-open e = rw e
+
+  module _ (ne : getD ps (1 + 3 * p) 0 ≡ 1 → ⊥) where
+    pub standing-left : getD ps (1 + 3 * p) 0 ≡ 2 → ESHUTDOWN ≡ standingAt ps p
+    unfolding standingAt statusAt
+    standing-left e = rw e
+
+    pub standing-none : (getD ps (1 + 3 * p) 0 ≡ 2 → ⊥) → EBADF ≡ standingAt ps p
+    unfolding standingAt statusAt
+    standing-none nf = rw (ne-eqb (getD ps (1 + 3 * p) 0) 1 ne, ne-eqb (getD ps (1 + 3 * p) 0) 2 nf)
 
 -- holds, find
 module _ (h : List ℕ) (i at : ℕ) where

@@ -65,11 +65,14 @@ pub fn standing(peers: &[u64], p: Peer) -> u8
     requires { ⌜ (length (now peers) ≡ 25) × (p .0 < 8) ⌝ }
     ensures { λ r. ⌜ r ≡ standingAt (now (peers .entry)) (p .0) ⌝ }
 {
-    match status_of(peers, p) {
-        Status::Unopened => EBADF,
-        Status::Open => 0,
-        Status::Disconnected => ESHUTDOWN,
+    let state = peers[1 + 3 * p.0];
+    if state == OPEN {
+        return 0;
     }
+    if state == DISCONNECTED {
+        return ESHUTDOWN;
+    }
+    EBADF
 }
 
 // The user of a peer that was opened.
