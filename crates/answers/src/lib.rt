@@ -208,9 +208,15 @@ pub fn write_answer(out: &mut [u8], a: Answer, ids: &[u64], payload: &[u8]) -> O
 pub fn write_received(out: &mut [u8], r: Received) -> Outcome
     ensures { λ o. ⌜ (o ≡ outcomeOf (answer.Received r) [] [] (now (out .entry))) × (now (out .exit) ≡ answerAfter (answer.Received r) [] [] (now (out .entry))) ⌝ }
 {
-    let ids = [0u64; 1];
-    let bytes = [0u8; 1];
-    write_answer(out, Answer::Received(r), &ids[..0], &bytes[..0])
+    if out.len() < ANSWER_SIZE {
+        return Outcome {
+            number: EINVAL,
+            len: 0,
+        };
+    }
+    out[0] = 0;
+    let len = put_bare(out, r);
+    Outcome { number: 0, len }
 }
 
 // What was received, without IDs and payload.
