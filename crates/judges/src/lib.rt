@@ -459,12 +459,12 @@ fn judge_holders(peers: &[u64], handles: &[u64], p: Peer, i: HandleId) -> Order
     Order::Holders(s)
 }
 
-// What the bus says to a command.
+// What the bus says to a command. `ps`, `ns`, `hs` and `cs` are the tables of peers, nodes, handles and charges.
 pub fn judge(
-    peers: &[u64],
-    nodes: &[u64],
-    handles: &[u64],
-    charges: &[u16],
+    ps: &[u64],
+    ns: &[u64],
+    hs: &[u64],
+    cs: &[u16],
     ends: &[u16],
     entries: &[u16],
     carried: &[u8],
@@ -472,34 +472,23 @@ pub fn judge(
     frame: &[u8],
     c: Command,
 ) -> Ruling
-    requires { ⌜ (length (now peers) ≡ 25) × (length (now nodes) ≡ 256) × (length (now handles) ≡ 2048) × (length (now charges) ≡ 96) × (length (now ends) ≡ endCount) × Sized (rowsOf (now entries) (now carried) (now numbers)) × Short (now ends) × Legal (now frame) c ⌝ }
-    ensures { λ r. ⌜ r ≡ rulingOf (sight (now (peers .entry)) (now (nodes .entry)) (now (handles .entry)) (now (charges .entry)) (ringsOf (now (ends .entry)) (now (entries .entry)) (now (carried .entry)) (now (numbers .entry)))) (now (frame .entry)) c ⌝ }
+    requires { ⌜ (length (now ps) ≡ 25) × (length (now ns) ≡ 256) × (length (now hs) ≡ 2048) × (length (now cs) ≡ 96) × (length (now ends) ≡ endCount) × Sized (rowsOf (now entries) (now carried) (now numbers)) × Short (now ends) × Legal (now frame) c ⌝ }
+    ensures { λ r. ⌜ r ≡ rulingOf (sight (now (ps .entry)) (now (ns .entry)) (now (hs .entry)) (now (cs .entry)) (ringsOf (now (ends .entry)) (now (entries .entry)) (now (carried .entry)) (now (numbers .entry)))) (now (frame .entry)) c ⌝ }
 {
     match c {
-        Command::Open(p, u) => plain(judge_open(peers, p, u)),
-        Command::Disconnect(p) => plain(judge_disconnect(peers, p)),
+        Command::Open(p, u) => plain(judge_open(ps, p, u)),
+        Command::Disconnect(p) => plain(judge_disconnect(ps, p)),
         Command::Create(p, i) => {
-            plain(judge_create(
-                peers,
-                nodes,
-                handles,
-                charges,
-                ends,
-                entries,
-                carried,
-                numbers,
-                p,
-                i,
-            ))
+            plain(judge_create(ps, ns, hs, cs, ends, entries, carried, numbers, p, i))
         }
-        Command::Destroy(p, i) => plain(judge_destroy(peers, nodes, handles, p, i)),
-        Command::Release(p, i) => plain(judge_release(peers, nodes, handles, p, i)),
-        Command::Transfer(p, i, q) => plain(judge_transfer(peers, nodes, handles, p, i, q)),
-        Command::Send(p, z) => judge_send(peers, nodes, handles, charges, frame, p, z),
+        Command::Destroy(p, i) => plain(judge_destroy(ps, ns, hs, p, i)),
+        Command::Release(p, i) => plain(judge_release(ps, ns, hs, p, i)),
+        Command::Transfer(p, i, q) => plain(judge_transfer(ps, ns, hs, p, i, q)),
+        Command::Send(p, z) => judge_send(ps, ns, hs, cs, frame, p, z),
         Command::Receive(p, room) => {
-            plain(judge_receive(peers, ends, entries, carried, numbers, p, room))
+            plain(judge_receive(ps, ends, entries, carried, numbers, p, room))
         }
-        Command::Quota(p, u) => plain(judge_quota(peers, p, u)),
-        Command::Holders(p, i) => plain(judge_holders(peers, handles, p, i)),
+        Command::Quota(p, u) => plain(judge_quota(ps, p, u)),
+        Command::Holders(p, i) => plain(judge_holders(ps, hs, p, i)),
     }
 }

@@ -94,34 +94,34 @@ plain-requires-9 : tie.Need-plain-requires-9
 plain-requires-9 c κs = search needs
 
 returns : tie.Need-returns
-returns c = ruled-open ((c .before .before .before .before .before .before .before .before .before .before .before .before .before .before .args) .peers .now) ((c .before .before .before .before .before .before .before .before .before .before .before .before .before .before .args) .nodes .now) ((c .before .before .before .before .before .before .before .before .before .before .before .before .before .before .args) .handles .now) ((c .before .before .before .before .before .before .before .before .before .before .before .before .before .before .args) .charges .now) ((c .before .before .before .before .before .before .before .before .before .before .before .before .before .before .args) .frame .now) (ringsOf ((c .before .before .before .before .before .before .before .before .before .before .before .before .before .before .args) .ends .now) ((c .before .before .before .before .before .before .before .before .before .before .before .before .before .before .args) .entries .now) ((c .before .before .before .before .before .before .before .before .before .before .before .before .before .before .args) .carried .now) ((c .before .before .before .before .before .before .before .before .before .before .before .before .before .before .args) .numbers .now)) ((c .before .before .before .c) .given .1) ((c .before .judge-open) .ensures) ((c .plain) .ensures)
+returns c = ruled-open ((c .before .before .before .before .before .before .before .before .before .before .before .before .before .before .args) .ps .now) ((c .before .before .before .before .before .before .before .before .before .before .before .before .before .before .args) .ns .now) ((c .before .before .before .before .before .before .before .before .before .before .before .before .before .before .args) .hs .now) ((c .before .before .before .before .before .before .before .before .before .before .before .before .before .before .args) .cs .now) ((c .before .before .before .before .before .before .before .before .before .before .before .before .before .before .args) .frame .now) (ringsOf ((c .before .before .before .before .before .before .before .before .before .before .before .before .before .before .args) .ends .now) ((c .before .before .before .before .before .before .before .before .before .before .before .before .before .before .args) .entries .now) ((c .before .before .before .before .before .before .before .before .before .before .before .before .before .before .args) .carried .now) ((c .before .before .before .before .before .before .before .before .before .before .before .before .before .before .args) .numbers .now)) ((c .before .before .before .c) .given .1) ((c .before .judge-open) .ensures) ((c .plain) .ensures)
 
 returns-2 : tie.Need-returns-2
-returns-2 c = ruled-disconnect ((c .before .before .before .before .before .before .before .before .before .before .before .before .before .before .args) .peers .now) ((c .before .before .before .before .before .before .before .before .before .before .before .before .before .before .args) .nodes .now) ((c .before .before .before .before .before .before .before .before .before .before .before .before .before .before .args) .handles .now) ((c .before .before .before .before .before .before .before .before .before .before .before .before .before .before .args) .charges .now) ((c .before .before .before .before .before .before .before .before .before .before .before .before .before .before .args) .frame .now) (ringsOf ((c .before .before .before .before .before .before .before .before .before .before .before .before .before .before .args) .ends .now) ((c .before .before .before .before .before .before .before .before .before .before .before .before .before .before .args) .entries .now) ((c .before .before .before .before .before .before .before .before .before .before .before .before .before .before .args) .carried .now) ((c .before .before .before .before .before .before .before .before .before .before .before .before .before .before .args) .numbers .now)) ((c .before .before .before .c2) .given .1) ((c .before .judge-disconnect) .ensures) ((c .plain2) .ensures)
+returns-2 c = ruled-disconnect ((c .before .before .before .before .before .before .before .before .before .before .before .before .before .before .args) .ps .now) ((c .before .before .before .before .before .before .before .before .before .before .before .before .before .before .args) .ns .now) ((c .before .before .before .before .before .before .before .before .before .before .before .before .before .before .args) .hs .now) ((c .before .before .before .before .before .before .before .before .before .before .before .before .before .before .args) .cs .now) ((c .before .before .before .before .before .before .before .before .before .before .before .before .before .before .args) .frame .now) (ringsOf ((c .before .before .before .before .before .before .before .before .before .before .before .before .before .before .args) .ends .now) ((c .before .before .before .before .before .before .before .before .before .before .before .before .before .before .args) .entries .now) ((c .before .before .before .before .before .before .before .before .before .before .before .before .before .before .args) .carried .now) ((c .before .before .before .before .before .before .before .before .before .before .before .before .before .before .args) .numbers .now)) ((c .before .before .before .c2) .given .1) ((c .before .judge-disconnect) .ensures) ((c .plain2) .ensures)
 
 returns-3 : tie.Need-returns-3
-returns-3 c = ruled-create ((c .before .before .before .before .before .before .before .before .before .before .before .before .before .before .args) .peers .now) ((c .before .before .before .before .before .before .before .before .before .before .before .before .before .before .args) .nodes .now) ((c .before .before .before .before .before .before .before .before .before .before .before .before .before .before .args) .handles .now) ((c .before .before .before .before .before .before .before .before .before .before .before .before .before .before .args) .charges .now) ((c .before .before .before .before .before .before .before .before .before .before .before .before .before .before .args) .frame .now) (ringsOf ((c .before .before .before .before .before .before .before .before .before .before .before .before .before .before .args) .ends .now) ((c .before .before .before .before .before .before .before .before .before .before .before .before .before .before .args) .entries .now) ((c .before .before .before .before .before .before .before .before .before .before .before .before .before .before .args) .carried .now) ((c .before .before .before .before .before .before .before .before .before .before .before .before .before .before .args) .numbers .now)) ((c .before .before .before .c3) .given .1) ((c .before .judge-create) .ensures) ((c .plain3) .ensures)
+returns-3 c = ruled-create ((c .before .before .before .before .before .before .before .before .before .before .before .before .before .before .args) .ps .now) ((c .before .before .before .before .before .before .before .before .before .before .before .before .before .before .args) .ns .now) ((c .before .before .before .before .before .before .before .before .before .before .before .before .before .before .args) .hs .now) ((c .before .before .before .before .before .before .before .before .before .before .before .before .before .before .args) .cs .now) ((c .before .before .before .before .before .before .before .before .before .before .before .before .before .before .args) .frame .now) (ringsOf ((c .before .before .before .before .before .before .before .before .before .before .before .before .before .before .args) .ends .now) ((c .before .before .before .before .before .before .before .before .before .before .before .before .before .before .args) .entries .now) ((c .before .before .before .before .before .before .before .before .before .before .before .before .before .before .args) .carried .now) ((c .before .before .before .before .before .before .before .before .before .before .before .before .before .before .args) .numbers .now)) ((c .before .before .before .c3) .given .1) ((c .before .judge-create) .ensures) ((c .plain3) .ensures)
 
 returns-4 : tie.Need-returns-4
-returns-4 c = ruled-destroy ((c .before .before .before .before .before .before .before .before .before .before .before .before .before .before .args) .peers .now) ((c .before .before .before .before .before .before .before .before .before .before .before .before .before .before .args) .nodes .now) ((c .before .before .before .before .before .before .before .before .before .before .before .before .before .before .args) .handles .now) ((c .before .before .before .before .before .before .before .before .before .before .before .before .before .before .args) .charges .now) ((c .before .before .before .before .before .before .before .before .before .before .before .before .before .before .args) .frame .now) (ringsOf ((c .before .before .before .before .before .before .before .before .before .before .before .before .before .before .args) .ends .now) ((c .before .before .before .before .before .before .before .before .before .before .before .before .before .before .args) .entries .now) ((c .before .before .before .before .before .before .before .before .before .before .before .before .before .before .args) .carried .now) ((c .before .before .before .before .before .before .before .before .before .before .before .before .before .before .args) .numbers .now)) ((c .before .before .before .c4) .given .1) ((c .before .judge-destroy) .ensures) ((c .plain4) .ensures)
+returns-4 c = ruled-destroy ((c .before .before .before .before .before .before .before .before .before .before .before .before .before .before .args) .ps .now) ((c .before .before .before .before .before .before .before .before .before .before .before .before .before .before .args) .ns .now) ((c .before .before .before .before .before .before .before .before .before .before .before .before .before .before .args) .hs .now) ((c .before .before .before .before .before .before .before .before .before .before .before .before .before .before .args) .cs .now) ((c .before .before .before .before .before .before .before .before .before .before .before .before .before .before .args) .frame .now) (ringsOf ((c .before .before .before .before .before .before .before .before .before .before .before .before .before .before .args) .ends .now) ((c .before .before .before .before .before .before .before .before .before .before .before .before .before .before .args) .entries .now) ((c .before .before .before .before .before .before .before .before .before .before .before .before .before .before .args) .carried .now) ((c .before .before .before .before .before .before .before .before .before .before .before .before .before .before .args) .numbers .now)) ((c .before .before .before .c4) .given .1) ((c .before .judge-destroy) .ensures) ((c .plain4) .ensures)
 
 returns-5 : tie.Need-returns-5
-returns-5 c = ruled-release ((c .before .before .before .before .before .before .before .before .before .before .before .before .before .before .args) .peers .now) ((c .before .before .before .before .before .before .before .before .before .before .before .before .before .before .args) .nodes .now) ((c .before .before .before .before .before .before .before .before .before .before .before .before .before .before .args) .handles .now) ((c .before .before .before .before .before .before .before .before .before .before .before .before .before .before .args) .charges .now) ((c .before .before .before .before .before .before .before .before .before .before .before .before .before .before .args) .frame .now) (ringsOf ((c .before .before .before .before .before .before .before .before .before .before .before .before .before .before .args) .ends .now) ((c .before .before .before .before .before .before .before .before .before .before .before .before .before .before .args) .entries .now) ((c .before .before .before .before .before .before .before .before .before .before .before .before .before .before .args) .carried .now) ((c .before .before .before .before .before .before .before .before .before .before .before .before .before .before .args) .numbers .now)) ((c .before .before .before .c5) .given .1) ((c .before .judge-release) .ensures) ((c .plain5) .ensures)
+returns-5 c = ruled-release ((c .before .before .before .before .before .before .before .before .before .before .before .before .before .before .args) .ps .now) ((c .before .before .before .before .before .before .before .before .before .before .before .before .before .before .args) .ns .now) ((c .before .before .before .before .before .before .before .before .before .before .before .before .before .before .args) .hs .now) ((c .before .before .before .before .before .before .before .before .before .before .before .before .before .before .args) .cs .now) ((c .before .before .before .before .before .before .before .before .before .before .before .before .before .before .args) .frame .now) (ringsOf ((c .before .before .before .before .before .before .before .before .before .before .before .before .before .before .args) .ends .now) ((c .before .before .before .before .before .before .before .before .before .before .before .before .before .before .args) .entries .now) ((c .before .before .before .before .before .before .before .before .before .before .before .before .before .before .args) .carried .now) ((c .before .before .before .before .before .before .before .before .before .before .before .before .before .before .args) .numbers .now)) ((c .before .before .before .c5) .given .1) ((c .before .judge-release) .ensures) ((c .plain5) .ensures)
 
 returns-6 : tie.Need-returns-6
-returns-6 c = ruled-transfer ((c .before .before .before .before .before .before .before .before .before .before .before .before .before .before .args) .peers .now) ((c .before .before .before .before .before .before .before .before .before .before .before .before .before .before .args) .nodes .now) ((c .before .before .before .before .before .before .before .before .before .before .before .before .before .before .args) .handles .now) ((c .before .before .before .before .before .before .before .before .before .before .before .before .before .before .args) .charges .now) ((c .before .before .before .before .before .before .before .before .before .before .before .before .before .before .args) .frame .now) (ringsOf ((c .before .before .before .before .before .before .before .before .before .before .before .before .before .before .args) .ends .now) ((c .before .before .before .before .before .before .before .before .before .before .before .before .before .before .args) .entries .now) ((c .before .before .before .before .before .before .before .before .before .before .before .before .before .before .args) .carried .now) ((c .before .before .before .before .before .before .before .before .before .before .before .before .before .before .args) .numbers .now)) ((c .before .before .before .c6) .given .1) ((c .before .judge-transfer) .ensures) ((c .plain6) .ensures)
+returns-6 c = ruled-transfer ((c .before .before .before .before .before .before .before .before .before .before .before .before .before .before .args) .ps .now) ((c .before .before .before .before .before .before .before .before .before .before .before .before .before .before .args) .ns .now) ((c .before .before .before .before .before .before .before .before .before .before .before .before .before .before .args) .hs .now) ((c .before .before .before .before .before .before .before .before .before .before .before .before .before .before .args) .cs .now) ((c .before .before .before .before .before .before .before .before .before .before .before .before .before .before .args) .frame .now) (ringsOf ((c .before .before .before .before .before .before .before .before .before .before .before .before .before .before .args) .ends .now) ((c .before .before .before .before .before .before .before .before .before .before .before .before .before .before .args) .entries .now) ((c .before .before .before .before .before .before .before .before .before .before .before .before .before .before .args) .carried .now) ((c .before .before .before .before .before .before .before .before .before .before .before .before .before .before .args) .numbers .now)) ((c .before .before .before .c6) .given .1) ((c .before .judge-transfer) .ensures) ((c .plain6) .ensures)
 
 returns-7 : tie.Need-returns-7
-returns-7 c = ruled-send ((c .before .before .before .before .before .before .before .before .before .before .before .before .before .args) .peers .now) ((c .before .before .before .before .before .before .before .before .before .before .before .before .before .args) .nodes .now) ((c .before .before .before .before .before .before .before .before .before .before .before .before .before .args) .handles .now) ((c .before .before .before .before .before .before .before .before .before .before .before .before .before .args) .charges .now) ((c .before .before .before .before .before .before .before .before .before .before .before .before .before .args) .frame .now) (ringsOf ((c .before .before .before .before .before .before .before .before .before .before .before .before .before .args) .ends .now) ((c .before .before .before .before .before .before .before .before .before .before .before .before .before .args) .entries .now) ((c .before .before .before .before .before .before .before .before .before .before .before .before .before .args) .carried .now) ((c .before .before .before .before .before .before .before .before .before .before .before .before .before .args) .numbers .now)) ((c .before .before .c7) .given .1) ((c .judge-send) .ensures)
+returns-7 c = ruled-send ((c .before .before .before .before .before .before .before .before .before .before .before .before .before .args) .ps .now) ((c .before .before .before .before .before .before .before .before .before .before .before .before .before .args) .ns .now) ((c .before .before .before .before .before .before .before .before .before .before .before .before .before .args) .hs .now) ((c .before .before .before .before .before .before .before .before .before .before .before .before .before .args) .cs .now) ((c .before .before .before .before .before .before .before .before .before .before .before .before .before .args) .frame .now) (ringsOf ((c .before .before .before .before .before .before .before .before .before .before .before .before .before .args) .ends .now) ((c .before .before .before .before .before .before .before .before .before .before .before .before .before .args) .entries .now) ((c .before .before .before .before .before .before .before .before .before .before .before .before .before .args) .carried .now) ((c .before .before .before .before .before .before .before .before .before .before .before .before .before .args) .numbers .now)) ((c .before .before .c7) .given .1) ((c .judge-send) .ensures)
 
 returns-8 : tie.Need-returns-8
-returns-8 c = ruled-receive ((c .before .before .before .before .before .before .before .before .before .before .before .before .before .before .args) .peers .now) ((c .before .before .before .before .before .before .before .before .before .before .before .before .before .before .args) .nodes .now) ((c .before .before .before .before .before .before .before .before .before .before .before .before .before .before .args) .handles .now) ((c .before .before .before .before .before .before .before .before .before .before .before .before .before .before .args) .charges .now) ((c .before .before .before .before .before .before .before .before .before .before .before .before .before .before .args) .frame .now) (ringsOf ((c .before .before .before .before .before .before .before .before .before .before .before .before .before .before .args) .ends .now) ((c .before .before .before .before .before .before .before .before .before .before .before .before .before .before .args) .entries .now) ((c .before .before .before .before .before .before .before .before .before .before .before .before .before .before .args) .carried .now) ((c .before .before .before .before .before .before .before .before .before .before .before .before .before .before .args) .numbers .now)) ((c .before .before .before .c8) .given .1) ((c .before .judge-receive) .ensures) ((c .plain7) .ensures)
+returns-8 c = ruled-receive ((c .before .before .before .before .before .before .before .before .before .before .before .before .before .before .args) .ps .now) ((c .before .before .before .before .before .before .before .before .before .before .before .before .before .before .args) .ns .now) ((c .before .before .before .before .before .before .before .before .before .before .before .before .before .before .args) .hs .now) ((c .before .before .before .before .before .before .before .before .before .before .before .before .before .before .args) .cs .now) ((c .before .before .before .before .before .before .before .before .before .before .before .before .before .before .args) .frame .now) (ringsOf ((c .before .before .before .before .before .before .before .before .before .before .before .before .before .before .args) .ends .now) ((c .before .before .before .before .before .before .before .before .before .before .before .before .before .before .args) .entries .now) ((c .before .before .before .before .before .before .before .before .before .before .before .before .before .before .args) .carried .now) ((c .before .before .before .before .before .before .before .before .before .before .before .before .before .before .args) .numbers .now)) ((c .before .before .before .c8) .given .1) ((c .before .judge-receive) .ensures) ((c .plain7) .ensures)
 
 returns-9 : tie.Need-returns-9
-returns-9 c = ruled-quota ((c .before .before .before .before .before .before .before .before .before .before .before .before .before .before .args) .peers .now) ((c .before .before .before .before .before .before .before .before .before .before .before .before .before .before .args) .nodes .now) ((c .before .before .before .before .before .before .before .before .before .before .before .before .before .before .args) .handles .now) ((c .before .before .before .before .before .before .before .before .before .before .before .before .before .before .args) .charges .now) ((c .before .before .before .before .before .before .before .before .before .before .before .before .before .before .args) .frame .now) (ringsOf ((c .before .before .before .before .before .before .before .before .before .before .before .before .before .before .args) .ends .now) ((c .before .before .before .before .before .before .before .before .before .before .before .before .before .before .args) .entries .now) ((c .before .before .before .before .before .before .before .before .before .before .before .before .before .before .args) .carried .now) ((c .before .before .before .before .before .before .before .before .before .before .before .before .before .before .args) .numbers .now)) ((c .before .before .before .c9) .given .1) ((c .before .judge-quota) .ensures) ((c .plain8) .ensures)
+returns-9 c = ruled-quota ((c .before .before .before .before .before .before .before .before .before .before .before .before .before .before .args) .ps .now) ((c .before .before .before .before .before .before .before .before .before .before .before .before .before .before .args) .ns .now) ((c .before .before .before .before .before .before .before .before .before .before .before .before .before .before .args) .hs .now) ((c .before .before .before .before .before .before .before .before .before .before .before .before .before .before .args) .cs .now) ((c .before .before .before .before .before .before .before .before .before .before .before .before .before .before .args) .frame .now) (ringsOf ((c .before .before .before .before .before .before .before .before .before .before .before .before .before .before .args) .ends .now) ((c .before .before .before .before .before .before .before .before .before .before .before .before .before .before .args) .entries .now) ((c .before .before .before .before .before .before .before .before .before .before .before .before .before .before .args) .carried .now) ((c .before .before .before .before .before .before .before .before .before .before .before .before .before .before .args) .numbers .now)) ((c .before .before .before .c9) .given .1) ((c .before .judge-quota) .ensures) ((c .plain8) .ensures)
 
 returns-10 : tie.Need-returns-10
-returns-10 c = ruled-holders ((c .before .before .before .before .before .before .before .before .before .before .before .before .before .before .args) .peers .now) ((c .before .before .before .before .before .before .before .before .before .before .before .before .before .before .args) .nodes .now) ((c .before .before .before .before .before .before .before .before .before .before .before .before .before .before .args) .handles .now) ((c .before .before .before .before .before .before .before .before .before .before .before .before .before .before .args) .charges .now) ((c .before .before .before .before .before .before .before .before .before .before .before .before .before .before .args) .frame .now) (ringsOf ((c .before .before .before .before .before .before .before .before .before .before .before .before .before .before .args) .ends .now) ((c .before .before .before .before .before .before .before .before .before .before .before .before .before .before .args) .entries .now) ((c .before .before .before .before .before .before .before .before .before .before .before .before .before .before .args) .carried .now) ((c .before .before .before .before .before .before .before .before .before .before .before .before .before .before .args) .numbers .now)) ((c .before .before .before .c10) .given .1) ((c .before .judge-holders) .ensures) ((c .plain9) .ensures)
+returns-10 c = ruled-holders ((c .before .before .before .before .before .before .before .before .before .before .before .before .before .before .args) .ps .now) ((c .before .before .before .before .before .before .before .before .before .before .before .before .before .before .args) .ns .now) ((c .before .before .before .before .before .before .before .before .before .before .before .before .before .before .args) .hs .now) ((c .before .before .before .before .before .before .before .before .before .before .before .before .before .before .args) .cs .now) ((c .before .before .before .before .before .before .before .before .before .before .before .before .before .before .args) .frame .now) (ringsOf ((c .before .before .before .before .before .before .before .before .before .before .before .before .before .before .args) .ends .now) ((c .before .before .before .before .before .before .before .before .before .before .before .before .before .before .args) .entries .now) ((c .before .before .before .before .before .before .before .before .before .before .before .before .before .before .args) .carried .now) ((c .before .before .before .before .before .before .before .before .before .before .before .before .before .before .args) .numbers .now)) ((c .before .before .before .c10) .given .1) ((c .before .judge-holders) .ensures) ((c .plain9) .ensures)
 
 pub judge-spec : {M : Type 1} → statement M
 judge-spec =
