@@ -4,8 +4,8 @@
 use Prim.Native.Nat.{ℕ, _≤_, _<_}
 use mathlib.Core.Path.{_≡_, refl, sym, ap, ap₂, _∙_}
 use mathlib.Core.Bool.{Bool, true}
-use mathlib.Core.List.{List, [], _∷_, _++_, map}
-use denote.Ref.{now, at-last}
+use mathlib.Core.List.{List, [], _∷_, _++_, map, append-assoc, append-nil}
+use denote.Ref.{RefT, now, at-last}
 use contract.Lifetimes
 use borrow.Fn.World
 use borrow.Fn.Kinds as Kinds′
@@ -111,3 +111,35 @@ call-exists {b = b} κs x y t c =
     let d = commandOf b (c .frame) (c .buffer) in
     call κs (at-last (x .0) (b .peers), (at-last (x .1 .0) (b .nodes), (at-last (x .1 .1 .0) (b .handles), (at-last (x .1 .1 .1 .0) (b .charges), (at-last (x .1 .1 .1 .1 .0) (b .rings .ends), (at-last (x .1 .1 .1 .1 .1 .0) (b .rings .rows .entries), (at-last (x .1 .1 .1 .1 .1 .1 .0) (b .rings .rows .carried), (at-last (x .1 .1 .1 .1 .1 .1 .1 .0) (b .rings .rows .numbers), (at-last (x .1 .1 .1 .1 .1 .1 .1 .1 .0) (b .pool), (at-last (x .1 .1 .1 .1 .1 .1 .1 .1 .1 .0) (c .frame), (at-last (x .1 .1 .1 .1 .1 .1 .1 .1 .1 .1 .0) (c .buffer), tt))))))))))) (d .outcome)
     (at-last (y .0) (d .bus .peers), (at-last (y .1 .0) (d .bus .nodes), (at-last (y .1 .1 .0) (d .bus .handles), (at-last (y .1 .1 .1 .0) (d .bus .charges), (at-last (y .1 .1 .1 .1 .0) (d .bus .rings .ends), (at-last (y .1 .1 .1 .1 .1 .0) (d .bus .rings .rows .entries), (at-last (y .1 .1 .1 .1 .1 .1 .0) (d .bus .rings .rows .carried), (at-last (y .1 .1 .1 .1 .1 .1 .1 .0) (d .bus .rings .rows .numbers), (at-last (y .1 .1 .1 .1 .1 .1 .1 .1 .0) (d .bus .pool), (y .1 .1 .1 .1 .1 .1 .1 .1 .1 .0, (at-last (y .1 .1 .1 .1 .1 .1 .1 .1 .1 .1 .0) (d .out), tt))))))))))) t refl refl
+
+-- There is such a run for every list of calls and any old contents of exact length, with no condition. A reference is where it lies, a name, and its value; no contract says
+-- anything of the first two.
+lent : {X : Type 0} → X → RefT X
+lent v = record { ptr = (0, 0); name = 0; now = v }
+
+nine : Lifetimes.Lfts 9
+nine = ([], ([], ([], ([], ([], ([], ([], ([], ([], tt)))))))))
+
+eleven : Lifetimes.Lfts 11
+eleven = ([], ([], nine))
+
+lentBus : Bus → FreshArguments nine
+lentBus b = (lent (b .peers), (lent (b .nodes), (lent (b .handles), (lent (b .charges), (lent (b .rings .ends), (lent (b .rings .rows .entries), (lent (b .rings .rows .carried), (lent (b .rings .rows .numbers), (lent (b .pool), tt)))))))))
+
+leftBus : Bus → FreshLeft nine
+leftBus b = (lent (b .peers), (lent (b .nodes), (lent (b .handles), (lent (b .charges), (lent (b .rings .ends), (lent (b .rings .rows .entries), (lent (b .rings .rows .carried), (lent (b .rings .rows .numbers), (lent (b .pool), tt)))))))))
+
+lentCall : Bus → Call → Arguments eleven
+lentCall b c = (lent (b .peers), (lent (b .nodes), (lent (b .handles), (lent (b .charges), (lent (b .rings .ends), (lent (b .rings .rows .entries), (lent (b .rings .rows .carried), (lent (b .rings .rows .numbers), (lent (b .pool), (lent (c .frame), (lent (c .buffer), tt)))))))))))
+
+leftCall : Bus → Call → Left eleven
+leftCall b c = (lent (b .peers), (lent (b .nodes), (lent (b .handles), (lent (b .charges), (lent (b .rings .ends), (lent (b .rings .rows .entries), (lent (b .rings .rows .carried), (lent (b .rings .rows .numbers), (lent (b .pool), (lent (c .frame), (lent (c .buffer), tt)))))))))))
+
+calls-go-on : {xs : List Exchange} {b : Bus} → Calls xs b → (cs : List Call) → (ys : List Exchange) × (d : Bus) × Calls (xs ++ ys) d × (map (λ x. x .call) ys ≡ cs)
+calls-go-on {xs = xs} {b = b} t [] = ([], b, rw (append-nil xs) t, refl)
+calls-go-on {xs = xs} {b = b} t (c ∷ cs) =
+    let z = calls-go-on (call-exists eleven (lentCall b c) (leftCall b c) t c) cs in
+    (exchangeOf b c ∷ z .0, z .1, rw (sym (append-assoc xs (exchangeOf b c ∷ []) (z .0))) (z .2), ap (_∷_ c) (z .3))
+
+pub calls-exist : (old : Bus) → sizedOk old ≡ true → (cs : List Call) → (xs : List Exchange) × (b : Bus) × Calls xs b × (map (λ x. x .call) xs ≡ cs)
+calls-exist old s cs = calls-go-on (made-exists nine (lentBus old) (leftBus old) old s) cs

@@ -1,46 +1,56 @@
 -- What document 01 promises, of runs of calls of the code (Calls): of each call nothing is known but what the function's own contract ensures.
 -- Assumes nothing.
-use Prim.Native.Nat.{ℕ, _≤_, _<_}
+use Prim.Native.Nat.{ℕ, suc, _%_, _≤_, _<_}
 use mathlib.Core.Path.{_≡_, refl, sym, ap, subst, _∙_}
+use mathlib.Core.Bool.{true, false}
 use mathlib.Core.Logic.{_⊎_}
 use mathlib.Core.List.{List, [], _∷_, _++_, map}
-use lib.ListN.{length, getD, drop}
+use lib.ListN.{length, drop}
 use contract.Lifetimes
-use Rattle.laws.specs.Weights.{All, all-imp, keep}
+use Rattle.laws.specs.Weights.{All, all-imp}
 use Rattle.ids.specs.Refusals.{EIO, EINVAL}
-use Rattle.ids.specs.declared.Peer.{Peer}
-use Rattle.frames.specs.declared.Sizes.{Sizes}
-use Rattle.frames.specs.declared.Command.the-variants.{Send, Disconnect}
+use Rattle.frames.specs.Frame.{opcode}
 use Rattle.answers.specs.declared.Outcome.{Outcome}
 use Rattle.answers.specs.Answer.{answerSize}
 use Rattle.quota.specs.Rule.{left}
-use Rattle.model.specs.Numbers.{peers}
-use Rattle.model.specs.State.{Entry}
+use Rattle.model.specs.State.{isLive}
 use Rattle.model.specs.Step.{Call}
-use Rattle.model.specs.Queues.{Later, sentBy}
-use Rattle.model.specs.Progress.{Newer}
-use Rattle.model.specs.Ids.{Ids}
-use Rattle.model.specs.Within.{isAt, AtDisconnect}
-use Rattle.model.specs.Book.{empty, feedAll}
-use Rattle.model.specs.Claim.{Claim, OfBytes}
+use Rattle.model.specs.Notices.{Unnamed}
+use Rattle.model.specs.Book.{Node, Fed, answersMessage}
+use Rattle.model.specs.Ledger.{Item}
+use Rattle.model.specs.Rows.{bookOf, ledgerOf}
+use Rattle.model.specs.Tally.{tally}
+use Rattle.model.specs.Happened.{Happened, happened-front}
+use Rattle.model.specs.Delivered.{Delivered}
+use Rattle.model.specs.DeliveredProof.{delivers}
+use Rattle.model.specs.Noticed.{Tells, notices-tell}
+use Rattle.model.specs.Shows.{Shows, Takes, ShownAsHeld, CreatedAnew}
+use Rattle.model.specs.ShowsOnce.{given-for-one}
+use Rattle.model.specs.ShowsAnew.{chosen-for-another}
+use Rattle.model.specs.ShowsHeld.{messages-as-held}
 use Rattle.model.specs.Given.{GivenOnce}
-use Rattle.model.specs.Order.{Ordered}
+use Rattle.model.specs.GivenIn.{givenIn, given-in}
+use Rattle.model.specs.HandlesIn.{HandlesOf, OrderedIn, handles-in, order-in}
+use Rattle.model.specs.OneOrderIn.{Took, took-one-order}
+use Rattle.model.specs.InPlace.{CameOut}
+use Rattle.model.specs.Waits.{receivesIn, takenIn, LostIn}
+use Rattle.model.specs.WaitsPlace.{LostAt, in-time-at}
+use Rattle.model.specs.LedgerLaws.{Does, idIn, DestroyDoes, ReleaseDoes, SendDoes, DisconnectDoes}
+use Rattle.model.specs.LedgerLawsProof.{destroy-in, release-in, send-in, disconnect-in}
 use Rattle.model.specs.Scripts.{Row, Row.played, Row.ruled, lastOf}
 use Rattle.model.specs.Table.{table}
 use Rattle.model.specs.Examples.{examples}
 use Rattle.view.specs.View.{Bus, stateOf}
 use Rattle.bus.specs.Command.{commandOf, freshOf}
-use Rattle.bus.specs.Ran.{Exchange, Ran, answerIn, fedOf, exchangeOf, Modelled, ran-modelled}
-use Rattle.bus.specs.Demands.{AllBytes, never-five, code-third-demand, givenIn, code-given, code-ids, code-refusals}
-use Rattle.bus.specs.Orderly.{Goes-on, receivesIn, takenIn, LostIn, ran-cut, Accepts, code-order, code-send-order, code-disconnect-order, code-disconnect-empties, Showing, receive-shows, code-followed, code-one-each, code-in-time}
+use Rattle.bus.specs.Ran.{Exchange, answerIn, exchangeOf}
+use Rattle.bus.specs.Demands.{never-five, code-refusals}
 use Rattle.bus.specs.Marked.{Large, Holds, code-marks, code-examples, Made, fresh-made-as}
+use Rattle.bus.specs.Untouched.{Written, code-tail, code-questions}
+use Rattle.bus.specs.Histories.{historyOf, ran-happened, code-slot-stays}
+use Rattle.bus.specs.Third.{Next, Demanded, code-demanded, code-next}
 use Rattle.bus.proofs.Calls.{Arguments, Returned, Left, busIn, busOut, callIn, exchanged, FreshArguments, FreshReturned, FreshLeft, oldIn, madeOut, made-said, Calls, left-is, calls-ran}
 use Rattle.bus.proofs.command.Reads as command-reads
 use Rattle.bus.proofs.fresh.Reads as fresh-reads
-
--- After every list of calls from `fresh` the buffers stand for the model's state, and each number and each answer buffer is the model's.
-pub modelled-of-calls : (xs : List Exchange) (b : Bus) → Calls xs b → Modelled xs b
-modelled-of-calls xs b t = ran-modelled (calls-ran t)
 
 -- A call of `fresh`, over any buffers: the number is 0 exactly where every buffer has its length, and then the bus is a fresh one; otherwise it is 5, and nothing is written.
 pub fresh-number-of-calls : (κs : Lifetimes.Lfts 9) (a : FreshArguments κs) (r : FreshReturned κs) (s : FreshLeft κs) → fresh-reads.Learnt κs a r s →
@@ -49,12 +59,74 @@ fresh-number-of-calls κs a r s l =
     let m = made-said κs a r s l in
     subst (λ (w : Bus). Made (oldIn κs a) r w) (sym (m .1)) (subst (λ (n : ℕ). Made (oldIn κs a) n (freshOf (oldIn κs a))) (sym (m .0)) (fresh-made-as (oldIn κs a)))
 
--- The third demand: the book is fed each frame with the number and the answer that came back, and nothing else.
-pub third-demand-of-calls : (xs : List Exchange) (b : Bus) → Calls xs b → (κs : Lifetimes.Lfts 11) (a : Arguments κs) (r : Returned κs) (s : Left κs) → busIn κs a ≡ b →
-    command-reads.Learnt κs a r s → AllBytes xs → OfBytes (callIn κs a) → Claim (feedAll empty (map fedOf xs)) (fedOf (exchanged κs a r s))
-third-demand-of-calls xs b t κs a r s e l ys y =
-    let x : exchanged κs a r s ≡ exchangeOf b (callIn κs a) = left-is κs a r s b e l .0 in
-    subst (λ (z : Exchange). Claim (feedAll empty (map fedOf xs)) (fedOf z)) (sym x) (code-third-demand xs b (calls-ran t) (callIn κs a) ys y)
+-- What is exchanged in calls, the frames, numbers and answers, is a history: what holds of every history holds of it.
+pub happened-of-calls : (xs : List Exchange) (b : Bus) → Calls xs b → Happened (historyOf xs)
+happened-of-calls xs b t = ran-happened (calls-ran t)
+
+-- The promises in words of frames and answers alone, with the book and the ledger that are fed them. hs are the exchanges of any calls; wherever their history is cut.
+module _ (hs : List Exchange) (b : Bus) (t : Calls hs b) where
+  cut-at : (xs : List Fed) → historyOf hs ≡ xs → Happened xs
+  cut-at xs e = subst Happened e (happened-of-calls hs b t)
+
+  -- What is shown is what was sent: every receive answered 01.
+  pub delivers-of-calls : (xs ys : List Fed) (x : Fed) → historyOf hs ≡ xs ++ (x ∷ ys) → x .number ≡ 0 → opcode (x .frame) ≡ 8 → answersMessage (x .answer) ≡ true → Delivered xs x
+  delivers-of-calls xs ys x e = delivers xs ys x (cut-at (xs ++ (x ∷ ys)) e)
+
+  -- What a notice tells: every receive answered 02 or 03.
+  pub notices-tell-of-calls : (xs ys : List Fed) (x : Fed) → historyOf hs ≡ xs ++ (x ∷ ys) → x .number ≡ 0 → opcode (x .frame) ≡ 8 → Tells xs x
+  notices-tell-of-calls xs ys x e = notices-tell xs ys x (cut-at (xs ++ (x ∷ ys)) e)
+
+  -- An ID that the bus gave and that was shown at a peer for a node is never shown at that peer for another.
+  pub given-for-one-of-calls : (xs ys zs : List Fed) (x z : Fed) → historyOf hs ≡ (xs ++ (x ∷ ys)) ++ (z ∷ zs) → (p i : ℕ) (n m : Node) → i % 4 ≡ 3 →
+      Shows xs x p i n → Shows (xs ++ (x ∷ ys)) z p i m → n ≡ m
+  given-for-one-of-calls xs ys zs x z e = given-for-one xs ys zs x z (cut-at ((xs ++ (x ∷ ys)) ++ (z ∷ zs)) e)
+
+  -- Where an ID is shown for a node and later for another, the peer itself created it anew in between, the first node destroyed and its own handle gone; from then on nothing of the first
+  -- node is shown at this peer.
+  pub chosen-for-another-of-calls : (xs ys zs : List Fed) (x z : Fed) → historyOf hs ≡ (xs ++ (x ∷ ys)) ++ (z ∷ zs) → (p i : ℕ) (n m : Node) →
+      Shows xs x p i n → Shows (xs ++ (x ∷ ys)) z p i m → (n ≡ m → ⊥) → CreatedAnew xs x ys z zs p i n
+  chosen-for-another-of-calls xs ys zs x z e = chosen-for-another xs ys zs x z (cut-at ((xs ++ (x ∷ ys)) ++ (z ∷ zs)) e)
+
+  -- A message is shown under the ID by which the peer holds, at that moment, the node to which it was sent.
+  pub messages-as-held-of-calls : (xs ys : List Fed) (x : Fed) → historyOf hs ≡ xs ++ (x ∷ ys) → (p : ℕ) → Takes p 1 x → ShownAsHeld xs x p
+  messages-as-held-of-calls xs ys x e = messages-as-held xs ys x (cut-at (xs ++ (x ∷ ys)) e)
+
+  -- IDs are never given twice; a peer has one ID for a node, chosen by its owner, given to every other.
+  pub given-of-calls : (p : ℕ) → GivenOnce (givenIn p (historyOf hs)) (ledgerOf (historyOf hs) .given p)
+  given-of-calls = given-in (historyOf hs) (happened-of-calls hs b t)
+
+  pub handles-of-calls : (p : ℕ) → HandlesOf (bookOf (historyOf hs)) (ledgerOf (historyOf hs)) p
+  handles-of-calls = handles-in (historyOf hs) (happened-of-calls hs b t)
+
+  -- Each queue is in the order of accepted commands; one order for everyone.
+  pub order-of-calls : (p : ℕ) → OrderedIn (historyOf hs) (ledgerOf (historyOf hs) .queue p)
+  order-of-calls = order-in (historyOf hs) (happened-of-calls hs b t)
+
+  pub one-order-of-calls : (xs ys zs us vs ws : List Fed) (x y z w : Fed) (p q n m : ℕ) → historyOf hs ≡ (xs ++ (x ∷ ys)) ++ (y ∷ zs) → historyOf hs ≡ (us ++ (z ∷ vs)) ++ (w ∷ ws) →
+      Took xs x p n → Took (xs ++ (x ∷ ys)) y p m → Took us z q m → Took (us ++ (z ∷ vs)) w q n → n ≡ m
+  one-order-of-calls = took-one-order (historyOf hs) (happened-of-calls hs b t)
+
+  -- An item with k ahead of it, from place to place: it comes out at or before receive k + 1, or has been dropped or withdrawn.
+  pub in-time-of-calls : (xs ys : List Fed) → historyOf hs ≡ xs ++ ys → (p : ℕ) (ahead behind-it : List Item) (e : Item) → ledgerOf xs .queue p ≡ ahead ++ (e ∷ behind-it) →
+      length ahead < receivesIn p ys → LostAt xs ys p ahead e ⊎ CameOut (LostIn xs ys p) ahead e (takenIn xs ys p)
+  in-time-of-calls xs ys e = in-time-at xs ys (cut-at (xs ++ ys) e)
+
+  -- What one command does to every queue: a destroy's and a release's notices, a send's messages, a disconnect's notices, those and no others.
+  module _ (xs ys : List Fed) (x : Fed) (e : historyOf hs ≡ (xs ++ (x ∷ [])) ++ ys) (p : ℕ) where
+    cut-here : Happened (xs ++ (x ∷ []))
+    cut-here = happened-front (xs ++ (x ∷ [])) ys (cut-at ((xs ++ (x ∷ [])) ++ ys) e)
+
+    pub destroy-of-calls : Does 4 p x → DestroyDoes (bookOf xs) (ledgerOf xs) (ledgerOf (xs ++ (x ∷ []))) (suc (tally xs)) p (idIn x)
+    destroy-of-calls = destroy-in xs x cut-here p
+
+    pub release-of-calls : Does 5 p x → ReleaseDoes (bookOf xs) (ledgerOf xs) (ledgerOf (xs ++ (x ∷ []))) (suc (tally xs)) p (idIn x)
+    release-of-calls = release-in xs x cut-here p
+
+    pub send-of-calls : Does 7 p x → SendDoes (bookOf xs) (ledgerOf xs) (ledgerOf (xs ++ (x ∷ []))) (suc (tally xs)) p (x .frame)
+    send-of-calls = send-in xs x cut-here p
+
+    pub disconnect-of-calls : Does 2 p x → DisconnectDoes (ledgerOf xs) (ledgerOf (xs ++ (x ∷ []))) (suc (tally xs)) p
+    disconnect-of-calls = disconnect-in xs x cut-here p
 
 -- 5 is never given in a run.
 pub never-five-of-calls : (xs : List Exchange) (b : Bus) → Calls xs b → All (λ x. x .outcome .number ≡ EIO → ⊥) xs
@@ -78,74 +150,47 @@ refusals-of-calls κs a r s l h =
     subst (λ (w : Bus). LeftAlone b w c r (exchanged κs a r s .after)) (sym (x .1))
     (subst (λ (z : Exchange). LeftAlone b (commandOf b (c .frame) (c .buffer) .bus) c (z .outcome) (z .after)) (sym (x .0)) done)
 
--- IDs are never given twice.
-pub given-of-calls : (xs : List Exchange) (b : Bus) → Calls xs b → AllBytes xs → (p : ℕ) → GivenOnce (givenIn p xs) (stateOf b .given p)
-given-of-calls xs b t = code-given xs b (calls-ran t)
-
--- Two handles of a peer have two IDs, an owner's was chosen, every other was given, and each count is over 0.
-pub ids-of-calls : (xs : List Exchange) (b : Bus) → Calls xs b → Ids (stateOf b)
-ids-of-calls xs b t = code-ids xs b (calls-ran t)
-
--- Each queue is in the order of accepted commands.
-pub order-of-calls : (xs : List Exchange) (b : Bus) → Calls xs b → (p : ℕ) → Ordered (stateOf b .accepted) (stateOf b .queue p)
-order-of-calls xs b t = code-order xs b (calls-ran t)
-
--- Within one command: a send's messages by destination place; a disconnect's notices, first of destruction, then of release, each by ascending owner ID.
-module _ (xs : List Exchange) (b : Bus) (t : Calls xs b) (κs : Lifetimes.Lfts 11) (a : Arguments κs) (r : Returned κs) (s : Left κs) (e : busIn κs a ≡ b)
-    (l : command-reads.Learnt κs a r s) where
-  pub send-order-of-calls : (p : Peer) (z : Sizes) → Accepts b (callIn κs a) (Send p z) → (q : ℕ) →
-      stateOf (busOut κs s) .queue q ≡ stateOf b .queue q ++ keep (isAt q) (sentBy (stateOf b) (callIn κs a .frame) (Send p z))
-  send-order-of-calls p z h q =
-      subst (λ (w : Bus). stateOf w .queue q ≡ stateOf b .queue q ++ keep (isAt q) (sentBy (stateOf b) (callIn κs a .frame) (Send p z))) (sym (left-is κs a r s b e l .1))
-      (code-send-order xs b (calls-ran t) (callIn κs a) p z h q)
-
-  pub disconnect-order-of-calls : (p : Peer) → Accepts b (callIn κs a) (Disconnect p) → (q : ℕ) → q < peers → (p .0 ≡ q → ⊥) →
-      AtDisconnect (stateOf b) (stateOf (busOut κs s)) (p .0) q
-  disconnect-order-of-calls p h q lt d =
-      subst (λ (w : Bus). AtDisconnect (stateOf b) (stateOf w) (p .0) q) (sym (left-is κs a r s b e l .1)) (code-disconnect-order xs b (calls-ran t) (callIn κs a) p h q lt d)
-
-  -- A disconnect drops the queue.
-  pub disconnect-empties-of-calls : (p : Peer) → Accepts b (callIn κs a) (Disconnect p) → stateOf (busOut κs s) .queue (p .0) ≡ []
-  disconnect-empties-of-calls p h =
-      subst (λ (w : Bus). stateOf w .queue (p .0) ≡ []) (sym (left-is κs a r s b e l .1)) (code-disconnect-empties xs b (calls-ran t) (callIn κs a) p h)
-
--- What an accepted receive answers is what stood first in the queue.
-pub receive-shows-of-calls : (xs : List Exchange) (b : Bus) → Calls xs b → (p : ℕ) → All (Showing p) xs
-receive-shows-of-calls xs b t p = receive-shows (calls-ran t) p
-
--- Each accepted receive takes one entry out: wherever a list of calls is cut, of the calls behind the cut.
-pub one-each-of-calls : (xs ys : List Exchange) (d : Bus) → Calls (xs ++ ys) d → (p : ℕ) → length (takenIn p ys) ≡ receivesIn p ys
-one-each-of-calls xs ys d t = let z = ran-cut xs ys (calls-ran t) in code-one-each xs ys (z .0) d (z .1) (z .2)
-
--- What the receives behind the cut took out and what then stands in the queue are the entries that stood there at the cut and are not lost, in their order, and newer ones behind them.
-pub followed-of-calls : (xs ys : List Exchange) (d : Bus) → Calls (xs ++ ys) d →
-    (b : Bus) × Ran xs b × Goes-on b ys d × ((p : ℕ) → Later (LostIn ys p) (Newer (stateOf b)) (stateOf b .queue p) (takenIn p ys ++ stateOf d .queue p))
-followed-of-calls xs ys d t =
-    let z = ran-cut xs ys (calls-ran t) in
-    (z .0, z .1, z .2, code-followed xs ys (z .0) d (z .1) (z .2))
-
--- An entry with k ahead of it comes out at or before receive k + 1, or has been dropped or withdrawn.
-pub record InTime (ys : List Exchange) (b : Bus) : Type 0 where
-  pub comes : (p k : ℕ) (e : Entry) → k < length (stateOf b .queue p) → getD (stateOf b .queue p) k e ≡ e → k < receivesIn p ys →
-      ((i : ℕ) × (i ≤ k) × (i < length (takenIn p ys)) × (getD (takenIn p ys) i e ≡ e)) ⊎ LostIn ys p e
-
-pub in-time-of-calls : (xs ys : List Exchange) (d : Bus) → Calls (xs ++ ys) d → (b : Bus) × Ran xs b × Goes-on b ys d × InTime ys b
-in-time-of-calls xs ys d t =
-    let z = ran-cut xs ys (calls-ran t) in
-    (z .0, z .1, z .2, record { comes = code-in-time xs ys (z .0) d (z .1) (z .2) })
-
 -- M1 to M10, S and the second table.
 abbrev pub HoldsOfCalls : Row → Type 0
 HoldsOfCalls (played fs rs) =
     (xs : List Exchange) (b : Bus) → Calls xs b → map (λ x. x .call .frame) xs ≡ fs → All (λ x. Large (x .call)) xs → lastOf (length rs) (map answerIn xs) ≡ rs
 HoldsOfCalls (ruled limit others own rest) = left limit others own ≡ rest
 
-held : (r : Row) → Holds r → HoldsOfCalls r
-held (played fs rs) h = λ xs b t. h xs b (calls-ran t)
-held (ruled limit others own rest) h = h
+held-row : (r : Row) → Holds r → HoldsOfCalls r
+held-row (played fs rs) h = λ xs b t. h xs b (calls-ran t)
+held-row (ruled limit others own rest) h = h
 
 pub marks-of-calls : All HoldsOfCalls table
-marks-of-calls = all-imp Holds HoldsOfCalls held table code-marks
+marks-of-calls = all-imp Holds HoldsOfCalls held-row table code-marks
 
 pub examples-of-calls : All HoldsOfCalls examples
-examples-of-calls = all-imp Holds HoldsOfCalls held examples code-examples
+examples-of-calls = all-imp Holds HoldsOfCalls held-row examples code-examples
+
+-- The third demand, whole: of any list of calls, of the book that is fed them, and of every next call.
+pub record DemandThree (xs : List Exchange) (b : Bus) : Type 0 where
+  pub run : Demanded xs b
+  pub next : (κs : Lifetimes.Lfts 11) (a : Arguments κs) (r : Returned κs) (s : Left κs) → busIn κs a ≡ b → command-reads.Learnt κs a r s →
+      Next xs (exchanged κs a r s)
+
+pub demand-three-of-calls : (xs : List Exchange) (b : Bus) → Calls xs b → DemandThree xs b
+demand-three-of-calls xs b t =
+    record {
+      run = code-demanded xs b (calls-ran t);
+      next = λ κs a r s e l. subst (λ (x : Exchange). Next xs x) (sym (left-is κs a r s b e l .0)) (code-next xs b (calls-ran t) (callIn κs a));
+    }
+
+-- "Reusing a dead node's record while a queued message names it": a slot stays with its node while anything names it.
+module _ (xs : List Exchange) (b : Bus) (t : Calls xs b) (κs : Lifetimes.Lfts 11) (a : Arguments κs) (r : Returned κs) (s : Left κs) (e : busIn κs a ≡ b)
+    (l : command-reads.Learnt κs a r s) where
+  pub slot-stays-of-calls : (n : ℕ) → isLive (stateOf b .life n) ≡ false → isLive (stateOf (busOut κs s) .life n) ≡ true → Unnamed (stateOf b) n
+  slot-stays-of-calls n d h = code-slot-stays xs b (calls-ran t) (callIn κs a) n d (subst (λ (w : Bus). isLive (stateOf w .life n) ≡ true) (left-is κs a r s b e l .1) h)
+
+-- What a call leaves alone, on any bus: the answer buffer behind the answer's length; and, for a question, every byte of the bus.
+module _ (κs : Lifetimes.Lfts 11) (a : Arguments κs) (r : Returned κs) (s : Left κs) (l : command-reads.Learnt κs a r s) where
+  pub tail-of-calls : Written (callIn κs a .buffer) (r .number) (r .len) (exchanged κs a r s .after)
+  tail-of-calls =
+      subst (λ (x : Exchange). Written (callIn κs a .buffer) (x .outcome .number) (x .outcome .len) (x .after)) (sym (left-is κs a r s (busIn κs a) refl l .0))
+      (code-tail (busIn κs a) (callIn κs a))
+
+  pub questions-of-calls : (opcode (callIn κs a .frame) ≡ 9) ⊎ (opcode (callIn κs a .frame) ≡ 10) → busOut κs s ≡ busIn κs a
+  questions-of-calls h = left-is κs a r s (busIn κs a) refl l .1 ∙ code-questions (busIn κs a) (callIn κs a) h

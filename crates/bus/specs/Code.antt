@@ -181,7 +181,7 @@ module _ (ps ends : List ℕ) where
       let k : peersOk ps ends 8 ≡ true = ap (peersOk ps ends) (sym e) ∙ h in
       rw k
 
-  each-peer : (n : ℕ) → peersOk ps ends n ≡ true → (p : ℕ) → p < n → peerOk ps ends p ≡ true
+  pub each-peer : (n : ℕ) → peersOk ps ends n ≡ true → (p : ℕ) → p < n → peerOk ps ends p ≡ true
   unfolding peersOk
   each-peer zero h p l = absurd (omega arith)
   each-peer (suc n) h p l = let t = both-true (peersOk ps ends n) (peerOk ps ends n) h in go t (same? p n) (each-peer n (t .0) p)

@@ -2,7 +2,7 @@
 -- a refusal leaves the buffers alone.
 -- Assumes nothing.
 use Prim.Native.Nat.{ℕ, _+_, _*_, _≤_, _<_}
-use mathlib.Core.Path.{_≡_, refl, sym, ap, ap₂, subst}
+use mathlib.Core.Path.{_≡_, refl, sym, ap, ap₂, _∙_}
 use mathlib.Core.Bool.{true, false}
 use mathlib.Core.Logic._⊎_.{inl, inr}
 use mathlib.Core.List.{List, [], _∷_, _++_, map}
@@ -11,7 +11,7 @@ use lib.ListN.{length, take, drop}
 use lib.Dec.{eqb, ltb, leb}
 use borrow.Author.Tests.{ltb-true, ltb-false}
 use Rattle.ids.specs.Refusals.{EINVAL, EIO, EOVERFLOW, EEXIST, ENXIO, EPERM, EHOSTUNREACH, ENOSPC, EDQUOT, ERANGE}
-use Rattle.laws.specs.Tests.{pick, pick-all, Seen, Seen.is-true, Seen.is-false, look}
+use Rattle.laws.specs.Tests.{pick-all, Seen, Seen.is-true, Seen.is-false, look}
 use Rattle.laws.specs.Weights.{All, all-append}
 use Rattle.frames.specs.declared.Command.{Command}
 use Rattle.frames.specs.declared.Command.the-variants.{Open, Disconnect, Create, Destroy, Release, Transfer, Send, Receive, Quota, Holders}
@@ -20,23 +20,19 @@ use Rattle.frames.specs.declared.Parsed.the-variants.{Read, Refused}
 use Rattle.frames.specs.Frame.{parse, payloadOf}
 use Rattle.frames.specs.Legal.{Outcome as Read-as, legal}
 use Rattle.answers.specs.declared.Answer.{Answer}
-use Rattle.answers.specs.declared.Outcome.{Outcome}
 use Rattle.answers.specs.Answer.{answerSize, numberOf, contentsOf, answerBytes, answerAfter, outcomeOf}
 use Rattle.rings.specs.Rings.{firstOf}
 use Rattle.model.specs.Numbers.{slots, nodes, owner, mostCommands}
-use Rattle.model.specs.Lists.{both, every}
+use Rattle.model.specs.Lists.{every}
 use Rattle.model.specs.State.{State, Status, Status.unopened, Status.opened, Status.disconnected, isLive, Entry, Entry.message, Entry.destroyed, Entry.released, start, slot, freePlace}
-use Rattle.model.specs.Refusals.{countable, present, openable, holding, owning, pinned, living, fits, affordable, takeable, refusesOpen, refusesDisconnect, refusesCreate, refusesDestroy, refusesRelease, refusesTransfer, refusesSend, refusesReceive, refusesQuota, refusesHolders, refusal}
+use Rattle.model.specs.Refusals.{countable, present, openable, holding, owning, pinned, living, fits, affordable, takeable, refusesOpen, refusesDisconnect, refusesCreate, refusesDestroy, refusesRelease, refusesTransfer, refusesSend, refusesReceive, refusesQuota, refusesHolders, refusal, refusalBy}
 use Rattle.model.specs.Requests.{destinations, attached}
 use Rattle.model.specs.Step.{Call, carryOut, finish, step}
 use Rattle.model.specs.StepLaws.{reply-number}
-use Rattle.model.specs.Book.{empty, feedAll, answeredId, answersMessage, shownIds}
-use Rattle.model.specs.Claim.{Claim, fed, historyFrom, OfBytes}
+use Rattle.model.specs.Book.{empty, feedAll}
+use Rattle.model.specs.Claim.{Claim, fed, historyFrom}
 use Rattle.model.specs.Demand.{third-demand}
-use Rattle.model.specs.Given.{transferTo, receiveBy, shownTo, holdsId, newOf, givenFrom, GivenOnce}
 use Rattle.model.specs.GivenProof.{given}
-use Rattle.model.specs.Ids.{Ids}
-use Rattle.model.specs.IdsProof.{sound-ids}
 use Rattle.view.specs.View.{Bus, stateOf}
 use Rattle.queues.specs.Queues.{Queues, isMessage}
 use Rattle.judges.specs.declared.Order.{Order}
@@ -48,40 +44,15 @@ use Rattle.effects.specs.After.{queuesIn}
 use Rattle.effects.specs.Good.{Good, good}
 use Rattle.bus.specs.Command.{soundOk, Done, refusedBy, carried, carriedOut, obeyed, commandOf}
 use Rattle.bus.specs.Tie.{Same-as, step-same}
-use Rattle.bus.specs.Ran.{Exchange, answerIn, fedOf, callsOf, exchangeOf, Ran, Ran.begins, Ran.goes, As-model, AsModel, stateAfter, ran-modelled}
+use Rattle.bus.specs.Ran.{Exchange, fedOf, callsOf, exchangeOf, Ran, Ran.begins, Ran.goes, As-model, AsModel, stateAfter, ran-modelled}
 
 -- In a run no command is answered 5.
 abbrev pub NeverFive : Type 0
 NeverFive = (xs : List Exchange) (b : Bus) → Ran xs b → All (λ x. x .outcome .number ≡ EIO → ⊥) xs
 
--- The frames of some exchanges are bytes.
-abbrev pub AllBytes : List Exchange → Type 0
-AllBytes xs = All (λ x. OfBytes (x .call)) xs
-
 -- The third demand: of the book that was fed the exchanges of any run, and of what any next command gives.
 abbrev pub CodeThirdDemand : Type 0
-CodeThirdDemand = (xs : List Exchange) (b : Bus) → Ran xs b → (c : Call) → AllBytes xs → OfBytes c → Claim (feedAll empty (map fedOf xs)) (fedOf (exchangeOf b c))
-
--- The IDs that an exchange's answer shows to the peer p: a transfer's at its destination, a received message's attached IDs at the acting peer.
-abbrev pub shownIn : ℕ → Exchange → List ℕ
-shownIn p x =
-    pick (eqb (x .outcome .number) 0)
-    (pick (transferTo p (x .call)) (answeredId (answerIn x) ∷ [])
-    (pick (both (receiveBy p (x .call)) (answersMessage (answerIn x))) (shownIds (answerIn x)) []))
-    []
-
--- All IDs given to p in a run, in order: of those shown the ones that are not invalid, that p did not hold before the command and that were not shown before in the same answer.
-abbrev pub givenIn : ℕ → List Exchange → List ℕ
-givenIn p [] = []
-givenIn p (x ∷ xs) = newOf (holdsId (stateOf (x .before)) p) (shownIn p x) ++ givenIn p xs
-
--- They are 7, 11, 15, .., as many as the bus has stored for p: none is given twice.
-abbrev pub CodeGiven : Type 0
-CodeGiven = (xs : List Exchange) (b : Bus) → Ran xs b → AllBytes xs → (p : ℕ) → GivenOnce (givenIn p xs) (stateOf b .given p)
-
--- IDs, handles and counts: two handles of a peer have two IDs, an owner's was chosen, every other was given, and each count is over 0.
-abbrev pub CodeIds : Type 0
-CodeIds = (xs : List Exchange) (b : Bus) → Ran xs b → Ids (stateOf b)
+CodeThirdDemand = (xs : List Exchange) (b : Bus) → Ran xs b → (c : Call) → Claim (feedAll empty (map fedOf xs)) (fedOf (exchangeOf b c))
 
 -- A refused command, on the bus b: every buffer of the bus is as it was; so is the answer buffer where it is short, and else all of it but the first byte, which is the number.
 pub record Leaves (b : Bus) (c : Call) : Type 0 where
@@ -94,7 +65,7 @@ abbrev pub CodeRefusals : Type 0
 CodeRefusals = (b : Bus) (c : Call) → (exchangeOf b c .outcome .number ≡ 0 → ⊥) → Leaves b c
 
 -- The exchange after a run is the model's.
-exchange-as : {xs : List Exchange} {b : Bus} → Ran xs b → (c : Call) → As-model (stateAfter xs) (exchangeOf b c)
+pub exchange-as : {xs : List Exchange} {b : Bus} → Ran xs b → (c : Call) → As-model (stateAfter xs) (exchangeOf b c)
 exchange-as {xs = xs} {b = b} r c =
     let m = ran-modelled r in
     let e : stateOf b ≡ stateAfter xs = m .tied .view in
@@ -103,7 +74,7 @@ exchange-as {xs = xs} {b = b} r c =
     record { tied = m .tied; outcome = s .outcome; buffer = s .buffer }
 
 -- Never 5: each row of the table, each cascade, each frame.
-abbrev NotFive : ℕ → Type 0
+abbrev pub NotFive : ℕ → Type 0
 NotFive n = n ≡ 5 → ⊥
 
 not-countable : (b : State) (r : ℕ) → NotFive r → NotFive (countable b r)
@@ -137,33 +108,48 @@ not-takeable room (message n m ∷ q) = pick-all NotFive (leb (length (m .payloa
 not-takeable room (destroyed n s ∷ q) = λ z. omega arith
 not-takeable room (released n s ∷ q) = λ z. omega arith
 
-refusal-not-five : (b : State) (f : List ℕ) (k : Command) → NotFive (refusal b f k)
-unfolding refusal refusesOpen refusesDisconnect refusesCreate refusesDestroy refusesRelease refusesTransfer refusesSend refusesReceive refusesQuota refusesHolders
-refusal-not-five b f (Open p u) = not-countable b _ (not-openable (b .status (p .0)))
-refusal-not-five b f (Disconnect p) = not-countable b _ (not-present (b .status (p .0)) _ (λ z. omega arith))
-refusal-not-five b f (Create p i) =
+-- Whatever search gives the slots of IDs and the free places.
+pub refusal-not-five : (find : ℕ → ℕ → ℕ) (free : ℕ → ℕ) (b : State) (f : List ℕ) (k : Command) → NotFive (refusalBy find free b f k)
+unfolding refusalBy refusesOpen refusesDisconnect refusesReceive refusesQuota
+refusal-not-five find free b f (Open p u) = not-countable b _ (not-openable (b .status (p .0)))
+refusal-not-five find free b f (Disconnect p) = not-countable b _ (not-present (b .status (p .0)) _ (λ z. omega arith))
+refusal-not-five find free b f (Create p i) =
     not-countable b _ (not-present (b .status (p .0)) _
-    (pick-all NotFive (ltb (slot b (p .0) (i .0)) nodes) EEXIST _ (λ z. omega arith)
-    (pick-all NotFive (ltb (freePlace b (p .0)) slots) 0 ENOSPC (λ z. omega arith) (λ z. omega arith))))
-refusal-not-five b f (Destroy p i) =
-    let s = slot b (p .0) (i .0) in
-    not-countable b _ (not-present (b .status (p .0)) _ (not-holding (slot b (p .0)) (i .0 ∷ []) _ (not-owning (p .0) s _ (not-living b (s ∷ [])))))
-refusal-not-five b f (Release p i) =
-    not-countable b _ (not-present (b .status (p .0)) _ (not-holding (slot b (p .0)) (i .0 ∷ []) _
-    (pick-all NotFive (pinned b (p .0) (slot b (p .0) (i .0))) EPERM 0 (λ z. omega arith) (λ z. omega arith))))
-refusal-not-five b f (Transfer p i q) =
+    (pick-all NotFive (ltb (find (p .0) (i .0)) nodes) EEXIST _ (λ z. omega arith)
+    (pick-all NotFive (ltb (free (p .0)) slots) 0 ENOSPC (λ z. omega arith) (λ z. omega arith))))
+refusal-not-five find free b f (Destroy p i) =
+    let s = find (p .0) (i .0) in
+    not-countable b _ (not-present (b .status (p .0)) _ (not-holding (find (p .0)) (i .0 ∷ []) _ (not-owning (p .0) s _ (not-living b (s ∷ [])))))
+refusal-not-five find free b f (Release p i) =
+    not-countable b _ (not-present (b .status (p .0)) _ (not-holding (find (p .0)) (i .0 ∷ []) _
+    (pick-all NotFive (pinned b (p .0) (find (p .0) (i .0))) EPERM 0 (λ z. omega arith) (λ z. omega arith))))
+refusal-not-five find free b f (Transfer p i q) =
     not-countable b _ (not-present (b .status (p .0)) _ (not-present (b .status (q .0)) _
-    (not-holding (slot b (p .0)) (i .0 ∷ []) _ (not-living b (slot b (p .0) (i .0) ∷ [])))))
-refusal-not-five b f (Send p z) =
+    (not-holding (find (p .0)) (i .0 ∷ []) _ (not-living b (find (p .0) (i .0) ∷ [])))))
+refusal-not-five find free b f (Send p z) =
     let is = destinations f z in
     let hs = attached f z in
-    not-countable b _ (not-present (b .status (p .0)) _ (not-holding (slot b (p .0)) (is ++ hs) _
-    (pick-all NotFive (every (λ s. isLive (b .life s)) (map (slot b (p .0)) is)) _ EHOSTUNREACH
-    (not-affordable b (b .user (p .0)) (map (slot b (p .0)) is) (length (payloadOf f)) (length hs)) (λ z. omega arith))))
-refusal-not-five b f (Receive p room) = not-countable b _ (not-present (b .status (p .0)) _ (not-takeable room (b .queue (p .0))))
-refusal-not-five b f (Quota p u) = not-present (b .status (p .0)) _ (λ z. omega arith)
-refusal-not-five b f (Holders p i) =
-    not-present (b .status (p .0)) _ (not-holding (slot b (p .0)) (i .0 ∷ []) _ (not-owning (p .0) (slot b (p .0) (i .0)) _ (λ z. omega arith)))
+    not-countable b _ (not-present (b .status (p .0)) _ (not-holding (find (p .0)) (is ++ hs) _
+    (pick-all NotFive (every (λ s. isLive (b .life s)) (map (find (p .0)) is)) _ EHOSTUNREACH
+    (not-affordable b (b .user (p .0)) (map (find (p .0)) is) (length (payloadOf f)) (length hs)) (λ z. omega arith))))
+refusal-not-five find free b f (Receive p room) = not-countable b _ (not-present (b .status (p .0)) _ (not-takeable room (b .queue (p .0))))
+refusal-not-five find free b f (Quota p u) = not-present (b .status (p .0)) _ (λ z. omega arith)
+refusal-not-five find free b f (Holders p i) =
+    not-present (b .status (p .0)) _ (not-holding (find (p .0)) (i .0 ∷ []) _ (not-owning (p .0) (find (p .0) (i .0)) _ (λ z. omega arith)))
+
+-- The model's refusal is the one by the model's own search.
+refusal-by : (b : State) (f : List ℕ) (k : Command) → refusal b f k ≡ refusalBy (slot b) (freePlace b) b f k
+unfolding refusal refusalBy refusesCreate refusesDestroy refusesRelease refusesTransfer refusesSend refusesHolders
+refusal-by b f (Open p u) = refl
+refusal-by b f (Disconnect p) = refl
+refusal-by b f (Create p i) = refl
+refusal-by b f (Destroy p i) = refl
+refusal-by b f (Release p i) = refl
+refusal-by b f (Transfer p i q) = refl
+refusal-by b f (Send p z) = refl
+refusal-by b f (Receive p room) = refl
+refusal-by b f (Quota p u) = refl
+refusal-by b f (Holders p i) = refl
 
 step-not-five : (b : State) (c : Call) → NotFive (step b c .outcome .number)
 unfolding step finish outcomeOf carryOut
@@ -171,7 +157,7 @@ step-not-five b c e = go (look (ltb (length (c .buffer)) answerSize)) (parse (c 
   where
     on : (k : Command) → numberOf (carryOut b (c .frame) k (refusal b (c .frame) k) .reply .answer) ≡ 5 → Seen (eqb (refusal b (c .frame) k) 0) → ⊥
     on k n (is-true z) = omega (arith, rw z at n, reply-number b (c .frame) k)
-    on k n (is-false z) = refusal-not-five b (c .frame) k (rw z at n)
+    on k n (is-false z) = refusal-not-five (slot b) (freePlace b) b (c .frame) k (sym (refusal-by b (c .frame) k) ∙ rw z at n)
 
     go : Seen (ltb (length (c .buffer)) answerSize) → (x : Parsed) → parse (c .frame) ≡ x → Read-as (c .frame) x → ⊥
     go (is-true s) x p l = omega (arith, rw s at e)
@@ -193,37 +179,14 @@ never-five xs b r = ran-not-five r
 fed-as : (st : State) (x : Exchange) → As-model st x → fedOf x ≡ fed (x .call) (step st (x .call))
 fed-as st x h = λ i. record { frame = x .call .frame; number = h .outcome i .number; answer = take (h .outcome i .len) (h .buffer i) }
 
-fed-all : (st : State) (xs : List Exchange) → AsModel st xs → map fedOf xs ≡ historyFrom st (callsOf xs)
+pub fed-all : (st : State) (xs : List Exchange) → AsModel st xs → map fedOf xs ≡ historyFrom st (callsOf xs)
 unfolding historyFrom
 fed-all st [] h = refl
 fed-all st (x ∷ xs) h = ap₂ _∷_ (fed-as st x (h .0)) (fed-all (step st (x .call) .state) xs (h .1))
 
-bytes-of : (xs : List Exchange) → AllBytes xs → All OfBytes (callsOf xs)
-bytes-of [] h = tt
-bytes-of (x ∷ xs) h = (h .0, bytes-of xs (h .1))
-
 pub code-third-demand : CodeThirdDemand
-code-third-demand xs b r c o w =
-    rw (fed-all start xs (ran-modelled r .each), fed-as (stateAfter xs) (exchangeOf b c) (exchange-as r c)) (third-demand (callsOf xs) c (bytes-of xs o) w)
-
--- The IDs shown and given are the model's.
-shown-as : (st : State) (x : Exchange) (p : ℕ) → As-model st x → shownIn p x ≡ shownTo p (x .call) (step st (x .call))
-shown-as st x p h = ap₂ (λ (o : Outcome) (after : List ℕ). shownTo p (x .call) (record { outcome = o; state = st; buffer = after })) (h .outcome) (h .buffer)
-
-given-as : (st : State) (xs : List Exchange) → AsModel st xs → (p : ℕ) → givenIn p xs ≡ givenFrom st p (callsOf xs)
-unfolding givenFrom
-given-as st [] h p = refl
-given-as st (x ∷ xs) h p =
-    ap₂ _++_ (ap₂ (λ (s : State) (is : List ℕ). newOf (holdsId s p) is) (h .0 .tied .view) (shown-as st x p (h .0))) (given-as (step st (x .call) .state) xs (h .1) p)
-
-pub code-given : CodeGiven
-code-given xs b r o p =
-    let m = ran-modelled r in
-    let n : stateOf b .given p ≡ stateAfter xs .given p = ap (λ (s : State). s .given p) (m .tied .view) in
-    rw (given-as start xs (m .each) p, n) (given (callsOf xs) (bytes-of xs o) p)
-
-pub code-ids : CodeIds
-code-ids xs b r = subst (λ (s : State). Ids s) (sym (ran-modelled r .tied .view)) (sound-ids (callsOf xs))
+code-third-demand xs b r c =
+    rw (fed-all start xs (ran-modelled r .each), fed-as (stateAfter xs) (exchangeOf b c) (exchange-as r c)) (third-demand (callsOf xs) c)
 
 -- An order that is carried out is answered 0. So where the number is another, only a refusal was written: what that leaves, with a long answer buffer.
 record Left (b : Bus) (out : List ℕ) (d : Done) : Type 0 where
@@ -235,11 +198,11 @@ left-refused : (n : ℕ) (b : Bus) (out : List ℕ) → ltb (length out) answerS
 unfolding outcomeOf answerAfter answerBytes contentsOf
 left-refused n b out e = record { bus = refl; len = rw e; after = rw e }
 
-zero-number : (a : Answer) (is bs out : List ℕ) → ltb (length out) answerSize ≡ false → numberOf a ≡ 0 → outcomeOf a is bs out .number ≡ 0
+pub zero-number : (a : Answer) (is bs out : List ℕ) → ltb (length out) answerSize ≡ false → numberOf a ≡ 0 → outcomeOf a is bs out .number ≡ 0
 unfolding outcomeOf
 zero-number a is bs out e z = rw e z
 
-received-number : (ps ns hs : List ℕ) (q : Queues) (p : ℕ) (out : List ℕ) → ltb (length out) answerSize ≡ false → received ps ns hs q p out .outcome .number ≡ 0
+pub received-number : (ps ns hs : List ℕ) (q : Queues) (p : ℕ) (out : List ℕ) → ltb (length out) answerSize ≡ false → received ps ns hs q p out .outcome .number ≡ 0
 unfolding received receivedMessage noticeTaken messageAnswer noticeAnswer
 received-number ps ns hs q p out e = go (look (isMessage (firstOf (q .rings) p)))
   where

@@ -8,3 +8,8 @@ pub mod Demands
 pub mod Code
 pub mod Orderly
 pub mod Marked
+pub mod Untouched
+pub mod Histories
+pub mod Third
+pub mod Apart
+pub mod Ranges

@@ -53,7 +53,7 @@ abbrev pub AsModel : State → List Exchange → Type 0
 AsModel st [] = Unit {0}
 AsModel st (x ∷ xs) = As-model st x × AsModel (step st (x .call) .state) xs
 
-calls-append : (xs ys : List Exchange) → callsOf (xs ++ ys) ≡ callsOf xs ++ callsOf ys
+pub calls-append : (xs ys : List Exchange) → callsOf (xs ++ ys) ≡ callsOf xs ++ callsOf ys
 calls-append [] ys = refl
 calls-append (x ∷ xs) ys = ap (_∷_ (x .call)) (calls-append xs ys)
 

@@ -49,7 +49,7 @@ pub record Same-as (d : Done) (r : Result) : Type 0 where
   pub buffer : d .out ≡ r .buffer
 
 -- The tests for EIO pass on a bus that stands for a state of a run.
-sized-true : (b : Bus) → Shape b → sizedOk b ≡ true
+pub sized-true : (b : Bus) → Shape b → sizedOk b ≡ true
 unfolding sizedOk
 sized-true b s =
     rw (
@@ -68,7 +68,7 @@ peer-true : (b : Bus) (p : ℕ) → InRange b p → peerOk (b .peers) (b .rings 
 unfolding peerOk
 peer-true b p r = rw (le-leb _ _ (r .state), le-leb _ _ (r .user), lt-ltb _ _ (r .given), lt-ltb _ _ (r .head), le-leb _ _ (r .short))
 
-peers-true : (b : Bus) → ((p : ℕ) → p < 8 → InRange b p) → (n : ℕ) → n ≤ 8 → peersOk (b .peers) (b .rings .ends) n ≡ true
+pub peers-true : (b : Bus) → ((p : ℕ) → p < 8 → InRange b p) → (n : ℕ) → n ≤ 8 → peersOk (b .peers) (b .rings .ends) n ≡ true
 unfolding peersOk
 peers-true b r zero l = refl
 peers-true b r (suc n) l = rw (peers-true b r n (omega arith), peer-true b n (r n (omega arith)))

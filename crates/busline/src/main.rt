@@ -1,123 +1,148 @@
-// The line program: for each line of standard input one answer line on standard output. Every whole line that was read
-// is answered before more is read.
+// The line program: for each line of standard input one answer line on standard output. It reads a chunk, calls
+// `session::answer_lines` and writes the text, so every whole line that was read is answered before more is read. After
+// a write or a read that failed for good it writes nothing more, says so in one line on descriptor 2, and ends.
 ghost use mathlib.Core.Path.{_≡_};
-ghost use Prim.Native.Nat.{_+_, _*_, _<_, _≤_};
-ghost use lib.ListN.{length};
-ghost use Rattle.lines.specs.LineLaws.{Fits};
-use ids::EINVAL;
+ghost use mathlib.Core.Bool.{true, false};
+ghost use Prim.Native.Nat.{_+_, _<_, _≤_};
+ghost use mathlib.Core.List.{_++_};
+ghost use lib.ListN.{length, take, drop};
+ghost use Rattle.lines.specs.Line.{carriedOf};
+ghost use Rattle.view.specs.View.{busOf};
+ghost use Rattle.session.specs.Session.{Chunk, Underway};
+ghost use Rattle.bus.specs.Command.{freshBus};
+use libc::EAGAIN;
+use libc::EINTR;
+use libc::STDERR_FILENO;
 use libc::STDIN_FILENO;
 use libc::STDOUT_FILENO;
-use lines::LineRead;
-use lines::Written;
+use libc::types::timespec;
+use session::Progress;
 
-// The longest answer line: the digits of 591 bytes, and its LF.
-const LONGEST: usize = 1183;
+// Waits a millisecond, or until a signal interrupts the wait: the caller then tries again, so what is left of it is not
+// waited for. Its proof is by hand: the borrow checker covers no reference to a struct.
+fn pause() {
+    let asked = timespec {
+        tv_sec: 0,
+        tv_nsec: 1000000,
+    };
+    let mut left = timespec {
+        tv_sec: 0,
+        tv_nsec: 0,
+    };
+    libc::nanosleep(&asked, &mut left);
+}
 
-// Writes out what stands in the text buffer, if the next line may not fit behind it. Where the next line goes.
-fn make_room(text: &[u8], at: usize) -> usize
-    requires { ⌜ (at ≤ length (now text)) × (1183 ≤ length (now text)) ⌝ }
-    ensures { λ r. ⌜ r + 1183 ≤ length (now (text .entry)) ⌝ }
-{
-    if LONGEST <= text.len() - at {
-        return at;
+// Is the call that failed with this error to be made again? At once, where a signal interrupted it, and after a short
+// wait, where it would block.
+fn try_again(error: i32) -> bool {
+    if error == EINTR {
+        return true;
     }
-    io::write_all(STDOUT_FILENO, &text[..at]);
+    if error != EAGAIN {
+        return false;
+    }
+    pause();
+    true
+}
+
+// What was read: how many characters, 0 at the end of the input, or that the read failed.
+struct Input {
+    got: usize,
+    failed: bool,
+}
+
+// One read. Its tries are counted down from a number that no run uses up.
+fn read_some(part: &mut [u8]) -> Input
+    ensures { λ r. ⌜ r .got ≤ length (now (part .entry)) ⌝ }
+{
+    let mut tries = u64::MAX;
+    while tries > 0 {
+        let got = libc::read(STDIN_FILENO, part);
+        if got >= 0 {
+            return Input {
+                got: io::count(got, part),
+                failed: false,
+            };
+        }
+        if !try_again(os::errno()) {
+            return Input {
+                got: 0,
+                failed: true,
+            };
+        }
+        tries -= 1;
+    }
+    Input {
+        got: 0,
+        failed: true,
+    }
+}
+
+// One write, its tries counted likewise. How many bytes it took, 0 where it failed.
+fn write_some(bytes: &[u8]) -> usize
+    ensures { λ r. ⌜ r ≤ length (now (bytes .entry)) ⌝ }
+{
+    let mut tries = u64::MAX;
+    while tries > 0 {
+        let put = libc::write(STDOUT_FILENO, bytes);
+        if put >= 0 {
+            return io::count(put, bytes);
+        }
+        if !try_again(os::errno()) {
+            return 0;
+        }
+        tries -= 1;
+    }
     0
 }
 
-// Writes the line of some bytes into the text buffer, and nothing for none. Where the next line goes, behind all its
-// digits. No line is longer than the room that is made for it, so the last arm is never reached.
-fn say(text: &mut [u8], at: usize, bytes: &[u8]) -> usize
-    requires { ⌜ (at ≤ length (now text)) × (1183 ≤ length (now text)) × (length (now bytes) ≤ 591) ⌝ }
-    ensures { λ r. ⌜ (r ≤ length (now (text .entry))) × (2 * length (now (bytes .entry)) ≤ r) ⌝ }
-{
-    if bytes.len() == 0 {
-        return at;
-    }
-    let start = make_room(text, at);
-    match lines::write_line(text, start, bytes) {
-        Written::Next(n) => n,
-        Written::Full => start,
-    }
-}
-
-// The answer to a line that is no frame. Its length.
-fn refuse(out: &mut [u8]) -> usize
-    requires { ⌜ length (now out) ≡ 591 ⌝ }
-    ensures { λ r. ⌜ r ≤ 591 ⌝ }
-{
-    out[0] = EINVAL;
-    1
-}
-
-// The answer to what was read, written into the answer buffer. Its length, 0 where the line's LF is missing.
-fn answer_read(
-    peers: &mut [u64],
-    nodes: &mut [u64],
-    handles: &mut [u64],
-    charges: &mut [u16],
-    ends: &mut [u16],
-    entries: &mut [u16],
-    carried: &mut [u8],
-    numbers: &mut [u64],
-    pool: &mut [u8],
-    frame: &[u8],
-    read: LineRead,
-    out: &mut [u8],
-) -> usize
-    requires { ⌜ (length (now frame) ≡ 646) × (length (now out) ≡ 591) ⌝ }
-    ensures { λ r. ⌜ r ≤ 591 ⌝ }
-{
-    match read {
-        LineRead::Frame(m, _) => {
-            let n = copies::least(m, 646);
-            let o = bus::command(
-                peers,
-                nodes,
-                handles,
-                charges,
-                ends,
-                entries,
-                carried,
-                numbers,
-                pool,
-                &frame[..n],
-                out,
-            );
-            copies::least(o.len, 591)
+// Writes all the bytes, or stops at a write that failed. Whether all are written.
+fn write_text(bytes: &[u8]) -> bool {
+    let mut done = 0;
+    while done < bytes.len() {
+        let put = write_some(&bytes[done..]);
+        if put == 0 {
+            return false;
         }
-        LineRead::Bad(_, _) => refuse(out),
-        LineRead::Piece(_) => 0,
+        done += put;
     }
+    true
 }
 
-// How many characters a line took, 0 where its LF is missing.
-fn used_by(s: &[u8], read: LineRead) -> usize
-    requires { ⌜ Fits (now s) read ⌝ }
-    ensures { λ r. ⌜ r ≤ length (now (s .entry)) ⌝ }
-{
-    match read {
-        LineRead::Frame(_, next) => next,
-        LineRead::Bad(_, next) => next,
-        LineRead::Piece(_) => 0,
-    }
+fn say_not_read() {
+    io::write_all(STDERR_FILENO, b"busline: cannot read the input\n");
 }
 
-// A turn: where the next line starts, how many characters the last one took, and where the next answer line goes.
-struct Turn {
+fn say_not_written() {
+    io::write_all(STDERR_FILENO, b"busline: cannot write the output\n");
+}
+
+// What came of a chunk: where its piece starts, and whether all its answers are written.
+struct Sent {
     from: usize,
-    used: usize,
-    at: usize,
+    whole: bool,
 }
 
-fn turned(from: usize, used: usize, at: usize) -> Turn
-    ensures { λ r. ⌜ (r .from ≡ from) × (r .used ≡ used) × (r .at ≡ at) ⌝ }
+fn sent_to(from: usize, whole: bool) -> Sent
+    ensures { λ r. ⌜ (r .from ≡ from) × (r .whole ≡ whole) ⌝ }
 {
-    Turn { from, used, at }
+    Sent { from, whole }
 }
 
-// The line that starts at the turn's place answered, or nothing done where its LF is missing.
-fn answer_line(
+// Before the first call for a chunk.
+fn beginning() -> Progress
+    ensures { λ r. ⌜ (r .from ≡ 0) × (r .more ≡ true) ⌝ }
+{
+    Progress {
+        from: 0,
+        at: 0,
+        more: true,
+    }
+}
+
+// The whole lines of a chunk answered, and their answers written: as many texts as they fill. After a write that failed
+// nothing more of the chunk is answered.
+fn answer_chunk(
     peers: &mut [u64],
     nodes: &mut [u64],
     handles: &mut [u64],
@@ -128,58 +153,14 @@ fn answer_line(
     numbers: &mut [u64],
     pool: &mut [u8],
     s: &[u8],
-    frame: &mut [u8; 646],
-    out: &mut [u8],
     text: &mut [u8],
-    t: Turn,
-) -> Turn
-    requires { ⌜ (t .from ≤ length (now s)) × (t .at ≤ length (now text)) × (length (now out) ≡ 591) × (1183 ≤ length (now text)) ⌝ }
-    ensures { λ r. ⌜ (r .from ≡ t .from + r .used) × (r .from ≤ length (now (s .entry))) × (r .at ≤ length (now (text .entry))) ⌝ }
+) -> Sent
+    requires { ⌜ 1183 ≤ length (now text) ⌝ }
+    ensures { λ r. ⌜ Chunk (busOf (now (peers .entry)) (now (nodes .entry)) (now (handles .entry)) (now (charges .entry)) (now (ends .entry)) (now (entries .entry)) (now (carried .entry)) (now (numbers .entry)) (now (pool .entry))) (now (s .entry)) (busOf (now (peers .exit)) (now (nodes .exit)) (now (handles .exit)) (now (charges .exit)) (now (ends .exit)) (now (entries .exit)) (now (carried .exit)) (now (numbers .exit)) (now (pool .exit))) (r .from) (r .whole) ⌝ }
 {
-    let from = t.from;
-    let line = &s[from..];
-    let read = lines::read_line(line, frame);
-    let len = answer_read(
-        peers,
-        nodes,
-        handles,
-        charges,
-        ends,
-        entries,
-        carried,
-        numbers,
-        pool,
-        frame,
-        read,
-        out,
-    );
-    let at = say(text, t.at, &out[..len]);
-    let used = used_by(line, read);
-    turned(from + used, used, at)
-}
-
-// The whole lines of the input answered. Where the piece behind the last LF starts.
-fn answer_lines(
-    peers: &mut [u64],
-    nodes: &mut [u64],
-    handles: &mut [u64],
-    charges: &mut [u16],
-    ends: &mut [u16],
-    entries: &mut [u16],
-    carried: &mut [u8],
-    numbers: &mut [u64],
-    pool: &mut [u8],
-    s: &[u8],
-    frame: &mut [u8; 646],
-    out: &mut [u8],
-    text: &mut [u8],
-) -> usize
-    requires { ⌜ (length (now out) ≡ 591) × (1183 ≤ length (now text)) ⌝ }
-    ensures { λ r. ⌜ r ≤ length (now (s .entry)) ⌝ }
-{
-    let mut t = turned(0, 1, 0);
-    while t.used > 0 {
-        t = answer_line(
+    let mut p = beginning();
+    while p.more {
+        p = session::answer_lines(
             peers,
             nodes,
             handles,
@@ -190,33 +171,84 @@ fn answer_lines(
             numbers,
             pool,
             s,
-            frame,
-            out,
+            p.from,
             text,
-            t,
         );
+        if !write_text(&text[..p.at]) {
+            return sent_to(p.from, false);
+        }
     }
-    io::write_all(STDOUT_FILENO, &text[..t.at]);
-    t.from
+    sent_to(p.from, true)
 }
 
-fn read_behind(buf: &mut [u8], held: usize) -> usize
+fn read_behind(buf: &mut [u8], held: usize) -> Input
     requires { ⌜ held ≤ length (now buf) ⌝ }
-    ensures { λ r. ⌜ held + r ≤ length (now (buf .entry)) ⌝ }
+    ensures { λ r. ⌜ (held + r .got ≤ length (now (buf .entry))) × (take held (now (buf .exit)) ≡ take held (now (buf .entry))) ⌝ }
 {
-    let part = &mut buf[held..];
-    let got = libc::read(STDIN_FILENO, part);
-    io::count(got, part)
+    read_some(&mut buf[held..])
 }
 
-// A chunk answered: how many characters were read, and how many are carried over.
-struct Chunk {
-    got: usize,
+// The piece at the end of the input, which lacks its LF.
+fn answer_piece(held: usize) {
+    if held == 0 {
+        return;
+    }
+    if !write_text(b"16\n") {
+        say_not_written();
+    }
+}
+
+// A chunk read behind what is held: how many characters, 0 where there is no more to read. Then the piece that is held is
+// answered, or the failure is told.
+fn next_chunk(buf: &mut [u8], held: usize) -> usize
+    requires { ⌜ held ≤ length (now buf) ⌝ }
+    ensures { λ r. ⌜ (held + r ≤ length (now (buf .entry))) × (take held (now (buf .exit)) ≡ take held (now (buf .entry))) ⌝ }
+{
+    let input = read_behind(buf, held);
+    if input.failed {
+        say_not_read();
+        return 0;
+    }
+    if input.got == 0 {
+        answer_piece(held);
+        return 0;
+    }
+    input.got
+}
+
+// A turn: how many characters are carried over, and whether there is more to read.
+struct Turn {
     held: usize,
+    more: bool,
 }
 
-// Where nothing was read, what is held has no whole line, and is held on.
-fn answer_chunk(
+fn ended() -> Turn
+    ensures { λ r. ⌜ (r .held ≡ 0) × (r .more ≡ false) ⌝ }
+{
+    Turn {
+        held: 0,
+        more: false,
+    }
+}
+
+// The piece of a chunk carried over, or where an answer is not written the end.
+fn carry(buf: &mut [u8], sent: Sent, end: usize) -> Turn
+    ensures { λ r. ⌜ (r .held ≤ 1293) × (r .more ≡ true → (sent .whole ≡ true) × (r .held ≡ length (carriedOf (now (buf .entry)) (sent .from) end)) × (now (buf .exit) ≡ carriedOf (now (buf .entry)) (sent .from) end ++ drop (length (carriedOf (now (buf .entry)) (sent .from) end)) (now (buf .entry)))) ⌝ }
+{
+    if !sent.whole {
+        say_not_written();
+        return ended();
+    }
+    let rest = lines::carry_over(buf, sent.from, end);
+    Turn {
+        held: rest,
+        more: true,
+    }
+}
+
+// One chunk read behind what is held, answered, and its piece carried over. Where it goes on, the chunks so far, the bus,
+// what is carried over and what was written are those of a session (session/specs/Session.antt).
+fn take_turn(
     peers: &mut [u64],
     nodes: &mut [u64],
     handles: &mut [u64],
@@ -228,16 +260,17 @@ fn answer_chunk(
     pool: &mut [u8],
     buf: &mut [u8],
     held: usize,
-    frame: &mut [u8; 646],
-    out: &mut [u8],
     text: &mut [u8],
-) -> Chunk
-    requires { ⌜ (held ≤ 1293) × (length (now buf) ≡ 65536) × (length (now out) ≡ 591) × (1183 ≤ length (now text)) ⌝ }
-    ensures { λ r. ⌜ r .held ≤ 1293 ⌝ }
+) -> Turn
+    requires { ⌜ (held ≤ 1293) × (length (now buf) ≡ 65536) × (1183 ≤ length (now text)) × Underway (busOf (now peers) (now nodes) (now handles) (now charges) (now ends) (now entries) (now carried) (now numbers) (now pool)) (take held (now buf)) ⌝ }
+    ensures { λ r. ⌜ (r .held ≤ 1293) × (r .more ≡ true → Underway (busOf (now (peers .exit)) (now (nodes .exit)) (now (handles .exit)) (now (charges .exit)) (now (ends .exit)) (now (entries .exit)) (now (carried .exit)) (now (numbers .exit)) (now (pool .exit))) (take (r .held) (now (buf .exit)))) ⌝ }
 {
-    let got = read_behind(buf, held);
+    let got = next_chunk(buf, held);
+    if got == 0 {
+        return ended();
+    }
     let end = held + got;
-    let from = answer_lines(
+    let sent = answer_chunk(
         peers,
         nodes,
         handles,
@@ -248,36 +281,12 @@ fn answer_chunk(
         numbers,
         pool,
         &buf[..end],
-        frame,
-        out,
         text,
     );
-    let rest = lines::carry_over(buf, from, end);
-    Chunk { got, held: rest }
+    carry(buf, sent, end)
 }
 
-// How many turns are left: none where nothing was read.
-fn turns_left(turns: u64, got: usize) -> u64
-    requires { ⌜ 0 < turns ⌝ }
-    ensures { λ r. ⌜ r < turns ⌝ }
-{
-    if got == 0 {
-        return 0;
-    }
-    turns - 1
-}
-
-// The piece at the end of the input, which lacks its LF.
-fn answer_end(held: usize) {
-    if held == 0 {
-        return;
-    }
-    let line = [49u8, 54, 10];
-    io::write_all(STDOUT_FILENO, &line);
-}
-
-// The loop counts its turns down from a number that no run uses up. The buffers for a frame and for its answer are made
-// once, here.
+// The loop counts its turns down from a number that no run uses up.
 fn run(
     peers: &mut [u64],
     nodes: &mut [u64],
@@ -291,14 +300,12 @@ fn run(
     buf: &mut [u8],
     text: &mut [u8],
 )
-    requires { ⌜ (length (now buf) ≡ 65536) × (1183 ≤ length (now text)) ⌝ }
+    requires { ⌜ (length (now buf) ≡ 65536) × (1183 ≤ length (now text)) × (busOf (now peers) (now nodes) (now handles) (now charges) (now ends) (now entries) (now carried) (now numbers) (now pool) ≡ freshBus) ⌝ }
 {
-    let mut frame = [0u8; 646];
-    let mut out = [0u8; 591];
-    let mut t = Chunk { got: 1, held: 0 };
+    let mut held = 0;
     let mut turns = u64::MAX;
     while turns > 0 {
-        t = answer_chunk(
+        let t = take_turn(
             peers,
             nodes,
             handles,
@@ -309,14 +316,15 @@ fn run(
             numbers,
             pool,
             buf,
-            t.held,
-            &mut frame,
-            &mut out,
+            held,
             text,
         );
-        turns = turns_left(turns, t.got);
+        if !t.more {
+            return;
+        }
+        held = t.held;
+        turns -= 1;
     }
-    answer_end(t.held);
 }
 
 fn main() {

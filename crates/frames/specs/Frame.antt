@@ -1,6 +1,6 @@
 -- Document 01, "Commands, one frame a line", and of "When the bus says no" the rows that a frame alone decides, in the order of its paragraph "Order".
 -- Assumes nothing.
-use Prim.Native.Nat.{ℕ, _+_, _*_, _%_}
+use Prim.Native.Nat.{ℕ, _+_, _*_, _%_, _^_}
 use mathlib.Core.Bool.{Bool, true, false}
 use mathlib.Core.List.{List}
 use lib.ListN.{length, getD, drop}
@@ -33,9 +33,9 @@ opcode f = getD f 0 0
 abbrev pub peerAt : List ℕ → ℕ → Peer
 peerAt f at = record { 0 = getD f at 0 }
 
--- "Numbers are big-endian; an ID has 8 bytes."
+-- "Numbers are big-endian; an ID has 8 bytes." (Of bytes the number is below 256 ^ 8 as it is; of a list of any numbers it is read so.)
 unfoldable pub idAt : List ℕ → ℕ → HandleId
-idAt f at = record { 0 = numAt f at 8 }
+idAt f at = record { 0 = numAt f at 8 % 256 ^ 8 }
 
 unfoldable pub shortAt : List ℕ → ℕ → ℕ
 shortAt f at = numAt f at 2

@@ -57,7 +57,7 @@ unless : (f : List ℕ) (bad : Bool) (r : Parsed) → (bad ≡ false → Outcome
 unless f bad r h = pick-cases (Outcome f) bad (Refused EINVAL) r (λ e. invalid f) h
 
 -- Numbers that are not oversized are in their bounds.
-in-bounds : (nd nh nb : ℕ) → oversized nd nh nb ≡ false → (nd ≤ mostIds) × (nh ≤ mostIds) × (nb ≤ mostBytes)
+pub in-bounds : (nd nh nb : ℕ) → oversized nd nh nb ≡ false → (nd ≤ mostIds) × (nh ≤ mostIds) × (nb ≤ mostBytes)
 in-bounds nd nh nb e =
     let a = pick-else (ltb mostIds nd) true false (λ z. clash z) e in
     let b = pick-else (ltb mostIds nh) true false (λ z. clash z) (a .1) in

@@ -17,6 +17,7 @@ use Rattle.laws.specs.Build.{build, build-length, build-ext}
 use Rattle.lines.specs.Line.{lf, mostDigits, mostCarried, isDigit, digitValue, faultPlace, lineLength, wellFormed, pairAt, bytesOf, lineRead, readLine, frameAfter, carriedOf}
 use Rattle.lines.specs.LineLaws.{lfAt, fault-le, fault-found, fault-cut, line-le}
 use Rattle.lines.specs.Chunks.{Split, parts, longer, split, Found, Found.frame, Found.bad, found, foundAtEnd, linesOf, cap, run, reading, NoLf, RunIsWhole, AnyChunks, OneLine, OverlongIsBad, ReadsAll, RunStep}
+use Rattle.lines.specs.declared.LineRead.{LineRead}
 use Rattle.lines.specs.declared.LineRead.the-variants.{Frame, Bad, Piece}
 
 -- SPLITS
@@ -50,7 +51,7 @@ split-behind (c ∷ p) x h =
     ∙ ap (λ (d : Split). longer c (d .whole) (d .rest)) (split-behind p x (h .1))
     ∙ longer-behind c p (split x .whole) (split x .rest)
 
-split-piece : (p : List ℕ) → NoLf p → split p ≡ parts [] p
+pub split-piece : (p : List ℕ) → NoLf p → split p ≡ parts [] p
 unfolding split
 split-piece p h = ap split (sym (append-nil p)) ∙ split-behind p [] h ∙ ap (parts []) (append-nil p)
 
@@ -281,3 +282,46 @@ unfolding run carriedOf
 run-step c x t b end xs e =
     let r = reads-all (take end t) b in
     rw (← e) (ap₂ (λ (f : List Found) (p : List ℕ). f ++ run (cap p) xs) (sym (r .lines)) (sym (r .stops)))
+
+-- THE FIRST LINE
+
+-- The first line of s is l, and the others start at the place next.
+pub record FirstIs (s : List ℕ) (l : Found) (next : ℕ) : Type 0 where
+  pub within : next ≤ length s
+  pub lines : map found (split s .whole) ≡ l ∷ map found (split (drop next s) .whole)
+  pub rest : split s .rest ≡ split (drop next s) .rest
+
+-- What is read, whatever the frame buffer b holds: the first line, or no line at all.
+abbrev pub Told : List ℕ → List ℕ → LineRead → Type 0
+Told s b (Frame m next) = FirstIs s (frame (take m (frameAfter s b))) next
+Told s b (Bad place next) = FirstIs s (bad place) next
+Told s b (Piece place) = NoLf s
+
+pub read-told : (s b : List ℕ) → Told s b (readLine s)
+unfolding found
+read-told s b = go (look (ltb n (length s)))
+  where
+    n : ℕ
+    n = lineLength s
+
+    l : List ℕ
+    l = take n s
+
+    whole : n < length s → Seen (wellFormed l) → Told s b (readLine s)
+    whole h (is-true w) =
+        let e : readLine s ≡ Frame (n / 2) (n + 1) = read-whole s h ∙ rw w in
+        let f = frame-bytes s b n (n + 1) (omega arith) e in
+        rw e record {
+          within = omega arith;
+          lines = rw (first-line s h, w) (ap (λ (x : List ℕ). frame x ∷ map found (split (drop (n + 1) s) .whole)) (sym f));
+          rest = rw (first-line s h);
+        }
+    whole h (is-false w) =
+        let e : readLine s ≡ Bad (faultPlace l) (n + 1) = read-whole s h ∙ rw w in
+        rw e record { within = omega arith; lines = rw (first-line s h, w); rest = rw (first-line s h) }
+
+    go : Seen (ltb n (length s)) → Told s b (readLine s)
+    go (is-true e) = whole (ltb-true n (length s) e) (look (wellFormed l))
+    go (is-false e) =
+        let p = piece-plain s (omega (arith, line-le s, ltb-false n (length s) e)) in
+        rw (piece-read s p) p

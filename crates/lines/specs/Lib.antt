@@ -5,3 +5,4 @@ pub mod ChunkLaws
 pub mod RoundTrip
 pub mod Text
 pub mod Examples
+pub mod Cuts

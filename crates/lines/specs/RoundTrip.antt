@@ -49,7 +49,7 @@ Byte b = b < 256
 abbrev pub IsDigit : ℕ → Type 0
 IsDigit c = isDigit c ≡ true
 
-digits-all : (f : List ℕ) → All Byte f → All IsDigit (digitsOf f)
+pub digits-all : (f : List ℕ) → All Byte f → All IsDigit (digitsOf f)
 unfolding digitsOf
 digits-all [] h = tt
 digits-all (b ∷ f) h = (digit-back (b / 16) (omega (arith, h .0)) .is, (digit-back (b % 16) (omega arith) .is, digits-all f (h .1)))
@@ -69,7 +69,7 @@ module _ (l r : List ℕ) (h : All IsDigit l) where
       at : length l < length (l ++ lf ∷ r) → lfAt (l ++ lf ∷ r) (length l) ≡ true
       at k = eq-eqb (getD (l ++ lf ∷ r) (length l) 0) lf (getD-at l lf r 0 (length l) refl)
 
-  digits-fault : length l ≤ mostDigits → faultPlace l ≡ length l
+  pub digits-fault : length l ≤ mostDigits → faultPlace l ≡ length l
   digits-fault k = sym (fault-is l (min mostDigits (length l)) (length l) refl (omega arith) digit-good (λ m. absurd (omega arith)))
 
   pub digits-read : length l ≤ mostDigits → length l % 2 ≡ 0 → readLine (l ++ lf ∷ r) ≡ Frame (length l / 2) (length l + 1)
@@ -88,13 +88,13 @@ module _ (l r : List ℕ) (h : All IsDigit l) where
       sym (fault-is l (min mostDigits (length l)) mostDigits refl (omega arith) (λ j m. digit-good j (omega arith)) (λ m. absurd (omega arith))) in
       rw (digits-length-is, t, lt-ltb (length l) (length (l ++ lf ∷ r)) n, f, ne-eqb mostDigits (length l) (λ e. absurd (omega arith)))
 
-digits-high : (f : List ℕ) (k : ℕ) → k < length f → getD (digitsOf f) (2 * k) 0 ≡ digitOf (getD f k 0 / 16)
+pub digits-high : (f : List ℕ) (k : ℕ) → k < length f → getD (digitsOf f) (2 * k) 0 ≡ digitOf (getD f k 0 / 16)
 unfolding digitsOf
 digits-high [] k h = absurd (not-suc-le-zero h)
 digits-high (b ∷ f) zero h = refl
 digits-high (b ∷ f) (suc k) h = let e : 2 * suc k ≡ suc (suc (2 * k)) = omega arith in rw e (digits-high f k (le-of-suc-le-suc h))
 
-digits-lower : (f : List ℕ) (k : ℕ) → k < length f → getD (digitsOf f) (2 * k + 1) 0 ≡ digitOf (getD f k 0 % 16)
+pub digits-lower : (f : List ℕ) (k : ℕ) → k < length f → getD (digitsOf f) (2 * k + 1) 0 ≡ digitOf (getD f k 0 % 16)
 unfolding digitsOf
 digits-lower [] k h = absurd (not-suc-le-zero h)
 digits-lower (b ∷ f) zero h = refl
@@ -127,3 +127,11 @@ round-trip f r h all = rw (append-snoc (digitsOf f) lf r) record { read = reads;
 
     same : build (pairAt s) (length f) ≡ f
     same = build-ext (pairAt s) (λ j. getD f j 0) (length f) pair ∙ build-list 0 f
+
+-- The digits of bytes have no LF among them.
+plain-all : (l : List ℕ) → All IsDigit l → All (λ c. eqb c lf ≡ false) l
+plain-all [] h = tt
+plain-all (c ∷ l) h = (digit-no-lf (c ∷ []) 0 (ap not (h .0)), plain-all l (h .1))
+
+pub digits-plain : (f : List ℕ) → All Byte f → All (λ c. eqb c lf ≡ false) (digitsOf f)
+digits-plain f h = plain-all (digitsOf f) (digits-all f h)

@@ -7,6 +7,7 @@ use lib.ListN.{length, getD}
 use lib.Dec.{eqb, ltb}
 use Rattle.laws.specs.Tests.{pick}
 use Rattle.laws.specs.Tables.{upd}
+use Rattle.laws.specs.Sums.{sumTo}
 use Rattle.laws.specs.Weights.{keep, load}
 use Rattle.laws.specs.Build.{build}
 use Rattle.laws.specs.Bytes.{numAt}
@@ -149,12 +150,13 @@ noteCreate k p i =
 abbrev pub raise : Book → ℕ → ℕ → Node → Book
 raise k p i n = putHandle k p i (notedOf n (suc (countOf (k .handle p i))))
 
--- "Transfer: the answered ID at the destination peer names the source ID's node; its count rises by 1."
+-- "Transfer: the answered ID at the destination peer names the source ID's node; its count rises by 1." No run reaches `blank`: an ID that is not held is refused with 6.
 abbrev pub noteTransfer : Book → Noted → ℕ → ℕ → Book
 noteTransfer k blank q j = k
 noteTransfer k (noted n c) q j = raise k q j n
 
--- The nodes that a peer's IDs name; "an ID the sender does not hold adds nothing".
+-- The nodes that a peer's IDs name; "an ID the sender does not hold adds nothing". In `noteSend` no run reaches `blank`: such a send is refused with 6. In `wouldLeave`, which takes refused
+-- sends too, it counts.
 abbrev pub nodeIn : Noted → List Node
 nodeIn blank = []
 nodeIn (noted n c) = n ∷ []
@@ -190,12 +192,13 @@ learn k p [] ns = k
 learn k p (i ∷ is) [] = k
 learn k p (i ∷ is) (n ∷ ns) = learn (pick (eqb i invalid) k (raise k p i n)) p is ns
 
--- "Receive answered 01: the peer's first message goes to received."
+-- "Receive answered 01: the peer's first message goes to received." No run reaches `[]`: where the answer is 01 there is one.
 abbrev pub noteReceive : Book → ℕ → List ℕ → List BookMessage → Book
 noteReceive k p is [] = k
 noteReceive k p is (m ∷ ms) = learn (toReceived k p (m ∷ []) ms) p is (m .carried)
 
--- "Release: the count falls by 1. At 0 the handle goes; if the peer owns the node, its messages for that node go to dropped."
+-- "Release: the count falls by 1. At 0 the handle goes; if the peer owns the node, its messages for that node go to dropped." No run reaches `blank`: an ID that is not held is refused
+-- with 6.
 abbrev pub drops : ℕ → Node → BookMessage → Bool
 drops p n m = both (ownedBy p n) (sameNode (m .to) n)
 
@@ -266,6 +269,10 @@ feedAll k (x ∷ xs) = feedAll (feed k x) xs
 -- "Queued is sent less received less dropped."
 abbrev pub queued : Book → ℕ → ℕ → Resource → ℕ
 queued k q u r = k .sent q u r - k .received q u r - k .dropped q u r
+
+-- "what the other users have queued".
+abbrev pub othersQueued : Book → ℕ → ℕ → Resource → ℕ
+othersQueued k q u r = sumTo (λ v. pick (eqb v u) 0 (queued k q v r)) users
 
 -- A frame that is a send, well formed or not, as far as it says something.
 abbrev pub isSend : List ℕ → Bool

@@ -35,7 +35,7 @@ abbrev pub queuedAll : Resource → List Message → ℕ
 queuedAll r ms = load (λ m. true) (weightOf r) ms
 
 -- The users' charges make it up, so one share of the limit is never used.
-sound-sum : (ms : List Message) (c : Charges) (r : Resource) → Sound ms c → sum (each (amount r) c) ≡ queuedAll r ms
+pub sound-sum : (ms : List Message) (c : Charges) (r : Resource) → Sound ms c → sum (each (amount r) c) ≡ queuedAll r ms
 sound-sum ms c r h =
     let n : length (each (amount r) c) ≡ users = reach-length (reached-at c (h .reached) r) in
     sym (sum-places (each (amount r) c))

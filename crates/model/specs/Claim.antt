@@ -1,4 +1,4 @@
--- The third demand: the statement. It speaks of the book and of what the next call gives, and names no state.
+-- The third demand: the statement. `Claim` speaks of the book and of what the next call gives, and names no state; `ThirdDemand` names the bus only to say of which calls it holds.
 -- Assumes nothing.
 use Prim.Native.Nat.{ℕ, _+_, _≤_, _<_}
 use mathlib.Core.Path.{_≡_}
@@ -7,7 +7,6 @@ use mathlib.Core.List.{List, [], _∷_}
 use lib.ListN.{getD}
 use Rattle.ids.specs.Refusals.{EDQUOT}
 use Rattle.laws.specs.Bytes.{numAt}
-use Rattle.laws.specs.Weights.{All}
 use Rattle.frames.specs.Frame.{opcode}
 use Rattle.quota.specs.Charges.{users}
 use Rattle.model.specs.Resources.{Resource, Resource.messages, Resource.bytes, Resource.handles, most, share}
@@ -44,10 +43,6 @@ historyFrom b (c ∷ cs) = let r = step b c in fed c r ∷ historyFrom (r .state
 abbrev pub bookAfter : List Call → Book
 bookAfter cs = feedAll empty (historyFrom start cs)
 
--- A frame is bytes. (Of other numbers an ID would not come back from the 8 bytes that show it.)
-abbrev pub OfBytes : Call → Type 0
-OfBytes c = All (λ x. x < 256) (c .frame)
-
 -- "Demand 3 is a single claim about the whole list of commands": for every list of calls from a fresh bus, and every next call, "with any frame and any answer buffer".
 abbrev pub ThirdDemand : Type 0
-ThirdDemand = (cs : List Call) (c : Call) → All OfBytes cs → OfBytes c → Claim (bookAfter cs) (fed c (step (run cs) c))
+ThirdDemand = (cs : List Call) (c : Call) → Claim (bookAfter cs) (fed c (step (run cs) c))

@@ -43,7 +43,7 @@ use Rattle.model.specs.SimSend.{nodes-of-slots, places-is}
 use Rattle.model.specs.SimRun.{alike}
 
 -- What the book has queued is what stands in the bus's queue.
-queued-is : {N : ℕ} (name : ℕ → ℕ) (b : State) (k : Book) → Sim N name b k → (q u : ℕ) (r : Resource) → queued k q u r ≡ queuedBy r u (messagesIn (b .queue q))
+pub queued-is : {N : ℕ} (name : ℕ → ℕ) (b : State) (k : Book) → Sim N name b k → (q u : ℕ) (r : Resource) → queued k q u r ≡ queuedBy r u (messagesIn (b .queue q))
 queued-is name b k s q u r =
     let e : load (by u) (weight r) (k .queue q) ≡ queuedBy r u (messagesIn (b .queue q)) = rw (s .queues q) (load-told name u r (messagesIn (b .queue q))) in
     omega (arith, s .sums q u r)
@@ -133,8 +133,8 @@ reports name b k c (Holders p i) s h m a x o r = absurd (omega (arith, x .0 .com
 
 -- The third demand.
 pub third-demand : ThirdDemand
-third-demand cs c o w =
-    let x = alike cs o in
+third-demand cs c =
+    let x = alike cs in
     let name = x .world .name in
     let s = x .world .sim in
     let h = always-charged cs in

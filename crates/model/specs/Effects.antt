@@ -1,4 +1,5 @@
--- The effect of each command that is not refused, as a composition of small changes. b is the state in which the command is counted already.
+-- The effect of each command that is not refused, as a composition of small changes. In `opens` to `receives` b is the state in which the command is counted already; `effect` takes the
+-- state before and counts the command (`accept`), unless it is a question.
 -- Assumes nothing.
 use Prim.Native.Nat.{ℕ, _+_, _-_, _*_}
 use mathlib.Core.List.{List, [], _∷_, map}
@@ -32,6 +33,7 @@ releases b p s i c =
     let less = withHandle b p s (handleOf i (c - 1)) in
     notify b (pick (eqb c 1) (forget less p s) less) s
 
+-- No run reaches `none`: a release of an ID that the peer does not hold is refused with 6.
 abbrev pub releasesHandle : State → ℕ → ℕ → Handle → State
 releasesHandle b p s none = b
 releasesHandle b p s (some i c) = releases b p s i c
@@ -43,7 +45,7 @@ disconnects b p =
     let emptied = takeOut died p (messagesIn (b .queue p)) [] in
     notifyAll b (withStatus (withHandles emptied p (λ s. none)) p disconnected)
 
--- Receive: the first entry is taken out; of a message each attached handle is given.
+-- Receive: the first entry is taken out; of a message each attached handle is given. No run reaches `[]`: a receive with nothing queued is refused with 11.
 abbrev pub receives : State → ℕ → List Entry → State
 receives b p [] = b
 receives b p (message n m ∷ q) = giveAll (takeOut b p (m ∷ []) q) p (m .carried)

@@ -23,7 +23,7 @@ use Rattle.model.specs.Tables.{withStatus, withUser, withGiven, withHand
 use Rattle.model.specs.Changes.{pushAll, takeOut, withdraw, shown, give, forget, fell, notify, releaseNotices, notifyAll, destroyNotices, destroyAll, arriving, deliver}
 use Rattle.model.specs.Effects.{opens, creates, destroys, releases, disconnects, effect}
 use Rattle.model.specs.Replies.{showsMessage, holdersOf, reply}
-use Rattle.model.specs.Scripts.{opening, disconnect, create, destroy, release, send, receive, transfer, quota, holders, number, gives, queuedAndLeft, takes, takesFlag, destroyedAt, releasedAt, Row, Row.played, computed, expected, five, two, empties, done}
+use Rattle.model.specs.Scripts.{opening, disconnect, create, destroy, release, send, receive, transfer, quota, holders, number, gives, queuedAndLeft, takes, takesFlag, destroyedAt, releasedAt, Row, Row.played, computed, expected, five, two, second, empties, done}
 use Rattle.model.specs.Step.{carryOut, finish, step, answersFrom}
 
 -- "When the sum of counts over all peers falls to 1 from above on a live node, a release notice is queued at the owner."
@@ -58,8 +58,12 @@ dropped-with-owner =
 -- "The flag is 1 if, when it is taken out, another message of the same send is queued behind it at that peer."
 abbrev pub flags : Row
 flags =
-    played (two ++ (send 1 (7 ∷ 7 ∷ []) [] [] ∷ send 1 (7 ∷ []) [] [] ∷ receive 0 0 ∷ receive 0 0 ∷ receive 0 0 ∷ []))
-    (takesFlag 8 1 1 [] [] ∷ takesFlag 8 1 0 [] [] ∷ takesFlag 8 1 0 [] [] ∷ [])
+    played (two ++ (second 1 ++ (send 1 (11 ∷ 7 ∷ []) [] [] ∷ send 1 (7 ∷ []) [] [] ∷ receive 0 0 ∷ receive 0 0 ∷ receive 0 0 ∷ [])))
+    (takesFlag 12 1 1 [] [] ∷ takesFlag 8 1 0 [] [] ∷ takesFlag 8 1 0 [] [] ∷ [])
+
+-- "Each destination entry makes its own message": also one ID listed twice.
+abbrev pub doubled : Row
+doubled = played (two ++ (send 1 (7 ∷ 7 ∷ []) [] [] ∷ receive 0 0 ∷ receive 0 0 ∷ [])) (takesFlag 8 1 1 [] [] ∷ takesFlag 8 1 0 [] [] ∷ [])
 
 -- "if its node is destroyed by then, the invalid ID is given".
 abbrev pub invalid-shown : Row
@@ -139,8 +143,8 @@ collide =
 -- The others at their worst, as M4 has them: with 32, 16 and 8 messages of the other users and 2 of its own, two destinations at one peer make 4: accepted; one more 122.
 abbrev pub share-of-messages : Row
 share-of-messages =
-    played (five ++ (empties 32 1 ++ (empties 16 2 ++ (empties 8 3 ++ (empties 2 4 ++ (send 4 (7 ∷ 7 ∷ []) [] [] ∷ send 4 (7 ∷ []) [] [] ∷ []))))))
-    (done 58 ++ (number 0 ∷ number 122 ∷ []))
+    played (five ++ (empties 32 1 ++ (empties 16 2 ++ (empties 8 3 ++ (second 4 ++ (empties 2 4 ++ (send 4 (7 ∷ 11 ∷ []) [] [] ∷ send 4 (7 ∷ []) [] [] ∷ [])))))))
+    (done 2 ++ (number 0 ∷ number 122 ∷ []))
 
 -- The same in bytes: with 2,048, 1,024 and 512 of the others, in messages of 512, a message of 257 is 122, one of 256 is accepted, one byte more is 122.
 abbrev pub share-of-bytes : Row
@@ -164,13 +168,13 @@ share-of-handles =
 
 abbrev pub examples : List Row
 examples =
-    released-notice ∷ withdrawn-risen ∷ withdrawn-destroyed ∷ destroyed-notices ∷ withdrawn-gone ∷ still-delivered ∷ dropped-with-owner ∷ flags ∷ invalid-shown
+    released-notice ∷ withdrawn-risen ∷ withdrawn-destroyed ∷ destroyed-notices ∷ withdrawn-gone ∷ still-delivered ∷ dropped-with-owner ∷ flags ∷ doubled ∷ invalid-shown
     ∷ ordered ∷ held-by-two ∷ room-again ∷ room-named ∷ cascade ∷ notice-behind ∷ absent
     ∷ back-at-the-end ∷ flag-of-dropped ∷ invalid-to-holder ∷ collide ∷ share-of-messages ∷ share-of-bytes ∷ share-of-handles ∷ []
 
 pub shown-by-examples : All (λ r. computed r ≡ expected r) examples
 unfolding upd sumTo build first be numAt idAt shortAt parseSizes parseSend frameLength parseOpen parseCreate parseTransfer parseQuota parseRest parseOther parse sendId payloadOf othersAll allowsAll balanceOf idBytes headerBytes messageBytes noticeBytes receivedBytes chargeBytes balanceBytes holderBytes contentsOf answerBytes answerAfter outcomeOf least rising start slotOf total heldByAny named counts freePlace byOwnerId placesAt fits refusesOpen refusesDisconnect refusesCreate refusesDestroy refusesRelease refusesTransfer refusesSend refusesReceive refusesQuota refusesHolders refusal withStatus withUser withGiven withHandles withQueues withCharges withLives accept pushAll takeOut withdraw shown give forget fell notify releaseNotices notifyAll destroyNotices destroyAll arriving deliver opens creates destroys releases disconnects effect showsMessage holdersOf reply carryOut finish step answersFrom ones onesIn
-shown-by-examples = (refl, (refl, (refl, (refl, (refl, (refl, (refl, (refl, (refl, (refl, (refl, (refl, (refl, (refl, (refl, (refl, (refl, (refl, (refl, (refl, (refl, (refl, (refl, tt)))))))))))))))))))))))
+shown-by-examples = (refl, (refl, (refl, (refl, (refl, (refl, (refl, (refl, (refl, (refl, (refl, (refl, (refl, (refl, (refl, (refl, (refl, (refl, (refl, (refl, (refl, (refl, (refl, (refl, tt))))))))))))))))))))))))
 
 -- A bus that has accepted n commands, peer 0 open.
 abbrev pub used : ℕ → State

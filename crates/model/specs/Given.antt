@@ -15,7 +15,6 @@ use Rattle.model.specs.Lists.{both, either}
 use Rattle.model.specs.State.{State, start, slot}
 use Rattle.model.specs.Step.{Call, Result, step, answerOf, run}
 use Rattle.model.specs.Book.{answeredId, answersMessage, shownIds}
-use Rattle.model.specs.Claim.{OfBytes}
 use Rattle.model.specs.Rising.{Sorted}
 
 -- The IDs that the answer to a call shows to the peer p: a transfer's answer at its destination, and a received message's attached IDs at the acting peer.
@@ -55,4 +54,4 @@ pub record GivenOnce (is : List ℕ) (n : ℕ) : Type 0 where
 
 -- For every list of calls from a fresh bus.
 abbrev pub Given : Type 0
-Given = (cs : List Call) → All OfBytes cs → (p : ℕ) → GivenOnce (givenFrom start p cs) (run cs .given p)
+Given = (cs : List Call) (p : ℕ) → GivenOnce (givenFrom start p cs) (run cs .given p)

@@ -9,7 +9,7 @@ use lib.Dec.{eqb}
 use borrow.Author.Tests.{eq-eqb, ne-eqb}
 use Rattle.laws.specs.Tests.{pick, pick-all, Seen, Seen.is-true, Seen.is-false, look, Same, Same.same, Same.other, same?}
 use Rattle.laws.specs.Tables.{upd-other}
-use Rattle.laws.specs.Weights.{All, all-append}
+use Rattle.laws.specs.Weights.{All}
 use Rattle.laws.specs.Build.{build}
 use Rattle.ids.specs.declared.HandleId.{HandleId}
 use Rattle.ids.specs.declared.Peer.{Peer}
@@ -35,7 +35,6 @@ use Rattle.model.specs.IdsLaws.{Holding}
 use Rattle.model.specs.IdsProof.{holding-out, holding}
 use Rattle.model.specs.Step.{Call, step, runFrom, run, answerOf}
 use Rattle.model.specs.Book.{answersMessage, shownIds}
-use Rattle.model.specs.Claim.{OfBytes}
 use Rattle.model.specs.Accepted.{Accepted, Came, Came.left, Came.done, came, run-append}
 use Rattle.model.specs.Shown.{transfer-answers, receive-message, receive-shows, receive-destroyed, receive-released}
 use Rattle.model.specs.Coded.{coded, destination}
@@ -69,8 +68,8 @@ record Facts (b : State) : Type 0 where
   few : (p : ℕ) → b .given p + mostIds ≤ mostGiven
   low : LowIds b
 
-facts : (cs : List Call) → All OfBytes cs → Facts (run cs)
-facts cs o = record { holding = holding cs; stands = noted cs .stands; few = λ p. omega (arith, given-bound cs p); low = alike cs o .ids }
+facts : (cs : List Call) → Facts (run cs)
+facts cs = record { holding = holding cs; stands = noted cs .stands; few = λ p. omega (arith, given-bound cs p); low = alike cs .ids }
 
 -- What is shown does not depend on how many commands were accepted.
 give-accept : (x : State) (p s : ℕ) → give (accept x) p s ≡ accept (give x p s)
@@ -238,18 +237,18 @@ call-new b c p v = go (came b c)
     go (left e n) = rw (ne-eqb (step b c .outcome .number) 0 n) (none-new b (step b c .state) p (ap (λ (x : State). x .given p) e))
     go (done k a) = rw (answer-shows b c k p v a, a .after) (command-new b (c .frame) k v (a .unrefused) p)
 
-run-new : (before cs : List Call) (p : ℕ) → All OfBytes before → All OfBytes cs →
+run-new : (before cs : List Call) (p : ℕ) →
     build nextId (run before .given p) ++ givenFrom (run before) p cs ≡ build nextId (runFrom (run before) cs .given p)
 unfolding givenFrom runFrom
-run-new before [] p o f = append-nil (build nextId (run before .given p))
-run-new before (c ∷ cs) p o f =
+run-new before [] p = append-nil (build nextId (run before .given p))
+run-new before (c ∷ cs) p =
     let b = run before in
     let x = step b c .state in
     let new : List ℕ = newOf (holdsId b p) (shownTo p c (step b c)) in
     let e : run (before ++ (c ∷ [])) ≡ x = run-append before (c ∷ []) start in
     sym (append-assoc (build nextId (b .given p)) new (givenFrom x p cs))
-    ∙ ap (λ (l : List ℕ). l ++ givenFrom x p cs) (call-new b c p (facts before o))
-    ∙ (rw e at (run-new (before ++ (c ∷ [])) cs p (all-append OfBytes before (c ∷ []) o (f .0, tt)) (f .1)))
+    ∙ ap (λ (l : List ℕ). l ++ givenFrom x p cs) (call-new b c p (facts before))
+    ∙ (rw e at (run-new (before ++ (c ∷ [])) cs p))
 
 -- What 7, 11, 15, .. have.
 all-build : {A : Type 0} (P : A → Type 0) (f : ℕ → A) (n : ℕ) → ((j : ℕ) → j < n → P (f j)) → All P (build f n)
@@ -266,7 +265,7 @@ build-ascends f (suc n) h = (
 )
 
 pub given : Given
-given cs f p =
+given cs p =
     record {
       exactly = e;
       rising = rw e (build-ascends nextId n (λ i j l. omega arith));
@@ -277,4 +276,4 @@ given cs f p =
     n = run cs .given p
 
     e : givenFrom start p cs ≡ build nextId n
-    e = unfold start build runFrom in run-new [] cs p tt f
+    e = unfold start build runFrom in run-new [] cs p

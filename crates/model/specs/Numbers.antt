@@ -1,6 +1,7 @@
--- The numbers of document 01 that a change request may change. The peers and their slots stand in crate ids, the users and the limits of the resources in crate quota, the longest answer in crate answers.
+-- Numbers of document 01 that document 02 leaves as they are: the slots of all peers, the most commands, the invalid ID and the IDs that the bus gives. The peers and their slots stand in
+-- crate ids, the users and the limits of the resources in crate quota, the longest answer in crate answers.
 -- Assumes nothing.
-use Prim.Native.Nat.{ℕ, suc, _+_, _*_, _/_}
+use Prim.Native.Nat.{ℕ, suc, _+_, _-_, _*_, _/_, _^_}
 use mathlib.Core.Path.{_≡_, refl}
 use Rattle.frames.specs.Frame.{lastPeer, lastUser, invalidId}
 use Rattle.quota.specs.Charges.{users}
@@ -16,6 +17,9 @@ owner s = s / slots
 -- EOVERFLOW: "2^40 - 1 commands accepted already".
 abbrev pub mostCommands : ℕ
 mostCommands = 1099511627775
+
+pub most-commands : mostCommands ≡ 2 ^ 40 - 1
+most-commands = refl
 
 -- "The invalid ID is all ones."
 abbrev pub invalid : ℕ

@@ -22,7 +22,7 @@ one-number n (e ∷ q) a =
     (all-imp (λ d. stamp d ≡ n) (λ d. stamp e ≤ stamp d) (λ d z. omega arith) q (a .1), one-number n q (a .1))
 
 -- A queue in order, of numbers up to n, stays so when entries leave it and entries of the command n come behind it.
-later-order : {gone : Entry → Type 0} (n : ℕ) {q r : List Entry} → Later gone (λ e. stamp e ≡ n) q r → All (λ e. stamp e ≤ n) q → InOrder q → InOrder r
+pub later-order : {gone : Entry → Type 0} (n : ℕ) {q r : List Entry} → Later gone (λ e. stamp e ≡ n) q r → All (λ e. stamp e ≤ n) q → InOrder q → InOrder r
 later-order n (behind {r} a) b o = one-number n r a
 later-order n (stays {e} l) b o =
     let h : stamp e ≤ n = b .0 in
@@ -33,7 +33,7 @@ behind-order : (t q : List Entry) → InOrder (t ++ q) → InOrder q
 behind-order [] q o = o
 behind-order (e ∷ t) q o = behind-order t q (o .1)
 
-ordered-kept : Kept (λ b. (p : ℕ) → Ordered (b .accepted) (b .queue p))
+pub ordered-kept : Kept (λ b. (p : ℕ) → Ordered (b .accepted) (b .queue p))
 ordered-kept b f k h l e p = go (effect-count b f k) (h p)
   where
     go : Count b (effect b f k) → Ordered (b .accepted) (b .queue p) → Ordered (effect b f k .accepted) (effect b f k .queue p)

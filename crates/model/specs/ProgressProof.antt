@@ -44,7 +44,7 @@ taken-coded b p f (Quota q u) e g = rw e refl
 taken-coded b p f (Holders q i) e g = rw e refl
 
 -- What one call takes out.
-abbrev taken : State → ℕ → Call → List Entry
+abbrev pub taken : State → ℕ → Call → List Entry
 taken b p c = pick (isReceive p c (step b c)) (front (b .queue p)) []
 
 taken-refused : (b : State) (p : ℕ) (c : Call) → (step b c .outcome .number ≡ 0 → ⊥) → taken b p c ≡ []
@@ -55,14 +55,14 @@ taken-accepted b p c k a =
     let h = coded (c .frame) k (a .read) in
     rw (eq-eqb (step b c .outcome .number) 0 (a .number)) (taken-coded b p (c .frame) k (h .byte) (h .peer))
 
-call-moved : (b : State) (p : ℕ) (c : Call) → Moved b (step b c .state) p (taken b p c)
+pub call-moved : (b : State) (p : ℕ) (c : Call) → Moved b (step b c .state) p (taken b p c)
 call-moved b p c = go (came b c)
   where
     go : Came b c → Moved b (step b c .state) p (taken b p c)
     go (left e n) = rw (taken-refused b p c n, e) (later-refl (b .queue p))
     go (done k a) = rw (taken-accepted b p c k a, a .after) (moved b (c .frame) k (a .legal) (a .unrefused) p)
 
-call-accepted : (b : State) (c : Call) → b .accepted ≤ step b c .state .accepted
+pub call-accepted : (b : State) (c : Call) → b .accepted ≤ step b c .state .accepted
 call-accepted b c = go (came b c)
   where
     counted : (a : State) → Count b a → b .accepted ≤ a .accepted
@@ -73,7 +73,7 @@ call-accepted b c = go (came b c)
     go (left e n) = rw e (omega arith)
     go (done k a) = rw (a .after) (counted (effect b (c .frame) k) (effect-count b (c .frame) k))
 
-follows : (cs : List Call) (b : State) (p : ℕ) → Later (Lost b cs p) (Newer b) (b .queue p) (takenOut b p cs ++ runFrom b cs .queue p)
+pub follows : (cs : List Call) (b : State) (p : ℕ) → Later (Lost b cs p) (Newer b) (b .queue p) (takenOut b p cs ++ runFrom b cs .queue p)
 unfolding takenOut runFrom
 follows [] b p = later-refl (b .queue p)
 follows (c ∷ cs) b p =
@@ -108,7 +108,7 @@ one-taken b p f (Receive q room) e = go (look (eqb (q .0) p))
 one-taken b p f (Quota q u) e = refl
 one-taken b p f (Holders q i) e = refl
 
-call-one : (b : State) (p : ℕ) (c : Call) → length (taken b p c) ≡ pick (isReceive p c (step b c)) 1 0
+pub call-one : (b : State) (p : ℕ) (c : Call) → length (taken b p c) ≡ pick (isReceive p c (step b c)) 1 0
 call-one b p c = go (came b c)
   where
     go : Came b c → length (taken b p c) ≡ pick (isReceive p c (step b c)) 1 0

@@ -21,10 +21,10 @@ stamp (destroyed n s) = n
 stamp (released n s) = n
 
 -- A queue q became r: of the entries of q those that are not gone stand in r in their order, and behind them new ones.
-pub data Later (gone new : Entry → Type 0) : List Entry → List Entry → Type 0 where
-  behind : {r : List Entry} → All new r → Later gone new [] r
-  stays : {e : Entry} {q r : List Entry} → Later gone new q r → Later gone new (e ∷ q) (e ∷ r)
-  leaves : {e : Entry} {q r : List Entry} → gone e → Later gone new q r → Later gone new (e ∷ q) r
+pub data Later {A : Type 0} (gone new : A → Type 0) : List A → List A → Type 0 where
+  behind : {r : List A} → All new r → Later gone new [] r
+  stays : {e : A} {q r : List A} → Later gone new q r → Later gone new (e ∷ q) (e ∷ r)
+  leaves : {e : A} {q r : List A} → gone e → Later gone new q r → Later gone new (e ∷ q) r
 
 -- Why an entry leaves the queue of p unreceived, from the state b before a command to the state a after it. A message is dropped:
 -- "Queued messages for the node are still delivered, until the owner's handle is gone". A notice is withdrawn "when its holder's handle goes",
@@ -39,7 +39,7 @@ abbrev pub Next : State → Entry → Type 0
 Next b e = stamp e ≡ suc (b .accepted)
 
 -- What an accepted command takes out of the queue of p for its answer: a receive of p the first entry.
-abbrev pub front : List Entry → List Entry
+abbrev pub front : {A : Type 0} → List A → List A
 front [] = []
 front (e ∷ q) = e ∷ []
 

@@ -1,7 +1,7 @@
 -- Laws of `Later`, and what the small changes do to the queues.
 -- Assumes nothing.
 use Prim.Native.Nat.{ℕ, _+_, _<_}
-use mathlib.Core.Path.{_≡_, sym, ap, _∙_}
+use mathlib.Core.Path.{_≡_, refl, sym, ap, _∙_}
 use mathlib.Core.Bool.{Bool, true, false, not}
 use mathlib.Core.List.{List, [], _∷_, _++_, map}
 use lib.Dec.{ltb}
@@ -15,16 +15,16 @@ use Rattle.model.specs.Tables.{withQueues, withCharges}
 use Rattle.model.specs.Changes.{push, pushAll, atPeers, takeOut, notReleased, withdraw}
 use Rattle.model.specs.Queues.{Later, Later.behind, Later.stays, Later.leaves}
 
-module _ {gone new : Entry → Type 0} where
-  pub later-refl : (q : List Entry) → Later gone new q q
+module _ {A : Type 0} {gone new : A → Type 0} where
+  pub later-refl : (q : List A) → Later gone new q q
   later-refl [] = behind tt
   later-refl (e ∷ q) = stays (later-refl q)
 
-  pub later-append : (q xs : List Entry) → All new xs → Later gone new q (q ++ xs)
+  pub later-append : (q xs : List A) → All new xs → Later gone new q (q ++ xs)
   later-append [] xs a = behind a
   later-append (e ∷ q) xs a = stays (later-append q xs a)
 
-  pub later-keep : (t : Entry → Bool) → ((e : Entry) → t e ≡ false → gone e) → (q : List Entry) → Later gone new q (keep t q)
+  pub later-keep : (t : A → Bool) → ((e : A) → t e ≡ false → gone e) → (q : List A) → Later gone new q (keep t q)
   later-keep t h [] = behind tt
   later-keep t h (e ∷ q) = go (look (t e)) (later-keep t h q)
     where
@@ -32,30 +32,44 @@ module _ {gone new : Entry → Type 0} where
       go (is-true z) l = rw z (stays l)
       go (is-false z) l = rw z (leaves (h e z) l)
 
-  pub later-empty : ((e : Entry) → gone e) → (q : List Entry) → Later gone new q []
+  pub later-empty : ((e : A) → gone e) → (q : List A) → Later gone new q []
   later-empty h [] = behind tt
   later-empty h (e ∷ q) = leaves (h e) (later-empty h q)
 
   -- what every entry has, and every new one
-  pub later-all : (P : Entry → Type 0) → ((e : Entry) → new e → P e) → {q r : List Entry} → Later gone new q r → All P q → All P r
+  pub later-all : (P : A → Type 0) → ((e : A) → new e → P e) → {q r : List A} → Later gone new q r → All P q → All P r
   later-all P n (behind {r} a) h = all-imp new P n r a
   later-all P n (stays l) h = (h .0, later-all P n l (h .1))
   later-all P n (leaves g l) h = later-all P n l (h .1)
 
-  pub later-trans : {q r s : List Entry} → Later gone new q r → Later gone new r s → Later gone new q s
+  pub later-trans : {q r s : List A} → Later gone new q r → Later gone new r s → Later gone new q s
   later-trans (behind a) m = behind (later-all new (λ e h. h) m a)
   later-trans (stays l) (stays m) = stays (later-trans l m)
   later-trans (stays l) (leaves g m) = leaves g (later-trans l m)
   later-trans (leaves g l) m = leaves g (later-trans l m)
 
   -- behind entries that came out before
-  pub later-front : (t : List Entry) {q r : List Entry} → Later gone new q r → Later gone new (t ++ q) (t ++ r)
+  pub later-front : (t : List A) {q r : List A} → Later gone new q r → Later gone new (t ++ q) (t ++ r)
   later-front [] l = l
   later-front (e ∷ t) l = stays (later-front t l)
 
+  -- what leaves the queue stood in it
+  pub later-with : (P : A → Type 0) {q r : List A} → Later gone new q r → All P q → Later (λ e. P e × gone e) new q r
+  later-with P (behind a) h = behind a
+  later-with P (stays l) h = stays (later-with P l (h .1))
+  later-with P (leaves g l) h = leaves (h .0, g) (later-with P l (h .1))
+
+-- An element at some place of a list; every element is at one.
+abbrev pub In : {A : Type 0} → A → List A → Type 0
+In {A} e q = (before : List A) × (after : List A) × (q ≡ before ++ (e ∷ after))
+
+pub all-in : {A : Type 0} (q : List A) → All (λ e. In e q) q
+all-in [] = tt
+all-in (x ∷ q) = (([], q, refl), all-imp (λ e. In e q) (λ e. In e (x ∷ q)) (λ e z. (x ∷ z .0, z .1, ap (_∷_ x) (z .2))) q (all-in q))
+
 -- Weaker reasons.
-pub later-imp : {gone new far late : Entry → Type 0} → ((e : Entry) → gone e → far e) → ((e : Entry) → new e → late e) →
-    {q r : List Entry} → Later gone new q r → Later far late q r
+pub later-imp : {A : Type 0} {gone new far late : A → Type 0} → ((e : A) → gone e → far e) → ((e : A) → new e → late e) →
+    {q r : List A} → Later gone new q r → Later far late q r
 later-imp {new = new} {late = late} f g (behind {r} a) = behind (all-imp new late g r a)
 later-imp f g (stays l) = stays (later-imp f g l)
 later-imp f g (leaves x l) = leaves (f _ x) (later-imp f g l)
@@ -64,7 +78,7 @@ later-imp f g (leaves x l) = leaves (f _ x) (later-imp f g l)
 abbrev pub Each : (ℕ → Entry → Type 0) → (Entry → Type 0) → State → State → Type 0
 Each gone new x y = (q : ℕ) → Later (gone q) new (x .queue q) (y .queue q)
 
-pub map-new : {A : Type 0} (new : Entry → Type 0) (f : A → Entry) → ((s : A) → new (f s)) → (ss : List A) → All new (map f ss)
+pub map-new : {A B : Type 0} (new : B → Type 0) (f : A → B) → ((s : A) → new (f s)) → (ss : List A) → All new (map f ss)
 map-new new f h [] = tt
 map-new new f h (s ∷ ss) = (h s, map-new new f h ss)
 

@@ -32,7 +32,8 @@ ofSend n (message k m) = eqb k n
 ofSend n (destroyed k s) = false
 ofSend n (released k s) = false
 
--- "01, destination ID, sender's user (1), flag (1), nb (2), nh (1), IDs, payload".
+-- "01, destination ID, sender's user (1), flag (1), nb (2), nh (1), IDs, payload". In a run the destination ID is never the invalid one: a message stands only while its peer, the owner,
+-- holds its node (`Stands` in Notices).
 unfoldable pub showsMessage : State → ℕ → ℕ → Message → List Entry → Reply
 showsMessage b p n m rest =
     record {
@@ -50,7 +51,8 @@ showsMessage b p n m rest =
       payload = m .payload;
     }
 
--- "or 02 and an ID (node destroyed); or 03 and an ID (node released)": the peer's own ID of the node.
+-- "or 02 and an ID (node destroyed); or 03 and an ID (node released)": the peer's own ID of the node. In a run it is never the invalid one: a notice stands only while its peer holds the
+-- node. And no run reaches `[]`: a receive with nothing queued is refused with 11.
 abbrev pub shows : State → ℕ → List Entry → Reply
 shows b p [] = plain isDone
 shows b p (message n m ∷ q) = showsMessage b p n m q

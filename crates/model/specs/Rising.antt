@@ -1,20 +1,20 @@
--- The places by ascending key: each passes, no two have one key. The slots of an owner by ascending owner ID.
+-- The places by ascending key: each passes, no two have one key. Two such lists with the same elements are one. The slots of an owner by ascending owner ID.
 -- Assumes nothing.
 use Prim.Native.Nat.{ℕ, zero, suc, _+_, _*_, _≤_, _<_}
-use mathlib.Core.Path.{_≡_, ap}
+use mathlib.Core.Path.{_≡_, refl, sym, ap, ap₂}
 use mathlib.Core.Bool.{Bool, true, false}
 use mathlib.Core.List.{List, [], _∷_, map}
 use native.Mathlib.Omega.{arith}
 use lib.Dec.{eqb, ltb}
-use borrow.Author.Tests.{ltb-true, eqb-true}
-use Rattle.laws.specs.Tests.{pick, Seen, Seen.is-true, Seen.is-false, look}
+use borrow.Author.Tests.{ltb-true, eqb-true, ne-eqb}
+use Rattle.laws.specs.Tests.{pick, Seen, Seen.is-true, Seen.is-false, look, Same, Same.same, Same.other, same?, clash}
 use Rattle.laws.specs.Loads.{all-map}
 use Rattle.laws.specs.Weights.{All, all-imp}
 use Rattle.model.specs.Numbers.{slots, owner}
-use Rattle.model.specs.Lists.{both, Found, Found.nowhere, Found.at, lower, least, follow, rising}
+use Rattle.model.specs.Lists.{both, any, Found, Found.nowhere, Found.at, lower, least, follow, rising}
 use Rattle.model.specs.State.{Handle, ownerId, byOwnerId}
 use Rattle.model.specs.Notices.{times}
-use Rattle.model.specs.Occurs.{both-true, load-none}
+use Rattle.model.specs.Occurs.{both-true, all-both, load-none}
 
 -- the least place found passes and is below n
 abbrev Inside : (ℕ → Bool) → ℕ → Found → Type 0
@@ -68,7 +68,7 @@ rising-sorted t key n (suc f) = go (least t key n) (λ t′. rising-sorted t′ 
           ih t′,
         )
 
-sorted-map : (key : ℕ → ℕ) (f : ℕ → ℕ) (xs : List ℕ) → Sorted (λ k. key (f k)) xs → Sorted key (map f xs)
+pub sorted-map : (key : ℕ → ℕ) (f : ℕ → ℕ) (xs : List ℕ) → Sorted (λ k. key (f k)) xs → Sorted key (map f xs)
 sorted-map key f [] h = tt
 sorted-map key f (x ∷ xs) h = (all-map (λ j. key (f x) < key j) f xs (h .0), sorted-map key f xs (h .1))
 
@@ -87,6 +87,48 @@ sorted-once key (x ∷ xs) h s = go (look (eqb x s)) (sorted-once key xs (h .1) 
         above : (j : ℕ) → key x < key j → Seen (eqb j s) → eqb j s ≡ false
         above j l (is-false y) = y
         above j l (is-true y) = absurd (omega (arith, ap key (eqb-true j s y), ap key (eqb-true x s e)))
+
+-- what every element has, one that is in the list has
+among-all : (P : ℕ → Type 0) (z : ℕ) (xs : List ℕ) → All P xs → any (eqb z) xs ≡ true → P z
+among-all P z [] h e = clash (sym e)
+among-all P z (x ∷ xs) h e = go (look (eqb z x)) (among-all P z xs (h .1))
+  where
+    go : Seen (eqb z x) → (any (eqb z) xs ≡ true → P z) → P z
+    go (is-true y) ih = rw (eqb-true z x y) (h .0)
+    go (is-false y) ih = ih (rw y at e)
+
+-- an element that is among the rest is above the first
+sorted-above : (key : ℕ → ℕ) (x : ℕ) (xs : List ℕ) (z : ℕ) → Sorted key (x ∷ xs) → any (eqb z) (x ∷ xs) ≡ true → (z ≡ x → ⊥) → key x < key z
+sorted-above key x xs z h e n = among-all (λ j. key x < key j) z xs (h .0) (rw (ne-eqb z x n) at e)
+
+-- what is above the first of a list and in it is among its rest
+among-rest : (key : ℕ → ℕ) (x : ℕ) (xs ys : List ℕ) → All (λ z. key x < key z) xs → All (λ z. any (eqb z) (x ∷ ys) ≡ true) xs → All (λ z. any (eqb z) ys ≡ true) xs
+among-rest key x [] ys h k = tt
+among-rest key x (z ∷ xs) ys h k = (rw (ne-eqb z x (λ e. absurd (omega (arith, h .0, ap key e)))) at (k .0), among-rest key x xs ys (h .1) (k .1))
+
+-- two lists in ascending order, each element of one in the other, are one list
+pub ascending-same : (key : ℕ → ℕ) (xs ys : List ℕ) → Sorted key xs → Sorted key ys →
+    All (λ x. any (eqb x) ys ≡ true) xs → All (λ y. any (eqb y) xs ≡ true) ys → xs ≡ ys
+ascending-same key [] [] h k i j = refl
+ascending-same key [] (y ∷ ys) h k i j = clash (sym (j .0))
+ascending-same key (x ∷ xs) [] h k i j = clash (sym (i .0))
+ascending-same key (x ∷ xs) (y ∷ ys) h k i j = go (same? x y) (ascending-same key xs ys (h .1) (k .1))
+  where
+    go : Same x y → (All (λ z. any (eqb z) ys ≡ true) xs → All (λ z. any (eqb z) xs ≡ true) ys → xs ≡ ys) → x ∷ xs ≡ y ∷ ys
+    go (other n) ih = absurd (omega (arith, sorted-above key y ys x k (i .0) n, sorted-above key x xs y h (j .0) (λ e. n (sym e))))
+    go (same e) ih =
+        let a : All (λ z. any (eqb z) ys ≡ true) xs = among-rest key x xs ys (h .0) (rw (← e) at (i .1)) in
+        let b : All (λ z. any (eqb z) xs ≡ true) ys = among-rest key y ys xs (k .0) (rw e at (j .1)) in
+        ap₂ _∷_ e (ih a b)
+
+-- a key that is the same on every element
+pub sorted-same : (key key′ : ℕ → ℕ) (xs : List ℕ) → All (λ x. key x ≡ key′ x) xs → Sorted key xs → Sorted key′ xs
+sorted-same key key′ [] h k = tt
+sorted-same key key′ (x ∷ xs) h k = (
+  all-imp (λ j. (key j ≡ key′ j) × (key x < key j)) (λ j. key′ x < key′ j) (λ j z. omega (arith, z .0, z .1, h .0)) xs
+      (all-both (λ j. key j ≡ key′ j) (λ j. key x < key j) xs (h .1) (k .0)),
+  sorted-same key key′ xs (h .1) (k .1),
+)
 
 -- the slots of an owner by ascending owner ID: each passes and is the owner's; none is there twice
 pub owner-pass : (h : ℕ → ℕ → Handle) (p : ℕ) (t : ℕ → Bool) → All (λ s. (t s ≡ true) × (owner s ≡ p)) (byOwnerId h p t)

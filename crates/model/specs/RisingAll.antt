@@ -75,7 +75,7 @@ abbrev above : (ℕ → Bool) → (ℕ → ℕ) → ℕ → ℕ → Bool
 above t key i j = both (t j) (ltb (key i) (key j))
 
 -- How many places pass.
-abbrev passing : (ℕ → Bool) → ℕ → ℕ
+abbrev pub passing : (ℕ → Bool) → ℕ → ℕ
 passing t n = sumTo (λ j. pick (t j) 1 0) n
 
 sum-le : (f g : ℕ → ℕ) (n : ℕ) → ((j : ℕ) → f j ≤ g j) → sumTo f n ≤ sumTo g n
@@ -101,7 +101,7 @@ at-most-one : (a : Bool) → pick a 1 0 ≤ 1
 at-most-one true = omega arith
 at-most-one false = omega arith
 
-passing-le : (t : ℕ → Bool) (n : ℕ) → passing t n ≤ n
+pub passing-le : (t : ℕ → Bool) (n : ℕ) → passing t n ≤ n
 unfolding sumTo
 passing-le t zero = omega arith
 passing-le t (suc n) = omega (arith, at-most-one (t n), passing-le t n)
@@ -141,7 +141,7 @@ rising-all t key n (suc f) h j l e d = go (least t key n) (least-is t key n) (λ
             up (other y) = omega (arith, b .low j l e)
 
 -- The slots of an owner.
-any-map : (g : ℕ → ℕ) (k : ℕ) (xs : List ℕ) → any (eqb k) xs ≡ true → any (eqb (g k)) (map g xs) ≡ true
+pub any-map : (g : ℕ → ℕ) (k : ℕ) (xs : List ℕ) → any (eqb k) xs ≡ true → any (eqb (g k)) (map g xs) ≡ true
 any-map g k [] h = h
 any-map g k (x ∷ xs) h = go (look (eqb k x)) (any-map g k xs)
   where

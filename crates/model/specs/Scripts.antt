@@ -90,6 +90,10 @@ five =
 abbrev pub two : List (List ℕ)
 two = opening 0 0 ∷ opening 1 1 ∷ create 0 8 ∷ transfer 0 8 1 ∷ []
 
+-- A second node of peer 0, with the ID 12; the peer p, which holds the first as 7, holds it as 11.
+abbrev pub second : ℕ → List (List ℕ)
+second p = create 0 12 ∷ transfer 0 12 p ∷ []
+
 -- n empty messages from the peer p, and n times the answer 00
 abbrev pub empties : ℕ → ℕ → List (List ℕ)
 empties n p = replicate n (send p (7 ∷ []) [] [])

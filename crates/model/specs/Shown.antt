@@ -54,7 +54,7 @@ module _ (b : State) (c : Call) where
 
   module _ (p : Peer) (room : ℕ) (a : Accepted b c (Receive p room)) where
     -- Receive answers what stands first in the queue.
-    receive-bytes : (q : List Entry) → b .queue (p .0) ≡ q → answerOf (step b c) ≡ bytesOf (shows b (p .0) q)
+    pub receive-bytes : (q : List Entry) → b .queue (p .0) ≡ q → answerOf (step b c) ≡ bytesOf (shows b (p .0) q)
     unfolding reply
     receive-bytes q e = answer-bytes (Receive p room) a ∙ ap (λ (q : List Entry). bytesOf (shows b (p .0) q)) e
 

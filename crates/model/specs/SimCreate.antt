@@ -31,7 +31,7 @@ absent-list s (t ∷ ts) e =
     let r = pick-else (eqb s t) true false (λ z. clash z) e in
     (eqb-false s t (r .0), absent-list s ts (r .1))
 
-absent-message : (s : ℕ) (m : Message) → names s m ≡ false → Absent s m
+pub absent-message : (s : ℕ) (m : Message) → names s m ≡ false → Absent s m
 absent-message s m e =
     let r = pick-else (eqb s (m .to)) true false (λ z. clash z) e in
     (eqb-false s (m .to) (r .0), absent-list s (m .carried) (r .1))
@@ -42,16 +42,16 @@ absent-messages s (message n m ∷ q) a = (absent-message s m (a .0), absent-mes
 absent-messages s (destroyed n t ∷ q) a = absent-messages s q (a .1)
 absent-messages s (released n t ∷ q) a = absent-messages s q (a .1)
 
-unheld-none : (x : Handle) → held x ≡ false → x ≡ none
+pub unheld-none : (x : Handle) → held x ≡ false → x ≡ none
 unheld-none none e = refl
 unheld-none (some i c) e = clash e
 
 -- A new name for a slot that nothing names.
 module _ (name : ℕ → ℕ) (s x : ℕ) where
-  called-other : (t : ℕ) → (s ≡ t → ⊥) → called name t ≡ called (upd name s x) t
+  pub called-other : (t : ℕ) → (s ≡ t → ⊥) → called name t ≡ called (upd name s x) t
   called-other t e = rw (upd-other name s t x e)
 
-  told-other : (m : Message) → Absent s m → told name m ≡ told (upd name s x) m
+  pub told-other : (m : Message) → Absent s m → told name m ≡ told (upd name s x) m
   told-other m a =
       rw (called-other (m .to) (a .0), map-all (called name) (called (upd name s x)) (m .carried) (all-imp _ _ (λ t e. called-other t e) (m .carried) (a .1)))
 
@@ -64,7 +64,7 @@ module _ (name : ℕ → ℕ) (s x : ℕ) where
             (y .0, y .1, y .2, y .3 ∙ called-other (y .0) (λ z. some-none (sym (y .2) ∙ rw (← z) e)));
       }
 
-upd-apart : (f : ℕ → ℕ) (t x : ℕ) → ((n m : ℕ) → f n ≡ f m → n ≡ m) → ((n : ℕ) → f n ≡ x → ⊥) → (n m : ℕ) → upd f t x n ≡ upd f t x m → n ≡ m
+pub upd-apart : (f : ℕ → ℕ) (t x : ℕ) → ((n m : ℕ) → f n ≡ f m → n ≡ m) → ((n : ℕ) → f n ≡ x → ⊥) → (n m : ℕ) → upd f t x n ≡ upd f t x m → n ≡ m
 unfolding upd
 upd-apart f t x apart new n m = go (look (eqb t n)) (look (eqb t m))
   where

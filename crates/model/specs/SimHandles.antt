@@ -1,17 +1,23 @@
 -- Handles that change alike on the bus and in the book.
 -- Assumes nothing.
 use Prim.Native.Nat.{ℕ, zero, suc, _<_}
-use mathlib.Core.Path.{_≡_, sym, ap, _∙_}
+use mathlib.Core.Path.{_≡_, refl, sym, ap, _∙_}
+use mathlib.Core.Bool.{true}
 use native.Mathlib.Omega.{arith}
-use Rattle.laws.specs.Tests.{Same, Same.same, Same.other, same?}
+use Rattle.laws.specs.Tests.{clash, Same, Same.same, Same.other, same?}
 use Rattle.laws.specs.Tables.{upd, upd-same, upd-other}
 use Rattle.model.specs.Numbers.{nodes}
-use Rattle.model.specs.State.{Handle, Handle.none, Handle.some, handleOf}
+use Rattle.model.specs.State.{Handle, Handle.none, Handle.some, handleOf, held}
 use Rattle.model.specs.Book.{Node, Noted, Noted.blank, Noted.noted, notedOf}
 use Rattle.model.specs.Sim.{called, Handles}
 
 pub some-none : {B : Type 0} {i c : ℕ} → _≡_ {A = Handle} (some i c) none → B
 some-none e = let z : _≡_ {A = ℕ} 0 1 = cc in absurd (omega arith)
+
+-- A handle that is held.
+pub some-of : (x : Handle) → held x ≡ true → (i : ℕ) × (c : ℕ) × (x ≡ some i c)
+some-of none e = clash (sym e)
+some-of (some i c) e = (i, c, refl)
 
 noted-blank : {B : Type 0} {n : Node} {c : ℕ} → _≡_ {A = Noted} (noted n c) blank → B
 noted-blank e = let z : _≡_ {A = ℕ} 0 1 = cc in absurd (omega arith)

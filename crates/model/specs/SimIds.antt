@@ -24,17 +24,17 @@ use Rattle.model.specs.SimSend.{held-at-slot}
 use Rattle.model.specs.SimStep.{Ready}
 
 -- Handles and what was given stay.
-abbrev Still : State → State → Type 0
+abbrev pub Still : State → State → Type 0
 Still b a = (a .handle ≡ b .handle) × (a .given ≡ b .given)
 
 ids-still : (b a : State) → Still b a → Ids b → Ids a
 ids-still b a s ok = rw (s .0, s .1) ok
 
-still-notify : (x b : State) (s : ℕ) → Still b (notify x b s)
+pub still-notify : (x b : State) (s : ℕ) → Still b (notify x b s)
 unfolding notify withQueues
 still-notify x b s = pick-all (Still b) (fell x b s) _ b (refl, refl) (refl, refl)
 
-still-forget : (b : State) (p s : ℕ) → Still b (forget b p s)
+pub still-forget : (b : State) (p s : ℕ) → Still b (forget b p s)
 unfolding forget takeOut withCharges withQueues
 still-forget b p s = (refl, refl)
 

@@ -51,7 +51,7 @@ sim-put name b k p s i c r l one-id one-place =
     }
 
 -- Messages for a node that p owns are dropped with its handle.
-eqb-apart : (name : ℕ → ℕ) → ((s t : ℕ) → name s ≡ name t → s ≡ t) → (s t : ℕ) → eqb (name s) (name t) ≡ eqb s t
+pub eqb-apart : (name : ℕ → ℕ) → ((s t : ℕ) → name s ≡ name t → s ≡ t) → (s t : ℕ) → eqb (name s) (name t) ≡ eqb s t
 eqb-apart name apart s t = go (look (eqb s t))
   where
     go : Seen (eqb s t) → eqb (name s) (name t) ≡ eqb s t

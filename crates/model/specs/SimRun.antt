@@ -9,7 +9,6 @@ use lib.Dec.{eqb}
 use borrow.Author.Tests.{ne-eqb}
 use Rattle.laws.specs.Tests.{pick, pick-all}
 use Rattle.laws.specs.Weights.{All}
-use Rattle.laws.specs.Bytes.{num-below}
 use Rattle.frames.specs.declared.Command.{Command}
 use Rattle.frames.specs.declared.Command.the-variants.{Open, Disconnect, Create, Destroy, Release, Transfer, Send, Receive, Quota, Holders}
 use Rattle.frames.specs.Frame.{idAt}
@@ -19,7 +18,7 @@ use Rattle.model.specs.Tables.{withQueues, withCharges}
 use Rattle.model.specs.Changes.{takeOut}
 use Rattle.model.specs.Step.{Call, step, runFrom, run, answerOf}
 use Rattle.model.specs.Book.{Node, Noted, Noted.blank, Noted.noted, BookMessage, Book, empty, putHandle, raise, toReceived, toDropped, noteOpen, noteCreate, noteTransfer, noteSend, learn, noteReceive, dropFor, noteRelease, dropHandles, answeredId, answersMessage, shownIds, note, feed, feedAll}
-use Rattle.model.specs.Claim.{fed, historyFrom, bookAfter, OfBytes}
+use Rattle.model.specs.Claim.{fed, historyFrom, bookAfter}
 use Rattle.model.specs.Tested.{tested}
 use Rattle.model.specs.Accepted.{Accepted, Came, Came.left, Came.done, came, run-append}
 use Rattle.model.specs.Notices.{Carried, Stands}
@@ -29,7 +28,7 @@ use Rattle.model.specs.BoundsProof.{given-bound}
 use Rattle.model.specs.Shown.{transfer-answers, receive-message, receive-shows, receive-destroyed, receive-released}
 use Rattle.model.specs.SimHandles.{handles-none, some-none}
 use Rattle.model.specs.SimGive.{Ids, shown-small, shown-all-small}
-use Rattle.model.specs.SimStep.{ReceiveShows, Shows, Ready, World, sim-command}
+use Rattle.model.specs.SimStep.{ReceiveShows, Shows, Ready, World, renamed, sim-command}
 use Rattle.model.specs.SimIds.{Small, ids-command}
 
 -- What the relation needs to know of a run's bus.
@@ -61,7 +60,7 @@ shows-receive b c p room a r (message n m ∷ q) e =
 shows-receive b c p room a r (destroyed n s ∷ q) e = receive-destroyed b c p room a n s q e
 shows-receive b c p room a r (released n s ∷ q) e = receive-released b c p room a n s q e
 
-shows : (b : State) (c : Call) (k : Command) → Accepted b c k → Ready b → Shows b k (answerOf (step b c))
+pub shows : (b : State) (c : Call) (k : Command) → Accepted b c k → Ready b → Shows b k (answerOf (step b c))
 shows b c (Open p u) a r = tt
 shows b c (Disconnect p) a r = tt
 shows b c (Create p i) a r = tt
@@ -74,23 +73,18 @@ shows b c (Quota p u) a r = tt
 shows b c (Holders p i) a r = tt
 
 -- A chosen ID is read from 8 bytes.
-bytes-at : (f : List ℕ) → All (λ x. x < 256) f → (i : ℕ) → getD f i 0 < 256
-bytes-at [] a i = omega arith
-bytes-at (x ∷ f) a zero = a .0
-bytes-at (x ∷ f) a (suc i) = bytes-at f (a .1) i
-
-small : (c : Call) (k : Command) → OfBytes c → Fields (c .frame) k → Small k
+pub small : (c : Call) (k : Command) → Fields (c .frame) k → Small k
 unfolding idAt
-small c (Open p u) o f = tt
-small c (Disconnect p) o f = tt
-small c (Create p i) o f = rw (f .1) (num-below (c .frame) 2 8 (bytes-at (c .frame) o))
-small c (Destroy p i) o f = tt
-small c (Release p i) o f = tt
-small c (Transfer p i q) o f = tt
-small c (Send p z) o f = tt
-small c (Receive p room) o f = tt
-small c (Quota p u) o f = tt
-small c (Holders p i) o f = tt
+small c (Open p u) f = tt
+small c (Disconnect p) f = tt
+small c (Create p i) f = rw (f .1) (omega arith)
+small c (Destroy p i) f = tt
+small c (Release p i) f = tt
+small c (Transfer p i q) f = tt
+small c (Send p z) f = tt
+small c (Receive p room) f = tt
+small c (Quota p u) f = tt
+small c (Holders p i) f = tt
 
 -- The book enters at most one node with a command.
 learn-entered : (k : Book) (p : ℕ) (is : List ℕ) (ns : List Node) → learn k p is ns .entered ≡ k .entered
@@ -101,22 +95,22 @@ learn-entered k p (i ∷ is) (n ∷ ns) =
     learn-entered (pick (eqb i 18446744073709551615) k (raise k p i n)) p is ns
     ∙ pick-all (λ (x : Book). x .entered ≡ k .entered) (eqb i 18446744073709551615) k (raise k p i n) refl refl
 
-receive-entered : (k : Book) (p : ℕ) (is : List ℕ) (ms : List BookMessage) → noteReceive k p is ms .entered ≡ k .entered
+pub receive-entered : (k : Book) (p : ℕ) (is : List ℕ) (ms : List BookMessage) → noteReceive k p is ms .entered ≡ k .entered
 unfolding toReceived
 receive-entered k p is [] = refl
 receive-entered k p is (m ∷ ms) = learn-entered (toReceived k p (m ∷ []) ms) p is (m .carried)
 
-transfer-entered : (k : Book) (x : Noted) (q j : ℕ) → noteTransfer k x q j .entered ≡ k .entered
+pub transfer-entered : (k : Book) (x : Noted) (q j : ℕ) → noteTransfer k x q j .entered ≡ k .entered
 unfolding putHandle
 transfer-entered k blank q j = refl
 transfer-entered k (noted n c) q j = refl
 
-release-entered : (k : Book) (p i : ℕ) (x : Noted) → noteRelease k p i x .entered ≡ k .entered
+pub release-entered : (k : Book) (p i : ℕ) (x : Noted) → noteRelease k p i x .entered ≡ k .entered
 unfolding putHandle dropFor toDropped
 release-entered k p i blank = refl
 release-entered k p i (noted n c) = pick-all (λ (x : Book). x .entered ≡ k .entered) (eqb c 1) _ _ refl refl
 
-note-entered : (k : Book) (f a : List ℕ) (c : Command) → note k f a c .entered ≤ suc (k .entered)
+pub note-entered : (k : Book) (f a : List ℕ) (c : Command) → note k f a c .entered ≤ suc (k .entered)
 unfolding note noteOpen noteCreate noteSend toDropped dropHandles
 note-entered k f a (Open p u) = omega arith
 note-entered k f a (Disconnect p) = omega arith
@@ -137,10 +131,10 @@ pub record Alike (N : ℕ) (b : State) (k : Book) : Type 0 where
   pub ids : Ids b
 
 -- One call.
-alike-step : {N : ℕ} (cs : List Call) (c : Call) (k : Book) → OfBytes c → Alike N (run cs) k → k .entered < N →
+alike-step : {N : ℕ} (cs : List Call) (c : Call) (k : Book) → Alike N (run cs) k → k .entered < N →
     Alike N (step (run cs) c .state) (feed k (fed c (step (run cs) c))) × (feed k (fed c (step (run cs) c)) .entered ≤ suc (k .entered))
 unfolding feed
-alike-step {N} cs c k o w more = go (came (run cs) c)
+alike-step {N} cs c k w more = go (came (run cs) c)
   where
     go : Came (run cs) c → Alike N (step (run cs) c .state) (feed k (fed c (step (run cs) c))) × (feed k (fed c (step (run cs) c)) .entered ≤ suc (k .entered))
     go (left e n) = rw (e, ne-eqb (step (run cs) c .outcome .number) 0 n) (w, omega arith)
@@ -150,21 +144,21 @@ alike-step {N} cs c k o w more = go (came (run cs) c)
         let s = shows (run cs) c d a r in
         rw (a .after, a .number, a .read) (
           record {
-            world = sim-command (run cs) (c .frame) d k (answerOf (step (run cs) c)) (w .world) r (a .legal) t s more;
-            ids = ids-command (run cs) (c .frame) d r (a .legal) t (small c d o (fields-command (c .frame) d (a .read)));
+            world = record { name = renamed (w .world .name) (run cs) k d; sim = sim-command (w .world .name) (run cs) (c .frame) d k (answerOf (step (run cs) c)) (w .world .sim) r (a .legal) t s more };
+            ids = ids-command (run cs) (c .frame) d r (a .legal) t (small c d (fields-command (c .frame) d (a .read)));
           },
           note-entered k (c .frame) (answerOf (step (run cs) c)) d,
         )
 
 -- Any further calls.
-alike-run : {N : ℕ} (cs ds : List Call) (k : Book) → All OfBytes ds → Alike N (run cs) k → k .entered + length ds ≤ N →
+alike-run : {N : ℕ} (cs ds : List Call) (k : Book) → Alike N (run cs) k → k .entered + length ds ≤ N →
     Alike N (runFrom (run cs) ds) (feedAll k (historyFrom (run cs) ds))
 unfolding runFrom feedAll historyFrom
-alike-run cs [] k o w more = w
-alike-run {N} cs (c ∷ ds) k o w more =
-    let x = alike-step cs c k (o .0) w (omega arith) in
+alike-run cs [] k w more = w
+alike-run {N} cs (c ∷ ds) k w more =
+    let x = alike-step cs c k w (omega arith) in
     let e : run (cs ++ (c ∷ [])) ≡ step (run cs) c .state = run-append cs (c ∷ []) start in
-    rw e at (alike-run {N = N} (cs ++ (c ∷ [])) ds (feed k (fed c (step (run cs) c))) (o .1) (rw e (x .0)) (omega (arith, x .1)))
+    rw e at (alike-run {N = N} (cs ++ (c ∷ [])) ds (feed k (fed c (step (run cs) c))) (rw e (x .0)) (omega (arith, x .1)))
 
 alike-start : (N : ℕ) → Alike N start empty
 unfolding start empty
@@ -186,6 +180,6 @@ alike-start N =
       ids = λ p s i c e. some-none (sym e);
     }
 
-pub alike : (cs : List Call) → All OfBytes cs → Alike (length cs) (run cs) (bookAfter cs)
+pub alike : (cs : List Call) → Alike (length cs) (run cs) (bookAfter cs)
 unfolding runFrom
-alike cs o = alike-run [] cs empty o (alike-start (length cs)) (unfold empty in omega arith)
+alike cs = alike-run [] cs empty (alike-start (length cs)) (unfold empty in omega arith)

@@ -62,6 +62,19 @@ pub record World (N : ℕ) (b : State) (k : Book) : Type 0 where
   pub name : ℕ → ℕ
   pub sim : Sim N name b k
 
+-- The names after a command: create gives the slot that it takes the book's next number.
+abbrev pub renamed : (ℕ → ℕ) → State → Book → Command → ℕ → ℕ
+renamed name b k (Create p i) = upd name (p .0 * slots + freePlace (accept b) (p .0)) (k .entered)
+renamed name b k (Open p u) = name
+renamed name b k (Disconnect p) = name
+renamed name b k (Destroy p i) = name
+renamed name b k (Release p i) = name
+renamed name b k (Transfer p i q) = name
+renamed name b k (Send p z) = name
+renamed name b k (Receive p room) = name
+renamed name b k (Quota p u) = name
+renamed name b k (Holders p i) = name
+
 -- The number of accepted commands shows in nothing that a peer is given.
 give-accept : (b : State) (p s : ℕ) → give (accept b) p s ≡ accept (give b p s)
 unfolding give accept shown withdraw withGiven withHandles withQueues
@@ -71,11 +84,11 @@ give-accept b p s = go (look (isLive (b .life s)))
     go (is-true e) = rw e
     go (is-false e) = rw e
 
-gives-accept : (b : State) (p : ℕ) (ss : List ℕ) → giveAll (accept b) p ss ≡ accept (giveAll b p ss)
+pub gives-accept : (b : State) (p : ℕ) (ss : List ℕ) → giveAll (accept b) p ss ≡ accept (giveAll b p ss)
 gives-accept b p [] = refl
 gives-accept b p (s ∷ ss) = ap (λ (x : State). giveAll x p ss) (give-accept b p s) ∙ gives-accept (give b p s) p ss
 
-out-accept : (b : State) (p : ℕ) (ms : List Message) (q : List Entry) → takeOut (accept b) p ms q ≡ accept (takeOut b p ms q)
+pub out-accept : (b : State) (p : ℕ) (ms : List Message) (q : List Entry) → takeOut (accept b) p ms q ≡ accept (takeOut b p ms q)
 unfolding takeOut accept withCharges withQueues
 out-accept b p ms q = refl
 
@@ -125,43 +138,34 @@ unnamed-accept : (b : State) (s : ℕ) → Unnamed b s → Unnamed (accept b) s
 unfolding accept
 unnamed-accept b s u = record { dead = u .dead; unheld = u .unheld; unqueued = u .unqueued }
 
+-- The slot that create takes is named by nothing.
+pub taken-unnamed : (b : State) (p : ℕ) → Ready b → freePlace b p < slots → (freePlace (accept b) p < slots) × Unnamed (accept b) (p * slots + freePlace (accept b) p)
+taken-unnamed b p ready l =
+    let e : freePlace (accept b) p ≡ freePlace b p = unfold accept freePlace counts in refl in
+    (rw e l, rw e (unnamed-accept b _ (ready .free _ (place-free b p l))))
+
 -- An accepted command: bus and book go on alike.
-pub sim-command : {N : ℕ} (b : State) (f : List ℕ) (c : Command) (k : Book) (a : List ℕ) → World N b k → Ready b → Legal f c → Tested b f c → Shows b c a → k .entered < N →
-    World N (effect b f c) (note k f a c)
+pub sim-command : {N : ℕ} (name : ℕ → ℕ) (b : State) (f : List ℕ) (c : Command) (k : Book) (a : List ℕ) → Sim N name b k → Ready b → Legal f c → Tested b f c → Shows b c a → k .entered < N →
+    Sim N (renamed name b k c) (effect b f c) (note k f a c)
 unfolding effect note
-sim-command b f (Open p u) k a w ready legal tested shows more = record { name = w .name; sim = sim-open (w .name) (accept b) k (p .0) (u .0) (sim-accept b (w .sim)) }
-sim-command b f (Disconnect p) k a w ready legal tested shows more =
-    record { name = w .name; sim = sim-disconnect (w .name) (accept b) k (p .0) (sim-accept b (w .sim)) }
-sim-command b f (Create p i) k a w ready legal tested shows more =
-    let e : freePlace (accept b) (p .0) ≡ freePlace b (p .0) = unfold accept freePlace counts in refl in
-    let l : freePlace (accept b) (p .0) < slots = rw e (tested .free) in
-    let u : Unnamed (accept b) (p .0 * slots + freePlace (accept b) (p .0)) = rw e (unnamed-accept b _ (ready .free _ (place-free b (p .0) (tested .free)))) in
-    record {
-      name = upd (w .name) (p .0 * slots + freePlace (accept b) (p .0)) (k .entered);
-      sim = sim-create (w .name) (accept b) k (p .0) (i .0) (sim-accept b (w .sim)) (omega (arith, legal .0)) l u (unfold accept in tested .unheld) more;
-    }
-sim-command b f (Destroy p i) k a w ready legal tested shows more =
-    record { name = w .name; sim = sim-destroy (accept b) (p .0) (slot b (p .0) (i .0)) (sim-accept b (w .sim)) }
-sim-command b f (Release p i) k a w ready legal tested shows more =
+sim-command name b f (Open p u) k a w ready legal tested shows more = sim-open name (accept b) k (p .0) (u .0) (sim-accept b w)
+sim-command name b f (Disconnect p) k a w ready legal tested shows more = sim-disconnect name (accept b) k (p .0) (sim-accept b w)
+sim-command name b f (Create p i) k a w ready legal tested shows more =
+    let x = taken-unnamed b (p .0) ready (tested .free) in
+    sim-create name (accept b) k (p .0) (i .0) (sim-accept b w) (omega (arith, legal .0, x .0)) (x .0) (x .1) (unfold accept in tested .unheld) more
+sim-command name b f (Destroy p i) k a w ready legal tested shows more = sim-destroy (accept b) (p .0) (slot b (p .0) (i .0)) (sim-accept b w)
+sim-command name b f (Release p i) k a w ready legal tested shows more =
     let x = held-at-slot b (p .0) (i .0) (tested .holds) in
-    record {
-      name = w .name;
-      sim = rw (x .1) (sim-release (w .name) (accept b) k (p .0) (slot b (p .0) (i .0)) (i .0) (x .0) (sim-accept b (w .sim)) (tested .holds) (unfold accept in x .1));
-    }
-sim-command b f (Transfer p i q) k a w ready legal tested shows more =
+    rw (x .1) (sim-release name (accept b) k (p .0) (slot b (p .0) (i .0)) (i .0) (x .0) (sim-accept b w) (tested .holds) (unfold accept in x .1))
+sim-command name b f (Transfer p i q) k a w ready legal tested shows more =
     let s = slot b (p .0) (i .0) in
-    let y = noted-at-slot (w .name) b k (w .sim) (p .0) (i .0) (tested .holds) in
-    let v : shown b (q .0) s ≡ invalid → ⊥ = shown-valid (w .name) b k (q .0) s (w .sim) (ready .ids) (tested .holds) (omega (arith, ready .few (q .0))) (tested .lives) in
-    let g = sim-give (w .name) b k (q .0) s (w .sim) (ready .ids) (tested .holds) (omega (arith, ready .few (q .0))) in
-    record { name = w .name; sim = rw (y .1, shows, give-accept b (q .0) s) (sim-accept (give b (q .0) s) (rw (ne-eqb (shown b (q .0) s) invalid v) at g)) }
-sim-command b f (Send p z) k a w ready legal tested shows more =
-    record {
-      name = w .name;
-      sim =
-          sim-send (w .name) b (accept b) k (p .0) (destinations f z) (attached f z) (payloadOf f) z (w .sim) (sim-accept b (w .sim)) (tested .holds) (tested .holds-attached)
-          (payload-length f z (legal .1)) (build-length (λ j. sendId f (z .nd + j) .0) (z .nh));
-    }
-sim-command b f (Receive p room) k a w ready legal tested shows more =
-    record { name = w .name; sim = sim-receives (w .name) b k (p .0) (b .queue (p .0)) a (w .sim) ready refl shows }
-sim-command b f (Quota p u) k a w ready legal tested shows more = w
-sim-command b f (Holders p i) k a w ready legal tested shows more = w
+    let y = noted-at-slot name b k w (p .0) (i .0) (tested .holds) in
+    let v : shown b (q .0) s ≡ invalid → ⊥ = shown-valid name b k (q .0) s w (ready .ids) (tested .holds) (omega (arith, ready .few (q .0))) (tested .lives) in
+    let g = sim-give name b k (q .0) s w (ready .ids) (tested .holds) (omega (arith, ready .few (q .0))) in
+    rw (y .1, shows, give-accept b (q .0) s) (sim-accept (give b (q .0) s) (rw (ne-eqb (shown b (q .0) s) invalid v) at g))
+sim-command name b f (Send p z) k a w ready legal tested shows more =
+    sim-send name b (accept b) k (p .0) (destinations f z) (attached f z) (payloadOf f) z w (sim-accept b w) (tested .holds) (tested .holds-attached)
+    (payload-length f z (legal .1)) (build-length (λ j. sendId f (z .nd + j) .0) (z .nh))
+sim-command name b f (Receive p room) k a w ready legal tested shows more = sim-receives name b k (p .0) (b .queue (p .0)) a w ready refl shows
+sim-command name b f (Quota p u) k a w ready legal tested shows more = w
+sim-command name b f (Holders p i) k a w ready legal tested shows more = w

@@ -20,7 +20,7 @@ use Rattle.model.specs.Tables.{withStatus, withUser, withGiven, withHand
 use Rattle.model.specs.Changes.{pushAll, takeOut, withdraw, shown, give, forget, fell, notify, arriving, deliver}
 use Rattle.model.specs.Effects.{opens, creates, releases, effect}
 use Rattle.model.specs.Replies.{showsMessage, reply}
-use Rattle.model.specs.Scripts.{opening, create, release, send, receive, transfer, quota, number, gives, queuedAndLeft, takes, Row, Row.played, Row.ruled, computed, expected, five, two, empties, done}
+use Rattle.model.specs.Scripts.{opening, create, release, send, receive, transfer, quota, number, gives, queuedAndLeft, takes, Row, Row.played, Row.ruled, computed, expected, five, two, second, empties, done}
 use Rattle.model.specs.Step.{carryOut, finish, step, answersFrom}
 
 -- "M1 user 0 alone: 32nd message in, 33rd 122. M2 then user 1: 16 in, 17th 122. M3 user 2: 8 in, 9th 122. M4 user 3: 4 in, 5th 122."
@@ -41,12 +41,12 @@ M6 =
     played (two ++ (replicate 4 (send 1 (7 ∷ []) [] (replicate 512 51)) ++ (send 1 (7 ∷ []) [] (51 ∷ []) ∷ send 1 (7 ∷ []) [] [] ∷ [])))
     (done 4 ++ (number 122 ∷ number 0 ∷ []))
 
--- "M7 alone with 30 queued, two destinations at one peer: accepted; with 31: 122 and none queued."
+-- "M7 alone with 30 queued, two destinations at one peer: accepted; with 31: 122 and none queued." Two nodes of that peer.
 abbrev pub M7-30 : Row
-M7-30 = played (two ++ (empties 30 1 ++ (send 1 (7 ∷ 7 ∷ []) [] [] ∷ quota 0 1 ∷ []))) (number 0 ∷ queuedAndLeft 32 0 0 0 2048 32 ∷ [])
+M7-30 = played (two ++ (second 1 ++ (empties 30 1 ++ (send 1 (7 ∷ 11 ∷ []) [] [] ∷ quota 0 1 ∷ [])))) (number 0 ∷ queuedAndLeft 32 0 0 0 2048 32 ∷ [])
 
 abbrev pub M7-31 : Row
-M7-31 = played (two ++ (empties 31 1 ++ (send 1 (7 ∷ 7 ∷ []) [] [] ∷ quota 0 1 ∷ []))) (number 122 ∷ queuedAndLeft 31 0 0 1 2048 32 ∷ [])
+M7-31 = played (two ++ (second 1 ++ (empties 31 1 ++ (send 1 (7 ∷ 11 ∷ []) [] [] ∷ quota 0 1 ∷ [])))) (number 122 ∷ queuedAndLeft 31 0 0 1 2048 32 ∷ [])
 
 -- "M8 limit 1,024, others 512, own 128: left 128 (example of 004, in kB)."
 abbrev pub M8 : Row

@@ -14,7 +14,7 @@ use Rattle.model.specs.Changes.{push, pushAll, takeOut, withdraw, give, 
 use Rattle.model.specs.Effects.{opens, creates, destroys, releases, releasesHandle, disconnects, receives, effect}
 
 -- A handle that is given leaves the number of commands.
-give-accepted : (x : State) (p s : ℕ) → give x p s .accepted ≡ x .accepted
+pub give-accepted : (x : State) (p s : ℕ) → give x p s .accepted ≡ x .accepted
 unfolding give withdraw withHandles withGiven withQueues
 give-accepted x p s = go (look (isLive (x .life s)))
   where
@@ -43,7 +43,7 @@ pub data Count (b a : State) : Type 0 where
   one-more : a .accepted ≡ suc (b .accepted) → Count b a
   nothing : a ≡ b → Count b a
 
-release-count : (b : State) (p s : ℕ) (h : Handle) → releasesHandle (accept b) p s h .accepted ≡ suc (b .accepted)
+pub release-count : (b : State) (p s : ℕ) (h : Handle) → releasesHandle (accept b) p s h .accepted ≡ suc (b .accepted)
 unfolding releases accept
 release-count b p s none = refl
 release-count b p s (some i c) =
@@ -52,7 +52,7 @@ release-count b p s (some i c) =
     notify-apart (accept b) x s .accepted
     ∙ pick-all (λ y. y .accepted ≡ suc (b .accepted)) (eqb c 1) (forget less p s) less (unfold forget takeOut withCharges withQueues withHandles in refl) (unfold withHandles in refl)
 
-receive-count : (b : State) (p : ℕ) (q : List Entry) → receives (accept b) p q .accepted ≡ suc (b .accepted)
+pub receive-count : (b : State) (p : ℕ) (q : List Entry) → receives (accept b) p q .accepted ≡ suc (b .accepted)
 unfolding accept takeOut withCharges withQueues
 receive-count b p [] = refl
 receive-count b p (message n m ∷ q) = gives-accepted (takeOut (accept b) p (m ∷ []) q) p (m .carried)

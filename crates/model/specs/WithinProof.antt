@@ -50,7 +50,7 @@ held-some : (h : Handle) → held h ≡ true → (i : ℕ) × (c : ℕ) × (h �
 held-some none e = clash (sym e)
 held-some (some i c) e = (i, c, refl)
 
-live-apart : (b : State) (p r s : ℕ) → Holding b → owner r ≡ p → owner s ≡ p → Lives b r → Lives b s → ownerId (b .handle) r ≡ ownerId (b .handle) s → r ≡ s
+pub live-apart : (b : State) (p r s : ℕ) → Holding b → owner r ≡ p → owner s ≡ p → Lives b r → Lives b s → ownerId (b .handle) r ≡ ownerId (b .handle) s → r ≡ s
 live-apart b p r s v o k l m e =
     let x = held-some (b .handle p r) (rw o at (v .owned r l)) in
     let y = held-some (b .handle p s) (rw k at (v .owned s m)) in

@@ -10,7 +10,7 @@ use lib.ListN.{length, replicate}
 use lib.Dec.{eqb}
 use borrow.Author.Tests.{ne-eqb}
 use Rattle.laws.specs.Tables.{upd}
-use Rattle.laws.specs.Weights.{keep}
+use Rattle.laws.specs.Weights.{keep, All}
 use Rattle.laws.specs.Sums.{sumTo}
 use Rattle.laws.specs.Build.{build}
 use Rattle.laws.specs.Search.{first}
@@ -29,7 +29,7 @@ use Rattle.model.specs.Replies.{showsMessage, reply}
 use Rattle.model.specs.Step.{Call, carryOut, finish, step, runFrom, run, answersFrom}
 use Rattle.model.specs.Book.{Node, ownedBy, nodesOf, empty, putHandle, noteOpen, noteCreate, incoming, noteSend, note, feed, feedAll, goesTo, wouldLeave}
 use Rattle.model.specs.Claim.{historyFrom, bookAfter}
-use Rattle.model.specs.Scripts.{send, receive, number, gives, takes, calls, five, two, empties, done}
+use Rattle.model.specs.Scripts.{send, receive, number, gives, takes, calls, five, two, second, empties, done}
 
 -- Of the frame f after the frames fs: to how many of its destinations it goes at each peer, by the book; what it would leave at peer 0, in messages, bytes and handles; and the
 -- number that comes back.
@@ -65,10 +65,10 @@ abbrev pub atTwo : List ℕ
 atTwo = 2 ∷ 0 ∷ 0 ∷ 0 ∷ 0 ∷ 0 ∷ 0 ∷ 0 ∷ []
 
 pub record Shares : Type 0 where
-  -- user 3 has 3 messages there and sends one, or has 2 and sends to two destinations: 4; with 3 and two destinations 5
+  -- user 3 has 3 messages there and sends one, or has 2 and sends to two nodes: 4; with 3 and two nodes 5
   pub fourth : next (worst ++ empties 3 4) (send 4 (7 ∷ []) [] []) ≡ record { goes = atOne; leaves = 4 ∷ 0 ∷ 0 ∷ []; answered = 0 }
-  pub two-at-once : next (worst ++ empties 2 4) (send 4 (7 ∷ 7 ∷ []) [] []) ≡ record { goes = atTwo; leaves = 4 ∷ 0 ∷ 0 ∷ []; answered = 0 }
-  pub fifth : next (worst ++ empties 3 4) (send 4 (7 ∷ 7 ∷ []) [] []) ≡ record { goes = atTwo; leaves = 5 ∷ 0 ∷ 0 ∷ []; answered = 122 }
+  pub two-at-once : next (worst ++ (second 4 ++ empties 2 4)) (send 4 (7 ∷ 11 ∷ []) [] []) ≡ record { goes = atTwo; leaves = 4 ∷ 0 ∷ 0 ∷ []; answered = 0 }
+  pub fifth : next (worst ++ (second 4 ++ empties 3 4)) (send 4 (7 ∷ 11 ∷ []) [] []) ≡ record { goes = atTwo; leaves = 5 ∷ 0 ∷ 0 ∷ []; answered = 122 }
   -- 256 bytes and 257
   pub bytes-256 : next worstBytes (send 4 (7 ∷ []) [] (replicate 256 51)) ≡ record { goes = atOne; leaves = 1 ∷ 256 ∷ 0 ∷ []; answered = 0 }
   pub bytes-257 : next worstBytes (send 4 (7 ∷ []) [] (replicate 257 51)) ≡ record { goes = atOne; leaves = 1 ∷ 257 ∷ 0 ∷ []; answered = 122 }
@@ -88,44 +88,41 @@ Shared fs f = (q : ℕ) (r : Resource) → 0 < goesTo (bookAfter (calls fs)) f q
 at-most : (n m l : ℕ) → n ≡ m → m ≤ l → n ≤ l
 at-most n m l e h = omega arith
 
--- The node of peer 0, the first that was entered; where a send has no other destination, it goes to no other peer.
-abbrev eight : Node
-eight = record { owner = 0; number = 0 }
+-- Where a send has no destination but nodes of peer 0, it goes to no other peer.
+none-else : (ns : List Node) → All (λ n. n .owner ≡ 0) ns → (q : ℕ) → length (keep (ownedBy (suc q)) ns) ≡ 0
+none-else [] a q = refl
+none-else (n ∷ ns) a q = let e : eqb 0 (suc q) ≡ false = ne-eqb 0 (suc q) (λ z. omega arith) in rw (a .0, e) (none-else ns (a .1) q)
 
-none-else : (n q : ℕ) → length (keep (ownedBy (suc q)) (replicate n eight)) ≡ 0
-none-else zero q = refl
-none-else (suc n) q = let e : eqb 0 (suc q) ≡ false = ne-eqb 0 (suc q) (λ z. omega arith) in rw e (none-else n q)
-
-nowhere-else : (ns : List Node) (n q : ℕ) → ns ≡ replicate n eight → 0 < length (keep (ownedBy (suc q)) ns) → ⊥
-nowhere-else ns n q e h = let z : length (keep (ownedBy (suc q)) ns) ≡ 0 = rw e (none-else n q) in omega arith
+nowhere-else : (ns : List Node) → All (λ n. n .owner ≡ 0) ns → (q : ℕ) → 0 < length (keep (ownedBy (suc q)) ns) → ⊥
+nowhere-else ns a q h = let z = none-else ns a q in omega arith
 
 pub shared-fourth : Shared (worst ++ empties 3 4) (send 4 (7 ∷ []) [] [])
 unfolding upd sumTo build first be numAt idAt shortAt parseSizes parseSend frameLength parseOpen parseCreate parseTransfer parseQuota parseRest parseOther parse sendId payloadOf othersAll allowsAll balanceOf idBytes headerBytes messageBytes noticeBytes receivedBytes chargeBytes balanceBytes holderBytes contentsOf answerBytes answerAfter outcomeOf start slotOf total heldByAny named counts freePlace placesAt fits refusesOpen refusesCreate refusesTransfer refusesSend refusesReceive refusal withStatus withUser withGiven withHandles withQueues withCharges withLives accept pushAll takeOut withdraw shown give arriving deliver opens creates effect showsMessage reply carryOut finish step runFrom empty putHandle noteOpen noteCreate incoming noteSend note feed feedAll goesTo wouldLeave historyFrom
 shared-fourth zero messages h = at-most _ 4 4 refl (omega arith)
 shared-fourth zero bytes h = at-most _ 0 256 refl (omega arith)
 shared-fourth zero handles h = at-most _ 0 4 refl (omega arith)
-shared-fourth (suc q) r h = absurd (nowhere-else (nodesOf (bookAfter (calls (worst ++ empties 3 4))) 4 (7 ∷ [])) 1 q refl h)
+shared-fourth (suc q) r h = absurd (nowhere-else (nodesOf (bookAfter (calls (worst ++ empties 3 4))) 4 (7 ∷ [])) (refl, tt) q h)
 
-pub shared-two-at-once : Shared (worst ++ empties 2 4) (send 4 (7 ∷ 7 ∷ []) [] [])
+pub shared-two-at-once : Shared (worst ++ (second 4 ++ empties 2 4)) (send 4 (7 ∷ 11 ∷ []) [] [])
 unfolding upd sumTo build first be numAt idAt shortAt parseSizes parseSend frameLength parseOpen parseCreate parseTransfer parseQuota parseRest parseOther parse sendId payloadOf othersAll allowsAll balanceOf idBytes headerBytes messageBytes noticeBytes receivedBytes chargeBytes balanceBytes holderBytes contentsOf answerBytes answerAfter outcomeOf start slotOf total heldByAny named counts freePlace placesAt fits refusesOpen refusesCreate refusesTransfer refusesSend refusesReceive refusal withStatus withUser withGiven withHandles withQueues withCharges withLives accept pushAll takeOut withdraw shown give arriving deliver opens creates effect showsMessage reply carryOut finish step runFrom empty putHandle noteOpen noteCreate incoming noteSend note feed feedAll goesTo wouldLeave historyFrom
 shared-two-at-once zero messages h = at-most _ 4 4 refl (omega arith)
 shared-two-at-once zero bytes h = at-most _ 0 256 refl (omega arith)
 shared-two-at-once zero handles h = at-most _ 0 4 refl (omega arith)
-shared-two-at-once (suc q) r h = absurd (nowhere-else (nodesOf (bookAfter (calls (worst ++ empties 2 4))) 4 (7 ∷ 7 ∷ [])) 2 q refl h)
+shared-two-at-once (suc q) r h = absurd (nowhere-else (nodesOf (bookAfter (calls (worst ++ (second 4 ++ empties 2 4)))) 4 (7 ∷ 11 ∷ [])) (refl, (refl, tt)) q h)
 
 pub shared-bytes : Shared worstBytes (send 4 (7 ∷ []) [] (replicate 256 51))
 unfolding upd sumTo build first be numAt idAt shortAt parseSizes parseSend frameLength parseOpen parseCreate parseTransfer parseQuota parseRest parseOther parse sendId payloadOf othersAll allowsAll balanceOf idBytes headerBytes messageBytes noticeBytes receivedBytes chargeBytes balanceBytes holderBytes contentsOf answerBytes answerAfter outcomeOf start slotOf total heldByAny named counts freePlace placesAt fits refusesOpen refusesCreate refusesTransfer refusesSend refusesReceive refusal withStatus withUser withGiven withHandles withQueues withCharges withLives accept pushAll takeOut withdraw shown give arriving deliver opens creates effect showsMessage reply carryOut finish step runFrom empty putHandle noteOpen noteCreate incoming noteSend note feed feedAll goesTo wouldLeave historyFrom
 shared-bytes zero messages h = at-most _ 1 4 refl (omega arith)
 shared-bytes zero bytes h = at-most _ 256 256 refl (omega arith)
 shared-bytes zero handles h = at-most _ 0 4 refl (omega arith)
-shared-bytes (suc q) r h = absurd (nowhere-else (nodesOf (bookAfter (calls worstBytes)) 4 (7 ∷ [])) 1 q refl h)
+shared-bytes (suc q) r h = absurd (nowhere-else (nodesOf (bookAfter (calls worstBytes)) 4 (7 ∷ [])) (refl, tt) q h)
 
 pub shared-handles : Shared worstHandles (send 4 (7 ∷ []) (replicate 4 7) [])
 unfolding upd sumTo build first be numAt idAt shortAt parseSizes parseSend frameLength parseOpen parseCreate parseTransfer parseQuota parseRest parseOther parse sendId payloadOf othersAll allowsAll balanceOf idBytes headerBytes messageBytes noticeBytes receivedBytes chargeBytes balanceBytes holderBytes contentsOf answerBytes answerAfter outcomeOf start slotOf total heldByAny named counts freePlace placesAt fits refusesOpen refusesCreate refusesTransfer refusesSend refusesReceive refusal withStatus withUser withGiven withHandles withQueues withCharges withLives accept pushAll takeOut withdraw shown give arriving deliver opens creates effect showsMessage reply carryOut finish step runFrom empty putHandle noteOpen noteCreate incoming noteSend note feed feedAll goesTo wouldLeave historyFrom
 shared-handles zero messages h = at-most _ 1 4 refl (omega arith)
 shared-handles zero bytes h = at-most _ 0 256 refl (omega arith)
 shared-handles zero handles h = at-most _ 4 4 refl (omega arith)
-shared-handles (suc q) r h = absurd (nowhere-else (nodesOf (bookAfter (calls worstHandles)) 4 (7 ∷ [])) 1 q refl h)
+shared-handles (suc q) r h = absurd (nowhere-else (nodesOf (bookAfter (calls worstHandles)) 4 (7 ∷ [])) (refl, tt) q h)
 
 -- "answer buffer under 591 bytes (nothing is written, the number is returned)", in the middle of a run: a send with 590 bytes returns 22 and the length 0, writes nothing, and the
 -- commands after it go on as if it had not been: peer 0 has nothing queued, and the same send then comes through.

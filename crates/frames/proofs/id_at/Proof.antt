@@ -1,5 +1,8 @@
 -- `frames::id_at` meets its contract: two numbers of four bytes, the first times 2^32. Assumes nothing.
-use Rattle.laws.specs.Bytes.{num-eight}
+use Prim.Native.Nat.{_%_, _^_}
+use mathlib.Core.Path.{_≡_}
+use native.Mathlib.Omega.{arith}
+use Rattle.laws.specs.Bytes.{numAt, num-eight}
 use Rattle.frames.specs.Frame.{idAt}
 use borrow.Author.Needs.{needs}
 use Rattle.frames.proofs.id_at.Statement.{statement}
@@ -22,7 +25,13 @@ add-t7 c = search needs
 
 returns : tie.Need-returns
 unfolding idAt
-returns c = rw (num-eight ((c .before .before .before .args) .f .now) ((c .before .before .before .args) .at), ← (c .before .quad-at) .ensures .0, ← (c .quad-at2) .ensures .0)
+returns c =
+    let a = c .before .before .before .args in
+    let eight = num-eight (a .f .now) (a .at) in
+    let high = (c .before .quad-at) .ensures in
+    let low = (c .quad-at2) .ensures in
+    let small : numAt (a .f .now) (a .at) 8 % 256 ^ 8 ≡ numAt (a .f .now) (a .at) 8 = omega (arith, eight, high .0, high .1, low .0, low .1) in
+    rw (small, eight, ← high .0, ← low .0)
 
 pub id-at-spec : {M : Type 1} → statement M
 id-at-spec =

@@ -1,0 +1,256 @@
+-- How the queues of the ledger change by one accepted command: the items of a queue stay in their order, some leave it for the reasons of document 01, a receive of its peer takes the first,
+-- and new ones, with the command's number, come behind.
+-- Assumes nothing.
+use Prim.Native.Nat.{ℕ, suc, _≤_, _<_}
+use mathlib.Core.Path.{_≡_, refl, sym, ap, subst, _∙_}
+use mathlib.Core.Bool.{Bool, true, false, not}
+use mathlib.Core.Logic._⊎_.{inl, inr}
+use mathlib.Core.List.{List, [], _∷_, _++_, map}
+use native.Mathlib.Omega.{arith}
+use lib.Dec.{eqb, ltb}
+use borrow.Author.Tests.{eqb-true, eq-eqb, ne-eqb}
+use Rattle.laws.specs.Tests.{pick, pick-all, pick-cases, Seen, Seen.is-true, Seen.is-false, look, clash, Same, Same.same, Same.other, same?}
+use Rattle.laws.specs.Tables.{upd, upd-same, upd-other, upd-all}
+use Rattle.laws.specs.Weights.{All, all-append, keep}
+use Rattle.frames.specs.declared.Command.{Command}
+use Rattle.frames.specs.declared.Command.the-variants.{Open, Disconnect, Create, Destroy, Release, Transfer, Send, Receive, Quota, Holders}
+use Rattle.frames.specs.Frame.{payloadOf}
+use Rattle.frames.specs.Legal.{Legal}
+use Rattle.model.specs.Numbers.{peers}
+use Rattle.model.specs.Lists.{both}
+use Rattle.model.specs.Requests.{destinations, attached}
+use Rattle.model.specs.State.{Handle, Handle.none, handleOf, held, count, total}
+use Rattle.model.specs.Book.{Node, sameNode, Noted, Noted.blank, Noted.noted, ownedBy, nodesOf}
+use Rattle.model.specs.Occurs.{both-true}
+use Rattle.model.specs.Counts.{total-other, count-handle}
+use Rattle.model.specs.Queues.{Later, front}
+use Rattle.model.specs.QueuesLaws.{later-refl, later-append, later-keep, later-empty, later-trans, later-front, map-new, total-set}
+use Rattle.model.specs.Ledger.{Item, Item.message, Item.destroyed, Item.released, Ledger, ledgerCreate, noRelease, ledgerDestroy, outlasts, fallen, ledgerRelease, dueId, ledgerGive, ledgerGiveAll, ledgerQueues, letters, ledgerSend, ledgerReceive, byOwnId, ledgerDisconnect, ledgerCounted, onNode, enter, itemNumber}
+use Rattle.model.specs.Waits.{LapsedIn}
+
+-- What an accepted command takes out of the queue of p for its answer: a receive of p the first item.
+abbrev pub takenOf : Ledger → ℕ → Command → List Item
+takenOf l p (Open q u) = []
+takenOf l p (Disconnect q) = []
+takenOf l p (Create q i) = []
+takenOf l p (Destroy q i) = []
+takenOf l p (Release q i) = []
+takenOf l p (Transfer q i t) = []
+takenOf l p (Send q z) = []
+takenOf l p (Receive q room) = pick (eqb (q .0) p) (front (l .queue p)) []
+takenOf l p (Quota q u) = []
+takenOf l p (Holders q i) = []
+
+-- What a command queues has its own number, the next one.
+abbrev pub NextIn : Ledger → Item → Type 0
+NextIn l e = itemNumber e ≡ suc (l .accepted)
+
+abbrev pub MovedIn : Ledger → Ledger → ℕ → List Item → Type 0
+MovedIn l k p taken = Later (LapsedIn l k p) (NextIn l) (l .queue p) (taken ++ k .queue p)
+
+-- A handle is given: the sum rises, and with it the release notice goes.
+module _ (x : Ledger) (q : ℕ) (n : Node) where
+  abbrev more : Handle
+  more = handleOf (dueId x q n) (suc (count (x .handle q (n .number))))
+
+  give-handle : x .lives (n .number) ≡ true → ledgerGive x q n .handle ≡ upd (x .handle) q (upd (x .handle q) (n .number) more)
+  unfolding ledgerGive
+  give-handle e = rw e refl
+
+  give-queue : x .lives (n .number) ≡ true → ledgerGive x q n .queue ≡ upd (x .queue) (n .owner) (keep (noRelease n) (x .queue (n .owner)))
+  unfolding ledgerGive
+  give-queue e = rw e refl
+
+  give-dead : x .lives (n .number) ≡ false → ledgerGive x q n ≡ x
+  unfolding ledgerGive
+  give-dead e = rw e refl
+
+  give-raises : q < peers → x .lives (n .number) ≡ true → total (x .handle) (n .number) < total (ledgerGive x q n .handle) (n .number)
+  give-raises l e =
+      rw (give-handle e)
+      (omega (arith, total-set (x .handle) q (n .number) more l, count-handle (dueId x q n) (suc (count (x .handle q (n .number))))))
+
+  give-total : (t : ℕ) → q < peers → total (x .handle) t ≤ total (ledgerGive x q n .handle) t
+  give-total t l = go (look (x .lives (n .number))) (same? (n .number) t)
+    where
+      go : Seen (x .lives (n .number)) → Same (n .number) t → total (x .handle) t ≤ total (ledgerGive x q n .handle) t
+      go (is-false e) z = rw (give-dead e) (omega arith)
+      go (is-true e) (same z) = rw (← z) (omega (arith, give-raises l e))
+      go (is-true e) (other z) = rw (give-handle e) (omega (arith, total-other (x .handle) q (n .number) more t z))
+
+gives-total : (x : Ledger) (q : ℕ) (ns : List Node) (t : ℕ) → q < peers → total (x .handle) t ≤ total (ledgerGiveAll x q ns .handle) t
+gives-total x q [] t l = omega arith
+gives-total x q (n ∷ ns) t l = omega (arith, give-total x q n t l, gives-total (ledgerGive x q n) q ns t l)
+
+-- A release notice of the node, and nothing else.
+not-kept : (gone : Item → Type 0) (n : Node) → ((j : ℕ) (m : Node) → n .number ≡ m .number → gone (released j m)) → (e : Item) → noRelease n e ≡ false → gone e
+not-kept gone n h (message j m) f = clash f
+not-kept gone n h (destroyed j m) f = clash f
+not-kept gone n h (released j m) f = go (look (sameNode n m))
+  where
+    go : Seen (sameNode n m) → gone (released j m)
+    go (is-true z) = h j m (eqb-true (n .number) (m .number) z)
+    go (is-false z) = clash (sym (ap not z) ∙ f)
+
+module _ (l : Ledger) (new : Item → Type 0) where
+  moved-give : (k x : Ledger) (q : ℕ) (n : Node) → q < peers → ((t : ℕ) → total (l .handle) t ≤ total (x .handle) t) →
+      ((t : ℕ) → total (ledgerGive x q n .handle) t ≤ total (k .handle) t) → (p : ℕ) → Later (LapsedIn l k p) new (x .queue p) (ledgerGive x q n .queue p)
+  moved-give k x q n b low high p = go (look (x .lives (n .number)))
+    where
+      go : Seen (x .lives (n .number)) → Later (LapsedIn l k p) new (x .queue p) (ledgerGive x q n .queue p)
+      go (is-false e) = rw (give-dead x q n e) (later-refl (x .queue p))
+      go (is-true e) =
+          let up : total (l .handle) (n .number) < total (k .handle) (n .number) = omega (arith, low (n .number), give-raises x q n b e, high (n .number)) in
+          rw (give-queue x q n e)
+          (upd-all (λ r (z : List Item). Later (LapsedIn l k r) new (x .queue r) z) (x .queue) (n .owner) (keep (noRelease n) (x .queue (n .owner))) (λ r. later-refl (x .queue r))
+          (later-keep (noRelease n) (not-kept (LapsedIn l k (n .owner)) n (λ j m z. inr (inl (rw (← z) up)))) (x .queue (n .owner))) p)
+
+  moved-gives : (x : Ledger) (q : ℕ) (ns : List Node) → q < peers → ((t : ℕ) → total (l .handle) t ≤ total (x .handle) t) → (p : ℕ) →
+      Later (LapsedIn l (ledgerGiveAll x q ns) p) new (x .queue p) (ledgerGiveAll x q ns .queue p)
+  moved-gives x q [] b low p = later-refl (x .queue p)
+  moved-gives x q (n ∷ ns) b low p =
+      later-trans (moved-give (ledgerGiveAll (ledgerGive x q n) q ns) x q n b low (λ t. gives-total (ledgerGive x q n) q ns t b) p)
+      (moved-gives (ledgerGive x q n) q ns b (λ t. omega (arith, low t, give-total x q n t b)) p)
+
+-- Receive: the first item comes out, and the handles that a message carries are given.
+first-out : (l : Ledger) (q : ℕ) (e : Item) (rest : List Item) → l .queue q ≡ e ∷ rest → (p : ℕ) →
+    l .queue p ≡ pick (eqb q p) (front (l .queue p)) [] ++ upd (l .queue) q rest p
+first-out l q e rest h p = go (same? q p)
+  where
+    go : Same q p → l .queue p ≡ pick (eqb q p) (front (l .queue p)) [] ++ upd (l .queue) q rest p
+    go (same z) = rw (← z, eq-eqb q q refl, upd-same, h) refl
+    go (other z) = rw (ne-eqb q p z, upd-other (l .queue) q p rest z) refl
+
+module _ (l : Ledger) where
+  abbrev counted : Ledger
+  counted = ledgerCounted l
+
+  abbrev out : ℕ → List Item → Ledger
+  out q rest = ledgerQueues (ledgerCounted l) (upd (l .queue) q rest)
+
+  -- Behind what came out, all that stands there moves on.
+  moved-out : (k : Ledger) (q : ℕ) (e : Item) (rest : List Item) → l .queue q ≡ e ∷ rest → (p : ℕ) →
+      Later (LapsedIn l k p) (NextIn l) (upd (l .queue) q rest p) (k .queue p) → MovedIn l k p (pick (eqb q p) (front (l .queue p)) [])
+  moved-out k q e rest h p m =
+      subst (λ (z : List Item). Later (LapsedIn l k p) (NextIn l) z (pick (eqb q p) (front (l .queue p)) [] ++ k .queue p)) (sym (first-out l q e rest h p))
+      (later-front (pick (eqb q p) (front (l .queue p)) []) m)
+
+  moved-receive : (q : ℕ) → q < peers → (es : List Item) → l .queue q ≡ es → (p : ℕ) →
+      MovedIn l (ledgerReceive counted q es) p (pick (eqb q p) (front (l .queue p)) [])
+  unfolding ledgerQueues ledgerCounted
+  moved-receive q b [] h p = go (same? q p)
+    where
+      go : Same q p → MovedIn l (ledgerCounted l) p (pick (eqb q p) (front (l .queue p)) [])
+      go (same z) = rw (← z, eq-eqb q q refl, h) (later-refl [])
+      go (other z) = rw (ne-eqb q p z) (later-refl (l .queue p))
+  moved-receive q b (message j m ∷ rest) h p =
+      moved-out (ledgerGiveAll (out q rest) q (m .carried)) q (message j m) rest h p (moved-gives l (NextIn l) (out q rest) q (m .carried) b (λ t. omega arith) p)
+  moved-receive q b (destroyed j n ∷ rest) h p = moved-out (out q rest) q (destroyed j n) rest h p (later-refl (upd (l .queue) q rest p))
+  moved-receive q b (released j n ∷ rest) h p = moved-out (out q rest) q (released j n) rest h p (later-refl (upd (l .queue) q rest p))
+
+  -- Destroy: the node's release notice goes, and each holder has a notice behind.
+  moved-destroy : (n : Node) (p : ℕ) → MovedIn l (ledgerDestroy counted n) p []
+  unfolding ledgerDestroy ledgerCounted
+  moved-destroy n p =
+      let k = ledgerDestroy counted n in
+      let old = pick (ownedBy p n) (keep (noRelease n) (l .queue p)) (l .queue p) in
+      later-trans
+      (pick-all (λ (z : List Item). Later (LapsedIn l k p) (NextIn l) (l .queue p) z) (ownedBy p n) (keep (noRelease n) (l .queue p)) (l .queue p)
+      (later-keep (noRelease n) (not-kept (LapsedIn l k p) n (λ j m z. inr (inr (rw (← z, upd-same) refl)))) (l .queue p))
+      (later-refl (l .queue p)))
+      (later-append old (pick (both (ltb p peers) (held (l .handle p (n .number)))) (destroyed (suc (l .accepted)) n ∷ []) [])
+      (pick-all (All (NextIn l)) (both (ltb p peers) (held (l .handle p (n .number)))) (destroyed (suc (l .accepted)) n ∷ []) [] (refl, tt) tt))
+
+  -- What does not outlast a handle that went.
+  not-outlasting : (k : Ledger) (p : ℕ) (n : Node) → held (k .handle p (n .number)) ≡ false → (e : Item) → outlasts p n e ≡ false → LapsedIn l k p e
+  not-outlasting k p n h e = go e
+    where
+      is-it : (m : Node) → Seen (sameNode m n) → not (sameNode m n) ≡ false → held (k .handle p (m .number)) ≡ false
+      is-it m (is-true z) f = rw (eqb-true (m .number) (n .number) z) h
+      is-it m (is-false z) f = clash (sym (ap not z) ∙ f)
+
+      narrow : (x y : Bool) → not (both x y) ≡ false → not y ≡ false
+      narrow true y f = f
+      narrow false y f = clash f
+
+      go : (e : Item) → outlasts p n e ≡ false → LapsedIn l k p e
+      go (message j m) f = is-it (m .to) (look (sameNode (m .to) n)) (narrow (ownedBy p n) (sameNode (m .to) n) f)
+      go (destroyed j m) f = is-it m (look (sameNode m n)) f
+      go (released j m) f = inl (is-it m (look (sameNode m n)) f)
+
+  -- Release: where the last reference goes, so does what does not outlast the handle; where the sum fell to 1, a notice comes behind.
+  moved-release : (q i : ℕ) (n : Node) (c p : ℕ) → MovedIn l (ledgerRelease counted q i n c) p []
+  unfolding ledgerRelease ledgerCounted
+  moved-release q i n c p =
+      let k = ledgerRelease counted q i n c in
+      let old = pick (both (eqb q p) (eqb c 1)) (keep (outlasts q n) (l .queue p)) (l .queue p) in
+      let falls = both (ownedBy p n) (fallen (l .lives) (l .handle) (k .handle) (n .number)) in
+      later-trans
+      (pick-cases (λ (z : List Item). Later (LapsedIn l k p) (NextIn l) (l .queue p) z) (both (eqb q p) (eqb c 1)) (keep (outlasts q n) (l .queue p)) (l .queue p)
+      (λ z. let t = both-true (eqb q p) (eqb c 1) z in goes (eqb-true q p (t .0)) (eqb-true c 1 (t .1)))
+      (λ z. later-refl (l .queue p)))
+      (later-append old (pick falls (released (suc (l .accepted)) n ∷ []) [])
+      (pick-all (All (NextIn l)) falls (released (suc (l .accepted)) n ∷ []) [] (refl, tt) tt))
+    where
+      goes : q ≡ p → c ≡ 1 → Later (LapsedIn l (ledgerRelease counted q i n c) p) (NextIn l) (l .queue p) (keep (outlasts q n) (l .queue p))
+      goes e f = rw (← e) (later-keep (outlasts q n) (not-outlasting (ledgerRelease counted q i n c) q n (rw (f, upd-same, upd-same) refl)) (l .queue q))
+
+  -- Disconnect: all that waits at the peer goes; elsewhere the notices come behind.
+  moved-disconnect : (q p : ℕ) → MovedIn l (ledgerDisconnect counted q) p []
+  unfolding ledgerDisconnect ledgerCounted
+  moved-disconnect q p = go (same? q p)
+    where
+      k : Ledger
+      k = ledgerDisconnect counted q
+
+      none-left : (e : Item) → LapsedIn l k q e
+      none-left (message j m) = rw upd-same refl
+      none-left (destroyed j n) = rw upd-same refl
+      none-left (released j n) = inl (rw upd-same refl)
+
+      go : Same q p → MovedIn l k p []
+      go (same z) = rw (← z, eq-eqb q q refl) (later-empty none-left (l .queue q))
+      go (other z) =
+          let ds : List Node = byOwnId counted q (λ n. both (l .lives n) (held (l .handle p n))) in
+          let rs : List Node = byOwnId counted p (fallen (λ n. both (not (eqb (l .maker n) q)) (l .lives n)) (l .handle) (upd (l .handle) q (λ n. none))) in
+          rw (ne-eqb q p z)
+          (later-append (l .queue p) (pick (ltb p peers) (map (destroyed (suc (l .accepted))) ds ++ map (released (suc (l .accepted))) rs) [])
+          (pick-all (All (NextIn l)) (ltb p peers) (map (destroyed (suc (l .accepted))) ds ++ map (released (suc (l .accepted))) rs) []
+          (all-append (NextIn l) (map (destroyed (suc (l .accepted))) ds) (map (released (suc (l .accepted))) rs)
+          (map-new (NextIn l) (destroyed (suc (l .accepted))) (λ n. refl) ds) (map-new (NextIn l) (released (suc (l .accepted))) (λ n. refl) rs))
+          tt))
+
+  on-node : (x : Noted) (f : Node → ℕ → Ledger) (p : ℕ) → MovedIn l counted p [] → ((n : Node) (c : ℕ) → MovedIn l (f n c) p []) → MovedIn l (onNode counted x f) p []
+  on-node blank f p h g = h
+  on-node (noted n c) f p h g = g n c
+
+  still : (p : ℕ) → MovedIn l counted p []
+  unfolding ledgerCounted
+  still p = later-refl (l .queue p)
+
+  moved-send : (u : ℕ) (ds hs : List Node) (payload : List ℕ) (p : ℕ) → MovedIn l (ledgerSend counted u ds hs payload) p []
+  unfolding ledgerQueues ledgerCounted
+  moved-send u ds hs payload p =
+      later-append (l .queue p) (letters (suc (l .accepted)) u payload hs (keep (ownedBy p) ds))
+      (map-new (NextIn l) (λ n. message (suc (l .accepted)) (record { user = u; to = n; payload = payload; carried = hs })) (λ n. refl) (keep (ownedBy p) ds))
+
+  moved-transfer : (q : ℕ) (n : Node) → q < peers → (p : ℕ) → MovedIn l (ledgerGive counted q n) p []
+  moved-transfer q n b p =
+      unfold ledgerCounted in (moved-give l (NextIn l) (ledgerGive counted q n) counted q n b (λ t. omega arith) (λ t. omega arith) p)
+
+  -- Every accepted command.
+  pub moved-by : (f : List ℕ) (c : Command) → Legal f c → (p : ℕ) → MovedIn l (enter l f c) p (takenOf l p c)
+  unfolding enter
+  moved-by f (Open q u) h p = still p
+  moved-by f (Disconnect q) h p = moved-disconnect (q .0) p
+  moved-by f (Create q i) h p = unfold ledgerCreate ledgerCounted in (later-refl (l .queue p))
+  moved-by f (Destroy q i) h p = on-node (l .book .handle (q .0) (i .0)) (λ n c. ledgerDestroy counted n) p (still p) (λ n c. moved-destroy n p)
+  moved-by f (Release q i) h p =
+      on-node (l .book .handle (q .0) (i .0)) (λ n c. ledgerRelease counted (q .0) (i .0) n c) p (still p) (λ n c. moved-release (q .0) (i .0) n c p)
+  moved-by f (Transfer q i t) h p =
+      on-node (l .book .handle (q .0) (i .0)) (λ n c. ledgerGive counted (t .0) n) p (still p) (λ n c. moved-transfer (t .0) n (omega (arith, h .1)) p)
+  moved-by f (Send q z) h p =
+      moved-send (l .book .user (q .0)) (nodesOf (l .book) (q .0) (destinations f z)) (nodesOf (l .book) (q .0) (attached f z)) (payloadOf f) p
+  moved-by f (Receive q room) h p = moved-receive (q .0) (omega (arith, h)) (l .queue (q .0)) refl p
+  moved-by f (Quota q u) h p = later-refl (l .queue p)
+  moved-by f (Holders q i) h p = later-refl (l .queue p)
