@@ -29,10 +29,10 @@ extern "C" {
 #endif
 
 /* The exact length of each bus buffer, in elements. docs/BUFFERS.md says what
- * stands in each. Together they have 158,120 bytes. */
+ * stands in each. Together they have 174,632 bytes. */
 #define BUS_PEERS_LEN 25      /* uint64_t,    200 bytes */
 #define BUS_NODES_LEN 256     /* uint64_t,  2,048 bytes */
-#define BUS_HANDLES_LEN 2048  /* uint64_t, 16,384 bytes */
+#define BUS_HANDLES_LEN 4112  /* uint64_t, 32,896 bytes */
 #define BUS_CHARGES_LEN 96    /* uint16_t,    192 bytes */
 #define BUS_ENDS_LEN 16       /* uint16_t,     32 bytes */
 #define BUS_ENTRIES_LEN 20480 /* uint16_t, 40,960 bytes */

@@ -7,13 +7,17 @@ use mathlib.Core.Logic.{_⊎_}
 use mathlib.Core.List.{List, [], _∷_, _++_, map}
 use lib.ListN.{length, drop}
 use contract.Lifetimes
+use denote.Ref.{now}
+use borrow.Fn.World
+use borrow.Fn.Kinds as Kinds′
+use denote.Triple.Clauses
 use Rattle.laws.specs.Weights.{All, all-imp}
 use Rattle.ids.specs.Refusals.{EIO, EINVAL}
 use Rattle.frames.specs.Frame.{opcode}
 use Rattle.answers.specs.declared.Outcome.{Outcome}
 use Rattle.answers.specs.Answer.{answerSize}
 use Rattle.quota.specs.Rule.{left}
-use Rattle.model.specs.State.{isLive}
+use Rattle.model.specs.State.{isLive, slot}
 use Rattle.model.specs.Step.{Call}
 use Rattle.model.specs.Notices.{Unnamed}
 use Rattle.model.specs.Book.{Node, Fed, answersMessage}
@@ -40,10 +44,15 @@ use Rattle.model.specs.LedgerLawsProof.{destroy-in, release-in, send-in, discon
 use Rattle.model.specs.Scripts.{Row, Row.played, Row.ruled, lastOf}
 use Rattle.model.specs.Table.{table}
 use Rattle.model.specs.Examples.{examples}
+use Rattle.tables.specs.Handles.{lookup, slotFound, findAt}
+use Rattle.tables.proofs.seek as seek
+use Rattle.tables.proofs.seek.Kinds as seek-kinds
+use Rattle.tables.proofs.seek.Reads as seek-reads
 use Rattle.view.specs.View.{Bus, stateOf}
 use Rattle.bus.specs.Command.{commandOf, freshOf}
-use Rattle.bus.specs.Ran.{Exchange, answerIn, exchangeOf}
+use Rattle.bus.specs.Ran.{Exchange, answerIn, exchangeOf, stateAfter}
 use Rattle.bus.specs.Demands.{never-five, code-refusals}
+use Rattle.bus.specs.Searched.{Search, every-search}
 use Rattle.bus.specs.Marked.{Large, Holds, code-marks, code-examples, Made, fresh-made-as}
 use Rattle.bus.specs.Untouched.{Written, code-tail, code-questions}
 use Rattle.bus.specs.Histories.{historyOf, ran-happened, code-slot-stays}
@@ -131,6 +140,20 @@ module _ (hs : List Exchange) (b : Bus) (t : Calls hs b) where
 -- 5 is never given in a run.
 pub never-five-of-calls : (xs : List Exchange) (b : Bus) → Calls xs b → All (λ x. x .outcome .number ≡ EIO → ⊥) xs
 never-five-of-calls xs b t = never-five xs b (calls-ran t)
+
+-- Document 02, No. 3, of every bus that calls leave, every peer and every ID: the search finds the slot at which the peer holds the ID, or none, and its answer depends on the entries at
+-- at most 16 places and on nothing else.
+module _ (xs : List Exchange) (b : Bus) (t : Calls xs b) where
+  pub search-of-calls : (p i : ℕ) → p < 8 → Search b (stateAfter xs) p i
+  search-of-calls p i l = every-search (calls-ran t) p i l
+
+  -- Of the search in the code, of which nothing is known but its contract, on that bus: what it finds is that slot, and the entries that it has read are at most 16.
+  pub seek-of-calls : (κs : Lifetimes.Lfts 1) (a : World.ArgsD seek.signature κs) (r : World.ResD seek.signature κs) (s : Clauses.AtExit (Kinds′.endedOf 1 seek-kinds.ps seek-kinds.r) κs) →
+      seek-reads.Learnt κs a r s → now (a .0) ≡ b .handles → a .1 .0 .0 < 8 →
+      (slotFound (r .found) ≡ slot (stateAfter xs) (a .1 .0 .0) (a .1 .1 .0 .0)) × (r .reads ≤ 16)
+  unfolding findAt
+  seek-of-calls κs a r s l e p =
+      (ap slotFound (l .0) ∙ ap (λ (h : List ℕ). slotFound (lookup h (a .1 .0 .0) (a .1 .1 .0 .0))) e ∙ search-of-calls (a .1 .0 .0) (a .1 .1 .0 .0) p .right, l .1)
 
 -- A refusal leaves every bus buffer as it was, and of the answer buffer writes one byte or none. Of a call on any bus, not of runs alone.
 pub record LeftAlone (b after : Bus) (c : Call) (o : Outcome) (out : List ℕ) : Type 0 where

@@ -26,6 +26,7 @@ use Rattle.answers.specs.Answer.{answerAfter, outcomeOf}
 use Rattle.rings.specs.Rings.{lengthOf}
 use Rattle.tables.specs.HandlesView.{handleV, holders-is}
 use Rattle.tables.specs.ChargesView.{charges-is}
+use Rattle.tables.specs.Listed.{AllListed}
 use Rattle.model.specs.Numbers.{slots, nodes}
 use Rattle.model.specs.State.{State, Handle, Handle.none, Handle.some, hasId, Entry, slot, slotOf, freePlace}
 use Rattle.model.specs.Refusals.{takeable, refusal}
@@ -43,7 +44,8 @@ use Rattle.effects.specs.Ranges.{Raw, raw-open, raw-create, raw-destroy, raw-re
 use Rattle.effects.specs.Opening.{open-view, shape-open, create-view, shape-create}
 use Rattle.effects.specs.Sending.{send-view, shape-send}
 use Rattle.effects.specs.Releasing.{release-view, shape-release}
-use Rattle.effects.specs.Receiving.{transfer-view, transfer-id, shape-transfer, receive-view, receive-outcome, receive-out, shape-receive}
+use Rattle.effects.specs.Receiving.{transfer-view, transfer-id, shape-transfer, receive-view, receive-outcome, receive-out, shape-receive, receive-listed}
+use Rattle.effects.specs.Listing.{listed-create, listed-release, listed-transfer, listed-disconnect}
 use Rattle.effects.specs.Destroying.{destroy-view, shape-destroy, disconnect-view, shape-disconnect}
 use Rattle.bus.specs.Command.{Done, answered, carried}
 
@@ -51,21 +53,22 @@ use Rattle.bus.specs.Command.{Done, answered, carried}
 pub record Seen-as (out : List ℕ) (d : Done) (st : State) (rep : Reply) : Type 0 where
   pub shape : Shape (d .bus)
   pub raw : Raw (d .bus)
+  pub listed : AllListed (d .bus .handles)
   pub state : stateOf (d .bus) ≡ st
   pub outcome : d .outcome ≡ outcomeOf (rep .answer) (rep .ids) (rep .payload) out
   pub buffer : d .out ≡ answerAfter (rep .answer) (rep .ids) (rep .payload) out
 
 -- An answer that shows no message.
-plain-seen : (out : List ℕ) (a : Answer) (b : Bus) (st : State) → Shape b → Raw b → stateOf b ≡ st →
+plain-seen : (out : List ℕ) (a : Answer) (b : Bus) (st : State) → Shape b → Raw b → AllListed (b .handles) → stateOf b ≡ st →
     Seen-as out (answered a b out) st (record { answer = a; ids = []; payload = [] })
-plain-seen out a b st s r e = record { shape = s; raw = r; state = e; outcome = refl; buffer = refl }
+plain-seen out a b st s r w e = record { shape = s; raw = r; listed = w; state = e; outcome = refl; buffer = refl }
 
 -- The handle that an ID names.
 held-by : (h : ℕ → Handle) (i : ℕ) → slotOf h i < nodes → hasId i (h (slotOf h i)) ≡ true
 unfolding slotOf
 held-by h i l = first-found (λ s. hasId i (h s)) nodes l
 
-module _ (b : Bus) (shape : Shape b) (raw : Raw b) (g : Good (stateOf b)) (f out : List ℕ) where
+module _ (b : Bus) (shape : Shape b) (raw : Raw b) (g : Good (stateOf b)) (lists : AllListed (b .handles)) (f out : List ℕ) where
   abbrev st : State
   st = stateOf b
 
@@ -86,6 +89,14 @@ module _ (b : Bus) (shape : Shape b) (raw : Raw b) (g : Good (stateOf b)) (f out
       go none e t = clash (sym t ∙ ap (hasId (i .0)) e)
       go (some j c) e t = shape-release b (p .0) (slot st (p .0) (i .0)) j c shape g l m e
 
+  release-listed : (p : Peer) (i : HandleId) → p .0 < 8 → slot st (p .0) (i .0) < nodes → AllListed (afterRelease b (p .0) (slot st (p .0) (i .0)) .handles)
+  release-listed p i l m = go (st .handle (p .0) (slot st (p .0) (i .0))) refl (held-by (st .handle (p .0)) (i .0) m)
+    where
+      go : (h : Handle) → st .handle (p .0) (slot st (p .0) (i .0)) ≡ h → hasId (i .0) (st .handle (p .0) (slot st (p .0) (i .0))) ≡ true →
+          AllListed (afterRelease b (p .0) (slot st (p .0) (i .0)) .handles)
+      go none e t = clash (sym t ∙ ap (hasId (i .0)) e)
+      go (some j c) e t = listed-release b shape g lists (p .0) (slot st (p .0) (i .0)) j c l m e
+
   -- Something is queued where a receive is not refused.
   nonempty : (p room : ℕ) → p < 8 → takeable room (st .queue p) ≡ 0 → 0 < lengthOf (b .rings .ends) p
   nonempty p room l e = some-of (st .queue p) e (queue-count (b .rings) (b .pool) p l)
@@ -96,19 +107,19 @@ module _ (b : Bus) (shape : Shape b) (raw : Raw b) (g : Good (stateOf b)) (f out
 
   pub carried-seen : (c : Command) → Legal f c → refusal st f c ≡ 0 → Seen-as out (carried b f out (resolved (plainSight st) c) (placesIn (plainSight st) f c)) (effect st f c) (reply st f c)
   unfolding effect reply refusal
-  carried-seen (Open p u) l e = plain-seen out _ (afterOpen b (p .0) (u .0)) _ (shape-open b (p .0) (u .0) shape) (raw-open b raw g (p .0) (u .0) (l .1)) (open-view b shape g (p .0) (u .0) (omega (arith, l .0)))
+  carried-seen (Open p u) l e = plain-seen out _ (afterOpen b (p .0) (u .0)) _ (shape-open b (p .0) (u .0) shape) (raw-open b raw g (p .0) (u .0) (l .1)) lists (open-view b shape g (p .0) (u .0) (omega (arith, l .0)))
   carried-seen (Disconnect p) l e =
-      plain-seen out _ (afterDisconnect b (p .0)) _ (shape-disconnect b shape g (p .0) (omega arith)) (raw-disconnect b raw g (p .0)) (disconnect-view b shape g (p .0) (omega arith) (tested st f (Disconnect p) e .is-open))
+      plain-seen out _ (afterDisconnect b (p .0)) _ (shape-disconnect b shape g (p .0) (omega arith)) (raw-disconnect b raw g (p .0)) (listed-disconnect b shape g lists (p .0) (omega arith)) (disconnect-view b shape g (p .0) (omega arith) (tested st f (Disconnect p) e .is-open))
   carried-seen (Create p i) l e =
       let t = tested st f (Create p i) e in
-      plain-seen out _ _ _ (shape-create b (p .0) (i .0) (p .0 * slots + freePlace st (p .0)) shape) (raw-create b raw g (p .0) (i .0) (p .0 * slots + freePlace st (p .0))) (create-view b shape g (p .0) (i .0) (omega (arith, l .0)) (t .free))
+      plain-seen out _ _ _ (shape-create b (p .0) (i .0) (p .0 * slots + freePlace st (p .0)) shape) (raw-create b raw g (p .0) (i .0) (p .0 * slots + freePlace st (p .0))) (listed-create b shape g lists (p .0) (i .0) (omega (arith, l .0)) (l .1) (t .free)) (create-view b shape g (p .0) (i .0) (omega (arith, l .0)) (t .free))
   carried-seen (Destroy p i) l e =
       let t = tested st f (Destroy p i) e in
-      plain-seen out _ _ _ (shape-destroy b shape g (p .0) (slot st (p .0) (i .0)) (omega arith) (t .owns) (t .lives)) (raw-destroy b raw g (p .0) (slot st (p .0) (i .0)))
+      plain-seen out _ _ _ (shape-destroy b shape g (p .0) (slot st (p .0) (i .0)) (omega arith) (t .owns) (t .lives)) (raw-destroy b raw g (p .0) (slot st (p .0) (i .0))) lists
       (destroy-view b shape g (p .0) (slot st (p .0) (i .0)) (omega arith) (t .owns) (t .lives))
   carried-seen (Release p i) l e =
       let t = tested st f (Release p i) e in
-      plain-seen out _ _ _ (release-shape p i (omega arith) (t .holds)) (raw-release b raw g (p .0) (slot st (p .0) (i .0))) (release-seen p i (omega arith) (t .holds))
+      plain-seen out _ _ _ (release-shape p i (omega arith) (t .holds)) (raw-release b raw g (p .0) (slot st (p .0) (i .0))) (release-listed p i (omega arith) (t .holds)) (release-seen p i (omega arith) (t .holds))
   carried-seen (Transfer p i q) l e =
       let t = tested st f (Transfer p i q) e in
       let s = slot st (p .0) (i .0) in
@@ -117,18 +128,20 @@ module _ (b : Bus) (shape : Shape b) (raw : Raw b) (g : Good (stateOf b)) (f out
       record {
         shape = shape-transfer b (q .0) s shape g m (t .holds);
         raw = raw-transfer b raw g (q .0) s m;
+        listed = listed-transfer b shape g lists (q .0) s m (t .holds);
         state = transfer-view b (q .0) s shape g m (t .holds);
         outcome = ap (λ (x : ℕ). outcomeOf (isTransferred (record { 0 = x })) [] [] out) id;
         buffer = ap (λ (x : ℕ). answerAfter (isTransferred (record { 0 = x })) [] [] out) id;
       }
   carried-seen (Send p z) l e =
-      plain-seen out _ _ _ (shape-send b (p .0) z _ (payloadOf f) shape) (raw-send b raw g (p .0) z _ (payloadOf f)) (send-view b shape g (p .0) (omega (arith, l .0)) f z (l .1) e)
+      plain-seen out _ _ _ (shape-send b (p .0) z _ (payloadOf f) shape) (raw-send b raw g (p .0) z _ (payloadOf f)) lists (send-view b shape g (p .0) (omega (arith, l .0)) f z (l .1) e)
   carried-seen (Receive p room) l e =
       let m : p .0 < 8 = omega arith in
       let some = nonempty (p .0) room m (tested st f (Receive p room) e .next) in
       record {
         shape = shape-receive b (p .0) out shape g m some;
         raw = raw-receive b raw g (p .0) out shape m;
+        listed = receive-listed b (p .0) out shape g m some lists;
         state = receive-view b (p .0) out shape g m some;
         outcome = receive-outcome b (p .0) out shape g m some;
         buffer = receive-out b (p .0) out shape g m some;
@@ -138,6 +151,7 @@ module _ (b : Bus) (shape : Shape b) (raw : Raw b) (g : Good (stateOf b)) (f out
       record {
         shape = shape;
         raw = raw;
+        listed = lists;
         state = refl;
         outcome = ap (λ (x : Charges). outcomeOf (isQuota (balanceOf x u)) [] [] out) (sym c);
         buffer = ap (λ (x : Charges). answerAfter (isQuota (balanceOf x u)) [] [] out) (sym c);
@@ -148,6 +162,7 @@ module _ (b : Bus) (shape : Shape b) (raw : Raw b) (g : Good (stateOf b)) (f out
       record {
         shape = shape;
         raw = raw;
+        listed = lists;
         state = refl;
         outcome = ap (λ (x : ℕ). outcomeOf (isHolders x) [] [] out) h;
         buffer = ap (λ (x : ℕ). answerAfter (isHolders x) [] [] out) h;

@@ -57,47 +57,47 @@ module _ (b : Bus) where
     wrong-nodes h = rw (eq-eqb (length (b .peers)) 25 e0, ne-eqb (length (b .nodes)) 256 h)
 
     module _ (e1 : length (b .nodes) ≡ 256) where
-      pub wrong-handles : (length (b .handles) ≡ 2048 → ⊥) → false ≡ sizedOk b
+      pub wrong-handles : (length (b .handles) ≡ 4112 → ⊥) → false ≡ sizedOk b
       unfolding sizedOk
-      wrong-handles h = rw (eq-eqb (length (b .peers)) 25 e0, eq-eqb (length (b .nodes)) 256 e1, ne-eqb (length (b .handles)) 2048 h)
+      wrong-handles h = rw (eq-eqb (length (b .peers)) 25 e0, eq-eqb (length (b .nodes)) 256 e1, ne-eqb (length (b .handles)) 4112 h)
 
-      module _ (e2 : length (b .handles) ≡ 2048) where
+      module _ (e2 : length (b .handles) ≡ 4112) where
         pub wrong-charges : (length (b .charges) ≡ 96 → ⊥) → false ≡ sizedOk b
         unfolding sizedOk
-        wrong-charges h = rw (eq-eqb (length (b .peers)) 25 e0, eq-eqb (length (b .nodes)) 256 e1, eq-eqb (length (b .handles)) 2048 e2, ne-eqb (length (b .charges)) 96 h)
+        wrong-charges h = rw (eq-eqb (length (b .peers)) 25 e0, eq-eqb (length (b .nodes)) 256 e1, eq-eqb (length (b .handles)) 4112 e2, ne-eqb (length (b .charges)) 96 h)
 
         module _ (e3 : length (b .charges) ≡ 96) where
           pub wrong-ends : (length (b .rings .ends) ≡ 16 → ⊥) → false ≡ sizedOk b
           unfolding sizedOk
-          wrong-ends h = rw (eq-eqb (length (b .peers)) 25 e0, eq-eqb (length (b .nodes)) 256 e1, eq-eqb (length (b .handles)) 2048 e2, eq-eqb (length (b .charges)) 96 e3, ne-eqb (length (b .rings .ends)) 16 h)
+          wrong-ends h = rw (eq-eqb (length (b .peers)) 25 e0, eq-eqb (length (b .nodes)) 256 e1, eq-eqb (length (b .handles)) 4112 e2, eq-eqb (length (b .charges)) 96 e3, ne-eqb (length (b .rings .ends)) 16 h)
 
           module _ (e4 : length (b .rings .ends) ≡ 16) where
             pub wrong-entries : (length (b .rings .rows .entries) ≡ 20480 → ⊥) → false ≡ sizedOk b
             unfolding sizedOk
-            wrong-entries h = rw (eq-eqb (length (b .peers)) 25 e0, eq-eqb (length (b .nodes)) 256 e1, eq-eqb (length (b .handles)) 2048 e2, eq-eqb (length (b .charges)) 96 e3, eq-eqb (length (b .rings .ends)) 16 e4, ne-eqb (length (b .rings .rows .entries)) 20480 h)
+            wrong-entries h = rw (eq-eqb (length (b .peers)) 25 e0, eq-eqb (length (b .nodes)) 256 e1, eq-eqb (length (b .handles)) 4112 e2, eq-eqb (length (b .charges)) 96 e3, eq-eqb (length (b .rings .ends)) 16 e4, ne-eqb (length (b .rings .rows .entries)) 20480 h)
 
             module _ (e5 : length (b .rings .rows .entries) ≡ 20480) where
               pub wrong-carried : (length (b .rings .rows .carried) ≡ 32768 → ⊥) → false ≡ sizedOk b
               unfolding sizedOk
-              wrong-carried h = rw (eq-eqb (length (b .peers)) 25 e0, eq-eqb (length (b .nodes)) 256 e1, eq-eqb (length (b .handles)) 2048 e2, eq-eqb (length (b .charges)) 96 e3, eq-eqb (length (b .rings .ends)) 16 e4, eq-eqb (length (b .rings .rows .entries)) 20480 e5, ne-eqb (length (b .rings .rows .carried)) 32768 h)
+              wrong-carried h = rw (eq-eqb (length (b .peers)) 25 e0, eq-eqb (length (b .nodes)) 256 e1, eq-eqb (length (b .handles)) 4112 e2, eq-eqb (length (b .charges)) 96 e3, eq-eqb (length (b .rings .ends)) 16 e4, eq-eqb (length (b .rings .rows .entries)) 20480 e5, ne-eqb (length (b .rings .rows .carried)) 32768 h)
 
               module _ (e6 : length (b .rings .rows .carried) ≡ 32768) where
                 pub wrong-numbers : (length (b .rings .rows .numbers) ≡ 4096 → ⊥) → false ≡ sizedOk b
                 unfolding sizedOk
-                wrong-numbers h = rw (eq-eqb (length (b .peers)) 25 e0, eq-eqb (length (b .nodes)) 256 e1, eq-eqb (length (b .handles)) 2048 e2, eq-eqb (length (b .charges)) 96 e3, eq-eqb (length (b .rings .ends)) 16 e4, eq-eqb (length (b .rings .rows .entries)) 20480 e5, eq-eqb (length (b .rings .rows .carried)) 32768 e6, ne-eqb (length (b .rings .rows .numbers)) 4096 h)
+                wrong-numbers h = rw (eq-eqb (length (b .peers)) 25 e0, eq-eqb (length (b .nodes)) 256 e1, eq-eqb (length (b .handles)) 4112 e2, eq-eqb (length (b .charges)) 96 e3, eq-eqb (length (b .rings .ends)) 16 e4, eq-eqb (length (b .rings .rows .entries)) 20480 e5, eq-eqb (length (b .rings .rows .carried)) 32768 e6, ne-eqb (length (b .rings .rows .numbers)) 4096 h)
 
                 module _ (e7 : length (b .rings .rows .numbers) ≡ 4096) where
                   pub all-but-pool : eqb (length (b .pool)) 32768 ≡ sizedOk b
                   unfolding sizedOk
-                  all-but-pool = rw (eq-eqb (length (b .peers)) 25 e0, eq-eqb (length (b .nodes)) 256 e1, eq-eqb (length (b .handles)) 2048 e2, eq-eqb (length (b .charges)) 96 e3, eq-eqb (length (b .rings .ends)) 16 e4, eq-eqb (length (b .rings .rows .entries)) 20480 e5, eq-eqb (length (b .rings .rows .carried)) 32768 e6, eq-eqb (length (b .rings .rows .numbers)) 4096 e7)
+                  all-but-pool = rw (eq-eqb (length (b .peers)) 25 e0, eq-eqb (length (b .nodes)) 256 e1, eq-eqb (length (b .handles)) 4112 e2, eq-eqb (length (b .charges)) 96 e3, eq-eqb (length (b .rings .ends)) 16 e4, eq-eqb (length (b .rings .rows .entries)) 20480 e5, eq-eqb (length (b .rings .rows .carried)) 32768 e6, eq-eqb (length (b .rings .rows .numbers)) 4096 e7)
 
 -- What the test says: every buffer has its length.
 pub sized-shape : (b : Bus) → sizedOk b ≡ true → Shape b
 unfolding sizedOk
 sized-shape b h =
-    let h0 = both-true (eqb (length (b .peers)) 25) (both (eqb (length (b .nodes)) 256) (both (eqb (length (b .handles)) 2048) (both (eqb (length (b .charges)) 96) (both (eqb (length (b .rings .ends)) 16) (both (eqb (length (b .rings .rows .entries)) 20480) (both (eqb (length (b .rings .rows .carried)) 32768) (both (eqb (length (b .rings .rows .numbers)) 4096) (eqb (length (b .pool)) 32768)))))))) h in
-    let h1 = both-true (eqb (length (b .nodes)) 256) (both (eqb (length (b .handles)) 2048) (both (eqb (length (b .charges)) 96) (both (eqb (length (b .rings .ends)) 16) (both (eqb (length (b .rings .rows .entries)) 20480) (both (eqb (length (b .rings .rows .carried)) 32768) (both (eqb (length (b .rings .rows .numbers)) 4096) (eqb (length (b .pool)) 32768))))))) (h0 .1) in
-    let h2 = both-true (eqb (length (b .handles)) 2048) (both (eqb (length (b .charges)) 96) (both (eqb (length (b .rings .ends)) 16) (both (eqb (length (b .rings .rows .entries)) 20480) (both (eqb (length (b .rings .rows .carried)) 32768) (both (eqb (length (b .rings .rows .numbers)) 4096) (eqb (length (b .pool)) 32768)))))) (h1 .1) in
+    let h0 = both-true (eqb (length (b .peers)) 25) (both (eqb (length (b .nodes)) 256) (both (eqb (length (b .handles)) 4112) (both (eqb (length (b .charges)) 96) (both (eqb (length (b .rings .ends)) 16) (both (eqb (length (b .rings .rows .entries)) 20480) (both (eqb (length (b .rings .rows .carried)) 32768) (both (eqb (length (b .rings .rows .numbers)) 4096) (eqb (length (b .pool)) 32768)))))))) h in
+    let h1 = both-true (eqb (length (b .nodes)) 256) (both (eqb (length (b .handles)) 4112) (both (eqb (length (b .charges)) 96) (both (eqb (length (b .rings .ends)) 16) (both (eqb (length (b .rings .rows .entries)) 20480) (both (eqb (length (b .rings .rows .carried)) 32768) (both (eqb (length (b .rings .rows .numbers)) 4096) (eqb (length (b .pool)) 32768))))))) (h0 .1) in
+    let h2 = both-true (eqb (length (b .handles)) 4112) (both (eqb (length (b .charges)) 96) (both (eqb (length (b .rings .ends)) 16) (both (eqb (length (b .rings .rows .entries)) 20480) (both (eqb (length (b .rings .rows .carried)) 32768) (both (eqb (length (b .rings .rows .numbers)) 4096) (eqb (length (b .pool)) 32768)))))) (h1 .1) in
     let h3 = both-true (eqb (length (b .charges)) 96) (both (eqb (length (b .rings .ends)) 16) (both (eqb (length (b .rings .rows .entries)) 20480) (both (eqb (length (b .rings .rows .carried)) 32768) (both (eqb (length (b .rings .rows .numbers)) 4096) (eqb (length (b .pool)) 32768))))) (h2 .1) in
     let h4 = both-true (eqb (length (b .rings .ends)) 16) (both (eqb (length (b .rings .rows .entries)) 20480) (both (eqb (length (b .rings .rows .carried)) 32768) (both (eqb (length (b .rings .rows .numbers)) 4096) (eqb (length (b .pool)) 32768)))) (h3 .1) in
     let h5 = both-true (eqb (length (b .rings .rows .entries)) 20480) (both (eqb (length (b .rings .rows .carried)) 32768) (both (eqb (length (b .rings .rows .numbers)) 4096) (eqb (length (b .pool)) 32768))) (h4 .1) in
@@ -106,7 +106,7 @@ sized-shape b h =
     record {
       peers = eqb-true (length (b .peers)) 25 (h0 .0);
       nodes = eqb-true (length (b .nodes)) 256 (h1 .0);
-      handles = eqb-true (length (b .handles)) 2048 (h2 .0);
+      handles = eqb-true (length (b .handles)) 4112 (h2 .0);
       charges = eqb-true (length (b .charges)) 96 (h3 .0);
       ends = eqb-true (length (b .rings .ends)) 16 (h4 .0);
       rows =

@@ -36,7 +36,7 @@ unfoldable pub sizedOk : Bus → Bool
 sizedOk b =
     both (eqb (length (b .peers)) 25)
     (both (eqb (length (b .nodes)) 256)
-    (both (eqb (length (b .handles)) 2048)
+    (both (eqb (length (b .handles)) 4112)
     (both (eqb (length (b .charges)) 96)
     (both (eqb (length (b .rings .ends)) 16)
     (both (eqb (length (b .rings .rows .entries)) 20480)
@@ -114,7 +114,7 @@ commandOf b f out =
 
 -- "Making a fresh bus (no peer opened) refuses only a wrong length, returning 5 and writing nothing."
 unfoldable pub freshBus : Bus
-freshBus = busOf (replicate 25 0) (replicate 256 0) (replicate 2048 0) (replicate 96 0) (replicate 16 0) (replicate 20480 0) (replicate 32768 0) (replicate 4096 0) (replicate 32768 0)
+freshBus = busOf (replicate 25 0) (replicate 256 0) (replicate 4112 0) (replicate 96 0) (replicate 16 0) (replicate 20480 0) (replicate 32768 0) (replicate 4096 0) (replicate 32768 0)
 
 unfoldable pub freshOf : Bus → Bus
 freshOf b = pick (sizedOk b) freshBus b

@@ -70,7 +70,7 @@ exchange-as {xs = xs} {b = b} r c =
     let m = ran-modelled r in
     let e : stateOf b ≡ stateAfter xs = m .tied .view in
     let g : Good (stateOf b) = rw e (good (callsOf xs)) in
-    let s : Same-as (commandOf b (c .frame) (c .buffer)) (step (stateAfter xs) c) = rw e at (step-same b (m .tied .shape) (m .tied .raw) g c) in
+    let s : Same-as (commandOf b (c .frame) (c .buffer)) (step (stateAfter xs) c) = rw e at (step-same b (m .tied .shape) (m .tied .raw) g (m .tied .listed) c) in
     record { tied = m .tied; outcome = s .outcome; buffer = s .buffer }
 
 -- Never 5: each row of the table, each cascade, each frame.

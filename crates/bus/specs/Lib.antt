@@ -4,6 +4,7 @@ pub mod Fairness
 pub mod Carried
 pub mod Tie
 pub mod Ran
+pub mod Searched
 pub mod Demands
 pub mod Code
 pub mod Orderly

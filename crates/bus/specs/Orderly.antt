@@ -17,7 +17,7 @@ busAfter b c = commandOf b (c .frame) (c .buffer) .bus
 pub ran-step : {xs : List Exchange} {b : Bus} → Ran xs b → (c : Call) → Same-as (commandOf b (c .frame) (c .buffer)) (step (stateOf b) c)
 ran-step {xs = xs} {b = b} r c =
     let m = ran-modelled r in
-    step-same b (m .tied .shape) (m .tied .raw) (rw (m .tied .view) (good (callsOf xs))) c
+    step-same b (m .tied .shape) (m .tied .raw) (rw (m .tied .view) (good (callsOf xs))) (m .tied .listed) c
 
 -- More exchanges from a bus on, each on the bus that the one before left, and the bus that they leave.
 pub data Goes-on : Bus → List Exchange → Bus → Type 0 where

@@ -83,6 +83,6 @@ ran-modelled (goes {xs = xs} {b = b} c r) = go (ran-modelled r)
     go m =
         let e : stateOf b ≡ stateAfter xs = m .tied .view in
         let g : Good (stateOf b) = rw e (good (callsOf xs)) in
-        let s : Same-as (commandOf b (c .frame) (c .buffer)) (step (stateAfter xs) c) = rw e at (step-same b (m .tied .shape) (m .tied .raw) g c) in
+        let s : Same-as (commandOf b (c .frame) (c .buffer)) (step (stateAfter xs) c) = rw e at (step-same b (m .tied .shape) (m .tied .raw) g (m .tied .listed) c) in
         let last : stateAfter (xs ++ (exchangeOf b c ∷ [])) ≡ step (stateAfter xs) c .state = ap run (calls-append xs (exchangeOf b c ∷ [])) ∙ run-snoc (callsOf xs) c in
         record { tied = rw last (s .tied); each = as-append start xs (exchangeOf b c) (m .each) (record { tied = m .tied; outcome = s .outcome; buffer = s .buffer }) }

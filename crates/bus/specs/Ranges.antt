@@ -37,7 +37,7 @@ use Rattle.bus.specs.Demands.{NotFive, refusal-not-five, zero-number, re
 pub record Lengths (b : Bus) : Type 0 where
   pub peers : length (b .peers) ≡ 25
   pub nodes : length (b .nodes) ≡ 256
-  pub handles : length (b .handles) ≡ 2048
+  pub handles : length (b .handles) ≡ 4112
   pub charges : length (b .charges) ≡ 96
   pub ends : length (b .rings .ends) ≡ 16
   pub entries : length (b .rings .rows .entries) ≡ 20480

@@ -19,7 +19,8 @@ use Rattle.quota.specs.declared.Charges.{Charges}
 use Rattle.quota.specs.Charges.{users, nothing}
 use Rattle.tables.specs.NodesView.{live-is}
 use Rattle.tables.specs.Handles.{findAt, holdersAt}
-use Rattle.tables.specs.HandlesView.{handleV, find-is, holders-any}
+use Rattle.tables.specs.HandlesView.{handleV, holders-any}
+use Rattle.tables.specs.Listed.{AllListed, find-is}
 use Rattle.tables.specs.Charges.{chargesAt}
 use Rattle.tables.specs.ChargesView.{chargesV, charges-is}
 use Rattle.model.specs.Numbers.{slots, nodes, peers}
@@ -73,12 +74,12 @@ nobody-names h l q s (message n m ∷ es) a u c =
 nobody-names h l q s (destroyed n t ∷ es) a u c = nobody-names h l q s es (a .1) u c
 nobody-names h l q s (released n t ∷ es) a u c = nobody-names h l q s es (a .1) u c
 
-module _ (b : Bus) (shape : Shape b) (g : Good (stateOf b)) where
+module _ (b : Bus) (shape : Shape b) (g : Good (stateOf b)) (lists : AllListed (b .handles)) where
   abbrev part : Sight
   part = sight (b .peers) (b .nodes) (b .handles) (b .charges) (b .rings)
 
   find-same : (p : ℕ) → p < 8 → findAt (b .handles) p ≡ slot (stateOf b) p
-  find-same p l = fun-ext (λ i. find-is (b .handles) p (stateOf b .given p) l (g .ids p) i)
+  find-same p l = fun-ext (λ i. find-is (b .handles) p (stateOf b .given p) l (g .ids p) (lists p l) i)
 
   quiet : (s q : ℕ) → q < 8 → heldByAny (handleV (b .handles)) s ≡ false → eqb (attachedOf (chargesAt (b .charges) q)) 0 ≡ true → any (names s) (messagesIn (queueV (b .rings) (b .pool) q)) ≡ false
   unfolding heldByAny

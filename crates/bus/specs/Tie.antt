@@ -23,6 +23,7 @@ use Rattle.rings.specs.Rings.{lengthOf, queueOf, ringsOf}
 use Rattle.rings.specs.Laws.{queue-empty}
 use Rattle.pool.specs.Pool.{paired}
 use Rattle.tables.specs.Fresh.{status-fresh, user-fresh, given-fresh, accepted-fresh, life-fresh, handle-fresh, charges-fresh}
+use Rattle.tables.specs.Listed.{AllListed, listed-fresh}
 use Rattle.model.specs.State.{State, Entry, start}
 use Rattle.model.specs.Refusals.{refusal}
 use Rattle.model.specs.Effects.{effect}
@@ -40,6 +41,7 @@ use Rattle.bus.specs.Carried.{Seen-as, carried-seen}
 pub record Tied (b : Bus) (st : State) : Type 0 where
   pub shape : Shape b
   pub raw : Raw b
+  pub listed : AllListed (b .handles)
   pub view : stateOf b ≡ st
 
 -- What comes of a command is what comes of the model's step.
@@ -55,7 +57,7 @@ sized-true b s =
     rw (
       eq-eqb (length (b .peers)) 25 (s .peers),
       eq-eqb (length (b .nodes)) 256 (s .nodes),
-      eq-eqb (length (b .handles)) 2048 (s .handles),
+      eq-eqb (length (b .handles)) 4112 (s .handles),
       eq-eqb (length (b .charges)) 96 (s .charges),
       eq-eqb (length (b .rings .ends)) 16 (s .ends),
       eq-eqb (length (b .rings .rows .entries)) 20480 (s .rows .entries),
@@ -77,31 +79,31 @@ pub sound-true : (b : Bus) → Shape b → Raw b → Good (stateOf b) → soundO
 unfolding soundOk rangesOk
 sound-true b s r g = rw (sized-true b s, peers-true b (ranges-ok b r g) 8 (omega arith), lt-ltb _ _ (ranges-accepted b r g))
 
-module _ (b : Bus) (shape : Shape b) (raw : Raw b) (g : Good (stateOf b)) where
+module _ (b : Bus) (shape : Shape b) (raw : Raw b) (g : Good (stateOf b)) (lists : AllListed (b .handles)) where
   -- A refusal.
   refused-same : (n : ℕ) (f out : List ℕ) → ltb (length out) answerSize ≡ false → Same-as (refusedBy n b out) (finish (stateOf b) out (record { reply = record { answer = isRefused n; ids = []; payload = [] }; state = stateOf b }))
   unfolding finish
-  refused-same n f out e = record { tied = record { shape = shape; raw = raw; view = rw e }; outcome = refl; buffer = refl }
+  refused-same n f out e = record { tied = record { shape = shape; raw = raw; listed = lists; view = rw e }; outcome = refl; buffer = refl }
 
   -- A command that was read.
   read-same : (f out : List ℕ) (k : Command) → Legal f k → ltb (length out) answerSize ≡ false → Seen (eqb (refusal (stateOf b) f k) 0) →
       Same-as (carriedOut b f out (ruled (stateOf b) f k)) (finish (stateOf b) out (carryOut (stateOf b) f k (refusal (stateOf b) f k)))
   unfolding carriedOut carryOut finish
   read-same f out k l e (is-true z) =
-      let x = carried-seen b shape raw g f out k l (eqb-true (refusal (stateOf b) f k) 0 z) in
-      rw z (record { tied = record { shape = x .shape; raw = x .raw; view = rw e (x .state) }; outcome = x .outcome; buffer = x .buffer })
+      let x = carried-seen b shape raw g lists f out k l (eqb-true (refusal (stateOf b) f k) 0 z) in
+      rw z (record { tied = record { shape = x .shape; raw = x .raw; listed = x .listed; view = rw e (x .state) }; outcome = x .outcome; buffer = x .buffer })
   read-same f out k l e (is-false z) = rw z (refused-same (refusal (stateOf b) f k) f out e)
 
   parsed-same : (f out : List ℕ) (x : Parsed) → parse f ≡ x → ltb (length out) answerSize ≡ false →
       Same-as (obeyed b f out x) (finish (stateOf b) out (judge (stateOf b) f x))
   parsed-same f out (Refused n) p e = refused-same n f out e
   parsed-same f out (Read k) p e =
-      rw (ruling-same b shape g f k (legal-command f k p)) (read-same f out k (legal-command f k p) e (look (eqb (refusal (stateOf b) f k) 0)))
+      rw (ruling-same b shape g lists f k (legal-command f k p)) (read-same f out k (legal-command f k p) e (look (eqb (refusal (stateOf b) f k) 0)))
 
   -- A short answer buffer.
   short-same : (out : List ℕ) (v : Verdict) → ltb (length out) answerSize ≡ true → Same-as (record { outcome = record { number = 22; len = 0 }; bus = b; out = out }) (finish (stateOf b) out v)
   unfolding finish outcomeOf answerAfter
-  short-same out v e = record { tied = record { shape = shape; raw = raw; view = rw e }; outcome = rw e; buffer = rw e }
+  short-same out v e = record { tied = record { shape = shape; raw = raw; listed = lists; view = rw e }; outcome = rw e; buffer = rw e }
 
   pub step-same : (c : Call) → Same-as (commandOf b (c .frame) (c .buffer)) (step (stateOf b) c)
   unfolding commandOf step
@@ -126,19 +128,20 @@ fresh-tied =
           record {
             peers = length-replicate {A = ℕ} 25 0;
             nodes = length-replicate {A = ℕ} 256 0;
-            handles = length-replicate {A = ℕ} 2048 0;
+            handles = length-replicate {A = ℕ} 4112 0;
             charges = length-replicate {A = ℕ} 96 0;
             ends = length-replicate {A = ℕ} 16 0;
             rows = record { entries = length-replicate {A = ℕ} 20480 0; carried = length-replicate {A = ℕ} 32768 0; numbers = length-replicate {A = ℕ} 4096 0 };
             pool = length-replicate {A = ℕ} 32768 0;
           };
       raw = raw-fresh freshBus 25 16 refl refl;
+      listed = listed-fresh 4112;
       view =
           rw (
             status-fresh 25,
             user-fresh 25,
             given-fresh 25,
-            handle-fresh 2048,
+            handle-fresh 4112,
             queue-fresh 16 0 (replicate 20480 0) (replicate 32768 0) (replicate 4096 0) (replicate 32768 0),
             charges-fresh 96,
             life-fresh 256,

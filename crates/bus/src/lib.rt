@@ -8,6 +8,7 @@ ghost use Rattle.view.specs.View.{busOf, Shape};
 ghost use Rattle.queues.specs.Queues.{Short};
 ghost use Rattle.judges.specs.Orders.{sight, rulingOf};
 ghost use Rattle.rings.specs.Rings.{ringsOf};
+ghost use Rattle.tables.specs.Handles.{handlesSize};
 ghost use Rattle.bus.specs.Command.{sizedOk, peerOk, rangesOk, soundOk, doneOf, replyTo, altered, changedOf, changed, carriedOut, commandOf, freshOf, freshNumber, Fair};
 use answers::Answer;
 use answers::Outcome;
@@ -39,7 +40,7 @@ fn sized(
     if nodes.len() != 256 {
         return false;
     }
-    if handles.len() != 2048 {
+    if handles.len() != 4112 {
         return false;
     }
     if charges.len() != 96 {
@@ -131,7 +132,7 @@ fn is_sound(
 
 // The answer to a refusal or a question; to any other order that shows neither an ID nor a message it is 00 alone.
 fn reply(hs: &[u64], cs: &[u16], order: Order) -> Answer
-    requires { ⌜ (length (now hs) ≡ 2048) × (length (now cs) ≡ 96) × Fair order ⌝ }
+    requires { ⌜ (length (now hs) ≡ handlesSize) × (length (now cs) ≡ 96) × Fair order ⌝ }
     ensures { λ a. ⌜ a ≡ replyTo (now (hs .entry)) (now (cs .entry)) order ⌝ }
 {
     match order {

@@ -330,7 +330,7 @@ fn run(
 fn main() {
     let mut peers = [0u64; 25];
     let mut nodes = [0u64; 256];
-    let mut handles = [0u64; 2048];
+    let mut handles = [0u64; 4112];
     let mut charges = [0u16; 96];
     let mut ends = [0u16; 16];
     let mut entries = [0u16; 20480];

@@ -12,7 +12,7 @@ use Rattle.rings.specs.declared.Match.{Match}
 use Rattle.rings.specs.Rings.{Rings, rowsOf, Sized, oneSlot}
 use Rattle.tables.specs.Peers.{acceptedAt, countCommand, setOpen}
 use Rattle.tables.specs.Nodes.{liveAt, setLive}
-use Rattle.tables.specs.Handles.{idAt, countAt, totalAt, putHandle}
+use Rattle.tables.specs.Handles.{countAt, totalAt, putHandle, reduced}
 use Rattle.queues.specs.Queues.{Queues, entered, removedFrom, queuesOf}
 use Rattle.notices.specs.Notices.{noticeOf, destroyedOf, destroyedSet}
 use Rattle.grants.specs.Grants.{givenOf, givenTo}
@@ -54,10 +54,9 @@ module _ (q : Queues) (p s : ℕ) {k : ℕ} {m : Match} (em : m ≡ oneSlot k s)
   forget-other h ek = rw (ne-eqb (s / 16) p h, ← ek, ← em) eq
 
 -- drop_reference
-pub drop-done : (hs : List ℕ) (p s : ℕ) {c : ℕ} → c ≡ countAt hs p s → {l : ℕ} → l ≡ c - 1 → {i : HandleId} → i ≡ record { 0 = idAt hs p s } →
-    {hs′ : List ℕ} → hs′ ≡ putHandle hs p s (i .0) l → droppedOf l hs′ ≡ dropped hs p s
+pub drop-done : (hs : List ℕ) (p s : ℕ) {l : ℕ} {hs′ : List ℕ} → (l ≡ countAt hs p s - 1) × (hs′ ≡ reduced hs p s) → droppedOf l hs′ ≡ dropped hs p s
 unfolding dropped
-drop-done hs p s ec el ei eh = rw (eh, ei, el, ec)
+drop-done hs p s e = rw (e .0, e .1)
 
 -- notify
 module _ (ns hs : List ℕ) (r : Rings) (s n : ℕ) {l : Bool} (el : l ≡ liveAt ns s) where

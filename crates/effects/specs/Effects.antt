@@ -18,7 +18,7 @@ use Rattle.rings.specs.Rings.{slots, Rings, popped, firstOf, cleared, oneSlot}
 use Rattle.pool.specs.Pool.{pieceOf}
 use Rattle.tables.specs.Peers.{acceptedAt, userAt, countCommand, setOpen, setDisconnected}
 use Rattle.tables.specs.Nodes.{liveAt, setLive}
-use Rattle.tables.specs.Handles.{idAt, countAt, totalAt, putHandle, clearPeer}
+use Rattle.tables.specs.Handles.{countAt, totalAt, putHandle, reduced, clearPeer}
 use Rattle.tables.specs.Charges.{chargesAt}
 use Rattle.queues.specs.Queues.{Queues, usedOf, isMessage, entered, enqueued, settledCharges, settledPool, removedFrom, emptiedCharges, followsIn}
 use Rattle.judges.specs.declared.Places.{Places}
@@ -76,7 +76,7 @@ abbrev pub droppedOf : ℕ → List ℕ → Dropped
 droppedOf c hs = record { left = c; handles = hs }
 
 unfoldable pub dropped : List ℕ → ℕ → ℕ → Dropped
-dropped hs p s = droppedOf (countAt hs p s - 1) (putHandle hs p s (idAt hs p s) (countAt hs p s - 1))
+dropped hs p s = droppedOf (countAt hs p s - 1) (reduced hs p s)
 
 unfoldable pub forgotten : Queues → ℕ → ℕ → Queues
 forgotten q p s = removedFrom q p (oneSlot (pick (eqb (s / slots) p) 7 6) s)

@@ -10,3 +10,4 @@ pub mod Releasing
 pub mod Receiving
 pub mod Ranges
 pub mod Destroying
+pub mod Listing

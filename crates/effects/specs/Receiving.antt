@@ -5,13 +5,14 @@ use mathlib.Core.Path.{_≡_, refl, sym, ap, ap₂, _∙_}
 use mathlib.Core.Bool.{true, false}
 use mathlib.Core.List.{List, [], _∷_}
 use native.Mathlib.Omega.{arith}
-use lib.ListN.{length, take, drop, length-take}
+use lib.ListN.{length, getD, take, drop, length-take}
+use lib.Seq.{getD-take, length-take-le}
 use lib.Dec.{ltb}
 use borrow.Author.Tests.{ltb-true}
 use Rattle.laws.specs.Tests.{Seen, Seen.is-true, Seen.is-false, look}
 use Rattle.laws.specs.Tables.{upd, upd-self, upd-all}
 use Rattle.laws.specs.Guards.{upto}
-use Rattle.laws.specs.Weights.{All}
+use Rattle.laws.specs.Weights.{All, all-at}
 use Rattle.answers.specs.declared.Answer.{Answer}
 use Rattle.answers.specs.Answer.{answerAfter, outcomeOf}
 use Rattle.rings.specs.declared.Entry.{Entry as Row}
@@ -22,6 +23,7 @@ use Rattle.tables.specs.Charges.{chargesAt}
 use Rattle.tables.specs.ChargesView.{chargesV}
 use Rattle.tables.specs.Handles.{countAt}
 use Rattle.tables.specs.HandlesView.{handleV, id-is, count-is}
+use Rattle.tables.specs.Listed.{AllListed}
 use Rattle.tables.specs.Peers.{modulus, givenAt, countCommand}
 use Rattle.tables.specs.PeersView.{given-is, given-counted}
 use Rattle.model.specs.Numbers.{nodes, owner, invalid}
@@ -33,6 +35,8 @@ use Rattle.model.specs.Replies.{Reply, plain, ofSend, shows, showsMessage}
 use Rattle.model.specs.Lists.{any}
 use Rattle.model.specs.Notices.{Stands}
 use Rattle.model.specs.Counts.{total-one}
+use Rattle.model.specs.IdsLaws.{Holding}
+use Rattle.model.specs.IdsProof.{holding-out}
 use Rattle.view.specs.View.{Bus, Shape, entryV, queueV, stateOf}
 use Rattle.view.specs.Rows.{area-length}
 use Rattle.queues.specs.Queues.{Queues, Short, usedOf, isMessage, takenOut, followsIn}
@@ -41,6 +45,7 @@ use Rattle.queues.specs.Entering.{Filled}
 use Rattle.queues.specs.Leaving.{taken-view, taken-discharged, taken-same, taken-message, taken-notice, taken-rows, taken-ends, taken-pool, taken-charged, taken-short}
 use Rattle.grants.specs.Grants.{givesTo, idOrInvalid}
 use Rattle.grants.specs.Giving.{LoneEntry, Lone, lone-stands, givenBus, givenOn, given-view, given-shown, given-shape, givesBus, givesOn, Handed, gives-view}
+use Rattle.grants.specs.Listing.{listed-gives}
 use Rattle.effects.specs.Effects.{ringsAfter, messageAnswer, shownIds, shownBytes, Taken, receivedOf, receivedMessage, noticeAnswer, noticeTaken, received, transfers}
 use Rattle.effects.specs.After.{queuesIn, afterTransfer, afterReceive}
 use Rattle.effects.specs.Good.{Good}
@@ -126,7 +131,7 @@ module _ (b : Bus) (q s : ℕ) (h : Shape b) (g : Good (stateOf b)) (l : q < 8) 
   unfolding transfers
   transferred-is = refl
 
-  few : countAt (b .handles) q s + 1 < modulus
+  pub few : countAt (b .handles) q s + 1 < modulus
   few = omega (arith, count-is (b .handles) q s l m, few-counts b g q s, g .bounded .few)
 
   numbered : givenAt (countCommand (b .peers)) q + 1 < modulus
@@ -325,6 +330,19 @@ module _ (b : Bus) (p : ℕ) (out : List ℕ) (h : Shape b) (g : Good (stateOf b
     took-view =
         take-message (counting b) p (shape-counted b h) l some (good-filled b g) k ∙ ap (λ (x : State). takeOut x p (messageV front ∷ []) rest) (counted-view b h g)
 
+    listed-message : AllListed (b .handles) → AllListed (afterReceive b p out .handles)
+    listed-message a =
+        rw (ap (λ (x : Bus). x .handles) bus-message)
+        (listed-gives took (shape-taken (counting b) p (shape-counted b h) l some (good-filled b g)) p (entry .carried) l eight lone short
+        (rw took-view (holding-out (stateOf b) p (messageV front ∷ []) rest (record { handles = g .ids; owned = g .noted .owned })))
+        a many (omega arith)
+        (λ j lj. low-at j lj)
+        (λ q s. omega (arith, few-counts b g q s, g .bounded .few)) given-few)
+      where
+        low-at : (j : ℕ) → j < many → getD (entry .carried) j 0 < 128
+        low-at j lj =
+            rw (getD-take many (entry .carried) j 0 lj) at (all-at (λ s. s < 128) (take many (entry .carried)) j 0 carried-low (omega (arith, length-take-le many (entry .carried) (omega (arith, eight)))))
+
     view-message : stateOf (afterReceive b p out) ≡ giveAll (takeOut (accept (stateOf b)) p (messageV front ∷ []) rest) p (messageV front .carried)
     view-message =
         ap stateOf bus-message ∙ handed .state ∙ ap₂ (λ (x : State) (ss : List ℕ). giveAll x p ss) took-view carried-same
@@ -392,3 +410,14 @@ module _ (b : Bus) (p : ℕ) (out : List ℕ) (h : Shape b) (g : Good (stateOf b
       go (is-message k n j f) = shape-message k n f
       go (is-destroyed k n j f) = shape-notice k
       go (is-released k n j f) = shape-notice k
+
+  pub receive-listed : AllListed (b .handles) → AllListed (afterReceive b p out .handles)
+  receive-listed a = go (kind front)
+    where
+      still : isMessage entry ≡ false → AllListed (afterReceive b p out .handles)
+      still k = rw (ap (λ (x : Bus). x .handles) (bus-notice k)) a
+
+      go : Kind front → AllListed (afterReceive b p out .handles)
+      go (is-message k n j f) = listed-message k n f a
+      go (is-destroyed k n j f) = still k
+      go (is-released k n j f) = still k

@@ -13,8 +13,8 @@ use Rattle.laws.specs.Sums.{sum-at}
 use Rattle.rings.specs.declared.Match.{Match}
 use Rattle.rings.specs.Rings.{slots, ringSize, Rings, lengthOf, matches, oneSlot}
 use Rattle.pool.specs.Pool.{Pair}
-use Rattle.tables.specs.Handles.{idAt, countAt, totalAt, putHandle}
-use Rattle.tables.specs.HandlesView.{handleV, handle-is, handle-put, count-is, count-small, total-is, put-length}
+use Rattle.tables.specs.Handles.{idAt, countAt, totalAt, reduced}
+use Rattle.tables.specs.HandlesView.{handleV, handle-is, handle-reduced, count-is, total-is, reduced-length}
 use Rattle.tables.specs.Nodes.{liveAt}
 use Rattle.tables.specs.NodesView.{live-is}
 use Rattle.tables.specs.Peers.{modulus}
@@ -55,17 +55,17 @@ pub good-short : (b : Bus) → Good (stateOf b) → (o : ℕ) → o < 8 → leng
 good-short b g o l = omega (arith, queue-count (b .rings) (b .pool) o l, g .short o)
 
 -- A handle written.
-pub put-view : (b : Bus) (p s i c : ℕ) → Shape b → p < 8 → s < 128 → c < modulus →
-    stateOf (handling b (putHandle (b .handles) p s i c)) ≡ withHandle (stateOf b) p s (handleOf i c)
+pub reduce-view : (b : Bus) (p s : ℕ) → Shape b → p < 8 → s < 128 →
+    stateOf (handling b (reduced (b .handles) p s)) ≡ withHandle (stateOf b) p s (handleOf (idAt (b .handles) p s) (countAt (b .handles) p s - 1))
 unfolding withHandles
-put-view b p s i c h l m k = rw (handle-put (b .handles) (h .handles) p s i c l m k)
+reduce-view b p s h l m = rw (handle-reduced (b .handles) (h .handles) p s l m)
 
-pub shape-put : (b : Bus) (p s i c : ℕ) → Shape b → Shape (handling b (putHandle (b .handles) p s i c))
-shape-put b p s i c h =
+pub shape-reduce : (b : Bus) (p s : ℕ) → Shape b → Shape (handling b (reduced (b .handles) p s))
+shape-reduce b p s h =
     record {
       peers = h .peers;
       nodes = h .nodes;
-      handles = put-length (b .handles) p s i c ∙ h .handles;
+      handles = reduced-length (b .handles) p s ∙ h .handles;
       charges = h .charges;
       ends = h .ends;
       rows = h .rows;
@@ -182,7 +182,7 @@ total-put h p s x l =
 -- A release: the count lowered, what goes with the handle, the notice at the owner.
 module _ (b : Bus) (p s i c : ℕ) (h : Shape b) (g : Good (stateOf b)) (l : p < 8) (m : s < 128) (holds : stateOf b .handle p s ≡ some i c) where
   abbrev lessHandles : List ℕ
-  lessHandles = putHandle (b .handles) p s (idAt (b .handles) p s) (countAt (b .handles) p s - 1)
+  lessHandles = reduced (b .handles) p s
 
   abbrev less : Bus
   less = handling (counting b) lessHandles
@@ -210,11 +210,11 @@ module _ (b : Bus) (p s i c : ℕ) (h : Shape b) (g : Good (stateOf b)) (l : p <
       named x (suc k) z e = e
 
   shape-less : Shape less
-  shape-less = shape-put (counting b) p s (idAt (b .handles) p s) (countAt (b .handles) p s - 1) (shape-counted b h)
+  shape-less = shape-reduce (counting b) p s (shape-counted b h)
 
   less-view : stateOf less ≡ withHandle (accept (stateOf b)) p s (handleOf i (c - 1))
   less-view =
-      put-view (counting b) p s (idAt (b .handles) p s) (countAt (b .handles) p s - 1) (shape-counted b h) l m (omega (arith, count-small (b .handles) p s))
+      reduce-view (counting b) p s (shape-counted b h) l m
       ∙ ap (λ (x : State). withHandle x p s (handleOf (idAt (b .handles) p s) (countAt (b .handles) p s - 1))) (counted-view b h g)
       ∙ ap₂ (λ (x y : ℕ). withHandle (accept (stateOf b)) p s (handleOf x (y - 1))) id-i count-c
 
@@ -260,7 +260,7 @@ module _ (b : Bus) (p s i c : ℕ) (h : Shape b) (g : Good (stateOf b)) (l : p <
       let old = handleV (b .handles) in
       let new = handleOf (idAt (b .handles) p s) (countAt (b .handles) p s - 1) in
       let made : handleV lessHandles ≡ put old p s new =
-      handle-put (b .handles) (h .handles) p s (idAt (b .handles) p s) (countAt (b .handles) p s - 1) l m (omega (arith, count-small (b .handles) p s)) in
+      handle-reduced (b .handles) (h .handles) p s l m in
       let now : total (put old p s new) s ≡ 1 = ap (λ (f : ℕ → ℕ → Handle). total f s) (sym made) ∙ one in
       let k : count (old p s) ≡ c = ap count holds in
       let j : count new ≡ countAt (b .handles) p s - 1 = count-handle (idAt (b .handles) p s) (countAt (b .handles) p s - 1) in

@@ -8,6 +8,7 @@ ghost use Rattle.answers.specs.Answer.{answerAfter, outcomeOf};
 ghost use Rattle.queues.specs.Queues.{queuesOf};
 ghost use Rattle.view.specs.View.{busOf};
 ghost use Rattle.grants.specs.Grants.{givenOf};
+ghost use Rattle.tables.specs.Handles.{handlesSize};
 ghost use Rattle.effects.specs.Effects.{countedOf, counted, openedPeers, createdOf, created, destroysOf, destroys, dropped, droppedOf, forgotten, notified, releasesOf, releases, transfers, messageTo, sentTo, sends, sendsOf, disconnectsOf, disconnects, messageAnswer, shownIds, shownBytes, receivedMessage, noticeTaken, noticeTakenOf, received, receivedOf};
 use answers::Answer;
 use answers::Header;
@@ -53,7 +54,7 @@ pub fn create(
     i: HandleId,
     s: usize,
 )
-    requires { ⌜ (length (now peers) ≡ 25) × (length (now nodes) ≡ 256) × (length (now handles) ≡ 2048) × (p .0 < 8) × (s < 128) ⌝ }
+    requires { ⌜ (length (now peers) ≡ 25) × (length (now nodes) ≡ 256) × (length (now handles) ≡ handlesSize) × (p .0 < 8) × (s < 128) ⌝ }
     ensures { λ _. ⌜ createdOf (now (peers .exit)) (now (nodes .exit)) (now (handles .exit)) ≡ created (now (peers .entry)) (now (nodes .entry)) (now (handles .entry)) (p .0) (i .0) s ⌝ }
 {
     tables::count_command(peers);
@@ -72,7 +73,7 @@ pub fn destroy(
     p: Peer,
     s: usize,
 )
-    requires { ⌜ (length (now peers) ≡ 25) × (length (now nodes) ≡ 256) × (length (now handles) ≡ 2048) × (length (now ends) ≡ endCount) × Sized (rowsOf (now entries) (now carried) (now numbers)) × (p .0 < 8) ⌝ }
+    requires { ⌜ (length (now peers) ≡ 25) × (length (now nodes) ≡ 256) × (length (now handles) ≡ handlesSize) × (length (now ends) ≡ endCount) × Sized (rowsOf (now entries) (now carried) (now numbers)) × (p .0 < 8) ⌝ }
     ensures { λ _. ⌜ destroysOf (now (peers .exit)) (now (nodes .exit)) (ringsOf (now (ends .exit)) (now (entries .exit)) (now (carried .exit)) (now (numbers .exit))) ≡ destroys (now (peers .entry)) (now (nodes .entry)) (now (handles .entry)) (ringsOf (now (ends .entry)) (now (entries .entry)) (now (carried .entry)) (now (numbers .entry))) (p .0) s ⌝ }
 {
     let n = next_number(peers);
@@ -98,22 +99,12 @@ fn forget(
     queues::remove(charges, ends, entries, carried, numbers, pool, p, m);
 }
 
-// One less, at least 0.
-fn one_less(c: u64) -> u64
-    ensures { λ r. ⌜ r ≡ c - 1 ⌝ }
-{
-    if c == 0 { 0 } else { c - 1 }
-}
-
 // One reference of the peer to the slot's node less: how many are left.
 fn drop_reference(handles: &mut [u64], p: Peer, s: usize) -> u64
-    requires { ⌜ (length (now handles) ≡ 2048) × (p .0 < 8) × (s < 128) ⌝ }
+    requires { ⌜ (length (now handles) ≡ handlesSize) × (p .0 < 8) × (s < 128) ⌝ }
     ensures { λ r. ⌜ droppedOf r (now (handles .exit)) ≡ dropped (now (handles .entry)) (p .0) s ⌝ }
 {
-    let left = one_less(tables::count_of(handles, p, s));
-    let id = tables::id_of(handles, p, s);
-    tables::put_handle(handles, p, s, id, left);
-    left
+    tables::reduce(handles, p, s)
 }
 
 // The release notice at the owner, where the slot's node lives and the sum of counts is 1.
@@ -127,7 +118,7 @@ fn notify(
     s: usize,
     n: u64,
 )
-    requires { ⌜ (length (now nodes) ≡ 256) × (length (now handles) ≡ 2048) × (length (now ends) ≡ endCount) × Sized (rowsOf (now entries) (now carried) (now numbers)) × (s < 128) ⌝ }
+    requires { ⌜ (length (now nodes) ≡ 256) × (length (now handles) ≡ handlesSize) × (length (now ends) ≡ endCount) × Sized (rowsOf (now entries) (now carried) (now numbers)) × (s < 128) ⌝ }
     ensures { λ _. ⌜ ringsOf (now (ends .exit)) (now (entries .exit)) (now (carried .exit)) (now (numbers .exit)) ≡ notified (now (nodes .entry)) (now (handles .entry)) (ringsOf (now (ends .entry)) (now (entries .entry)) (now (carried .entry)) (now (numbers .entry))) s n ⌝ }
 {
     if !tables::is_live(nodes, s) {
@@ -152,7 +143,7 @@ pub fn release(
     p: Peer,
     s: usize,
 )
-    requires { ⌜ (length (now peers) ≡ 25) × (length (now nodes) ≡ 256) × (length (now handles) ≡ 2048) × (length (now charges) ≡ 96) × (length (now ends) ≡ endCount) × Sized (rowsOf (now entries) (now carried) (now numbers)) × (p .0 < 8) × (s < 128) ⌝ }
+    requires { ⌜ (length (now peers) ≡ 25) × (length (now nodes) ≡ 256) × (length (now handles) ≡ handlesSize) × (length (now charges) ≡ 96) × (length (now ends) ≡ endCount) × Sized (rowsOf (now entries) (now carried) (now numbers)) × (p .0 < 8) × (s < 128) ⌝ }
     ensures { λ _. ⌜ releasesOf (now (peers .exit)) (now (handles .exit)) (queuesOf (now (charges .exit)) (now (ends .exit)) (now (entries .exit)) (now (carried .exit)) (now (numbers .exit)) (now (pool .exit))) ≡ releases (now (peers .entry)) (now (nodes .entry)) (now (handles .entry)) (queuesOf (now (charges .entry)) (now (ends .entry)) (now (entries .entry)) (now (carried .entry)) (now (numbers .entry)) (now (pool .entry))) (p .0) s ⌝ }
 {
     let n = next_number(peers);
@@ -174,7 +165,7 @@ pub fn transfer(
     q: Peer,
     s: usize,
 ) -> HandleId
-    requires { ⌜ (length (now peers) ≡ 25) × (length (now nodes) ≡ 256) × (length (now handles) ≡ 2048) × (length (now ends) ≡ endCount) × Sized (rowsOf (now entries) (now carried) (now numbers)) × (q .0 < 8) × (s < 128) ⌝ }
+    requires { ⌜ (length (now peers) ≡ 25) × (length (now nodes) ≡ 256) × (length (now handles) ≡ handlesSize) × (length (now ends) ≡ endCount) × Sized (rowsOf (now entries) (now carried) (now numbers)) × (q .0 < 8) × (s < 128) ⌝ }
     ensures { λ r. ⌜ givenOf (r .0) (now (peers .exit)) (now (handles .exit)) (ringsOf (now (ends .exit)) (now (entries .exit)) (now (carried .exit)) (now (numbers .exit))) ≡ transfers (now (peers .entry)) (now (nodes .entry)) (now (handles .entry)) (ringsOf (now (ends .entry)) (now (entries .entry)) (now (carried .entry)) (now (numbers .entry))) (q .0) s ⌝ }
 {
     tables::count_command(peers);
@@ -279,7 +270,7 @@ pub fn disconnect(
     numbers: &mut [u64],
     p: Peer,
 )
-    requires { ⌜ (length (now peers) ≡ 25) × (length (now nodes) ≡ 256) × (length (now handles) ≡ 2048) × (length (now charges) ≡ 96) × (length (now ends) ≡ endCount) × Sized (rowsOf (now entries) (now carried) (now numbers)) × (p .0 < 8) ⌝ }
+    requires { ⌜ (length (now peers) ≡ 25) × (length (now nodes) ≡ 256) × (length (now handles) ≡ handlesSize) × (length (now charges) ≡ 96) × (length (now ends) ≡ endCount) × Sized (rowsOf (now entries) (now carried) (now numbers)) × (p .0 < 8) ⌝ }
     ensures { λ _. ⌜ disconnectsOf (now (peers .exit)) (now (nodes .exit)) (now (handles .exit)) (now (charges .exit)) (ringsOf (now (ends .exit)) (now (entries .exit)) (now (carried .exit)) (now (numbers .exit))) ≡ disconnects (now (peers .entry)) (now (nodes .entry)) (now (handles .entry)) (now (charges .entry)) (ringsOf (now (ends .entry)) (now (entries .entry)) (now (carried .entry)) (now (numbers .entry))) (p .0) ⌝ }
 {
     let n = next_number(peers);
@@ -339,7 +330,7 @@ fn receive_message(
     e: Entry,
     out: &mut [u8],
 ) -> Outcome
-    requires { ⌜ (length (now peers) ≡ 25) × (length (now nodes) ≡ 256) × (length (now handles) ≡ 2048) × (length (now charges) ≡ 96) × (length (now ends) ≡ endCount) × Sized (rowsOf (now entries) (now carried) (now numbers)) × (length (now pool) ≡ poolSize) × (p .0 < 8) × (lengthOf (now ends) (p .0) ≤ ringSize) ⌝ }
+    requires { ⌜ (length (now peers) ≡ 25) × (length (now nodes) ≡ 256) × (length (now handles) ≡ handlesSize) × (length (now charges) ≡ 96) × (length (now ends) ≡ endCount) × Sized (rowsOf (now entries) (now carried) (now numbers)) × (length (now pool) ≡ poolSize) × (p .0 < 8) × (lengthOf (now ends) (p .0) ≤ ringSize) ⌝ }
     ensures { λ r. ⌜ receivedOf r (now (out .exit)) (now (peers .exit)) (now (handles .exit)) (queuesOf (now (charges .exit)) (now (ends .exit)) (now (entries .exit)) (now (carried .exit)) (now (numbers .exit)) (now (pool .exit))) ≡ receivedMessage (now (peers .entry)) (now (nodes .entry)) (now (handles .entry)) (queuesOf (now (charges .entry)) (now (ends .entry)) (now (entries .entry)) (now (carried .entry)) (now (numbers .entry)) (now (pool .entry))) (p .0) e (now (out .entry)) ⌝ }
 {
     let flag = queues::follows(ends, entries, carried, numbers, p, e.number);
@@ -366,7 +357,7 @@ fn receive_message(
 
 // The oldest notice is taken out.
 fn receive_notice(handles: &[u64], ends: &mut [u16], p: Peer, e: Entry, out: &mut [u8]) -> Outcome
-    requires { ⌜ (length (now handles) ≡ 2048) × (length (now ends) ≡ endCount) × (p .0 < 8) ⌝ }
+    requires { ⌜ (length (now handles) ≡ handlesSize) × (length (now ends) ≡ endCount) × (p .0 < 8) ⌝ }
     ensures { λ r. ⌜ noticeTakenOf r (now (out .exit)) (now (ends .exit)) ≡ noticeTaken (now (handles .entry)) (now (ends .entry)) (p .0) e (now (out .entry)) ⌝ }
 {
     let id = grants::id_or_invalid(handles, p, rings::wide(e.slot) % 128);
@@ -391,7 +382,7 @@ pub fn receive(
     p: Peer,
     out: &mut [u8],
 ) -> Outcome
-    requires { ⌜ (length (now peers) ≡ 25) × (length (now nodes) ≡ 256) × (length (now handles) ≡ 2048) × (length (now charges) ≡ 96) × (length (now ends) ≡ endCount) × Sized (rowsOf (now entries) (now carried) (now numbers)) × (length (now pool) ≡ poolSize) × (p .0 < 8) × (lengthOf (now ends) (p .0) ≤ ringSize) ⌝ }
+    requires { ⌜ (length (now peers) ≡ 25) × (length (now nodes) ≡ 256) × (length (now handles) ≡ handlesSize) × (length (now charges) ≡ 96) × (length (now ends) ≡ endCount) × Sized (rowsOf (now entries) (now carried) (now numbers)) × (length (now pool) ≡ poolSize) × (p .0 < 8) × (lengthOf (now ends) (p .0) ≤ ringSize) ⌝ }
     ensures { λ r. ⌜ receivedOf r (now (out .exit)) (now (peers .exit)) (now (handles .exit)) (queuesOf (now (charges .exit)) (now (ends .exit)) (now (entries .exit)) (now (carried .exit)) (now (numbers .exit)) (now (pool .exit))) ≡ received (now (peers .entry)) (now (nodes .entry)) (now (handles .entry)) (queuesOf (now (charges .entry)) (now (ends .entry)) (now (entries .entry)) (now (carried .entry)) (now (numbers .entry)) (now (pool .entry))) (p .0) (now (out .entry)) ⌝ }
 {
     tables::count_command(peers);

@@ -12,7 +12,7 @@ use Rattle.rings.specs.declared.Match.{Match}
 use Rattle.rings.specs.Rings.{Rings, ringsOf, oneSlot}
 use Rattle.tables.specs.Peers.{givenAt, setGiven}
 use Rattle.tables.specs.Nodes.{liveAt}
-use Rattle.tables.specs.Handles.{idAt, countAt, totalAt, putHandle}
+use Rattle.tables.specs.Handles.{idAt, countAt, totalAt, raised}
 use Rattle.model.specs.Numbers.{invalid}
 use Rattle.queues.specs.Queues.{withdrawn}
 use Rattle.grants.specs.Grants.{Numbered, numberedOf, numbered, shownTo, referencedOf, referenced, givenOf, givenTo, Gives, givesOf, givesTo, idOrInvalid}
@@ -41,10 +41,10 @@ module _ (hs : List ℕ) (p s : ℕ) {n : ℕ} (en : n ≡ countAt hs p s) where
   id-some h e = rw (← en, ne-eqb n 0 h) e
 
 -- add_reference
-pub reference-added : (ps hs : List ℕ) (p s : ℕ) {i : ℕ} {ps′ : List ℕ} → numberedOf i ps′ ≡ shownTo ps hs p s → {c : ℕ} → c ≡ countAt hs p s →
-    {hs′ : List ℕ} → hs′ ≡ putHandle hs p s i (c + 1) → referencedOf i ps′ hs′ ≡ referenced ps hs p s
+pub reference-added : (ps hs : List ℕ) (p s : ℕ) {i : ℕ} {ps′ : List ℕ} → numberedOf i ps′ ≡ shownTo ps hs p s →
+    {hs′ : List ℕ} → hs′ ≡ raised hs p s i → referencedOf i ps′ hs′ ≡ referenced ps hs p s
 unfolding referenced
-reference-added ps hs p s e ec eh = rw (eh, ec, ← e)
+reference-added ps hs p s e eh = rw (eh, ← e)
 
 -- give
 pub rings-same : {a a′ b b′ c c′ d d′ : List ℕ} → a ≡ a′ → b ≡ b′ → c ≡ c′ → d ≡ d′ → ringsOf a b c d ≡ ringsOf a′ b′ c′ d′

@@ -18,7 +18,7 @@ use Rattle.tables.specs.PeersView.{statusV, userV, givenV, acceptedV, status-gi
 use Rattle.tables.specs.Nodes.{liveAt}
 use Rattle.tables.specs.NodesView.{lifeV, live-is}
 use Rattle.tables.specs.Handles.{idAt, countAt, totalAt}
-use Rattle.tables.specs.HandlesView.{handleV, handle-put, count-is, id-is, given-after, total-is, put-length}
+use Rattle.tables.specs.HandlesView.{handleV, handle-raised, count-is, id-is, given-after, total-is, raised-length}
 use Rattle.model.specs.Numbers.{owner, nextId}
 use Rattle.model.specs.State.{Life, isLive, Handle, handleOf, count, idOr, Entry, State, total}
 use Rattle.model.specs.State.Entry.{message, destroyed, released}
@@ -190,7 +190,7 @@ module _ (b : Bus) (shape : Shape b) (p s : ℕ) (lp : p < 8) (ls : s < 128) (lo
             shown-user (b .peers) (b .handles) (shape .peers) p s lp ls,
             shown-given (b .peers) (b .handles) (shape .peers) p s lp ls ids,
             shown-accepted (b .peers) (b .handles) (shape .peers) p s lp ls,
-            handle-put (b .handles) (shape .handles) p s (shownTo (b .peers) (b .handles) p s .id) (countAt (b .handles) p s + 1) lp ls counts,
+            handle-raised (b .handles) (shape .handles) p s lp ls (shownTo (b .peers) (b .handles) p s .id) counts,
             shown-id (b .peers) (b .handles) (shape .peers) p s lp ls,
             more,
             unnoted-queue (b .handles) (b .rings) s (b .pool) (shape .rows) (shape .ends) ls lone short,
@@ -220,7 +220,7 @@ given-shape b shape p s = go (look (liveAt (b .nodes) s))
         (record {
           peers = shown-length (b .peers) (b .handles) p s ∙ shape .peers;
           nodes = shape .nodes;
-          handles = put-length (b .handles) p s (shownTo (b .peers) (b .handles) p s .id) (countAt (b .handles) p s + 1) ∙ shape .handles;
+          handles = raised-length (b .handles) p s (shownTo (b .peers) (b .handles) p s .id) ∙ shape .handles;
           charges = shape .charges;
           ends = unnoted-ends (b .handles) (b .rings) s ∙ shape .ends;
           rows = unnoted-rows (b .handles) (b .rings) s (shape .rows);

@@ -8,7 +8,7 @@ use Rattle.laws.specs.Tests.{pick}
 use Rattle.rings.specs.Rings.{slots, Rings, oneSlot}
 use Rattle.tables.specs.Peers.{givenAt, setGiven}
 use Rattle.tables.specs.Nodes.{liveAt}
-use Rattle.tables.specs.Handles.{idAt, countAt, totalAt, putHandle}
+use Rattle.tables.specs.Handles.{idAt, countAt, totalAt, raised}
 use Rattle.model.specs.Numbers.{invalid, nextId}
 use Rattle.queues.specs.Queues.{withdrawn}
 
@@ -38,7 +38,7 @@ referencedOf i ps hs = record { id = i; peers = ps; handles = hs }
 
 unfoldable pub referenced : List ℕ → List ℕ → ℕ → ℕ → Referenced
 referenced ps hs p s =
-    referencedOf (shownTo ps hs p s .id) (shownTo ps hs p s .peers) (putHandle hs p s (shownTo ps hs p s .id) (countAt hs p s + 1))
+    referencedOf (shownTo ps hs p s .id) (shownTo ps hs p s .peers) (raised hs p s (shownTo ps hs p s .id))
 
 -- A handle given: of a dead node the invalid ID. The release notice, which stands only where the sum of counts is 1, is withdrawn.
 pub record Given : Type 0 where

@@ -1,3 +1,4 @@
 pub mod Grants
 pub mod Code
 pub mod Giving
+pub mod Listing

@@ -3,6 +3,7 @@ ghost use mathlib.Core.Path.{_≡_};
 ghost use Prim.Native.Nat.{_<_, _≤_};
 ghost use lib.ListN.{length};
 ghost use Rattle.rings.specs.Rings.{rowsOf, ringsOf, endCount, Sized};
+ghost use Rattle.tables.specs.Handles.{handlesSize};
 ghost use Rattle.grants.specs.Grants.{numbered, numberedOf, shownTo, referencedOf, referenced, givenOf, givenTo, givesOf, givesTo, idOrInvalid};
 use ids::HandleId;
 use ids::INVALID;
@@ -22,7 +23,7 @@ fn next_id(peers: &mut [u64], p: Peer) -> HandleId
 
 // The ID of the peer's handle to the slot's node, a new one where it has none.
 fn shown_id(peers: &mut [u64], handles: &[u64], p: Peer, s: usize) -> HandleId
-    requires { ⌜ (length (now peers) ≡ 25) × (length (now handles) ≡ 2048) × (p .0 < 8) × (s < 128) ⌝ }
+    requires { ⌜ (length (now peers) ≡ 25) × (length (now handles) ≡ handlesSize) × (p .0 < 8) × (s < 128) ⌝ }
     ensures { λ r. ⌜ numberedOf (r .0) (now (peers .exit)) ≡ shownTo (now (peers .entry)) (now (handles .entry)) (p .0) s ⌝ }
 {
     if tables::count_of(handles, p, s) == 0 {
@@ -33,12 +34,11 @@ fn shown_id(peers: &mut [u64], handles: &[u64], p: Peer, s: usize) -> HandleId
 
 // One more reference of the peer to the slot's node: the ID.
 fn add_reference(peers: &mut [u64], handles: &mut [u64], p: Peer, s: usize) -> u64
-    requires { ⌜ (length (now peers) ≡ 25) × (length (now handles) ≡ 2048) × (p .0 < 8) × (s < 128) ⌝ }
+    requires { ⌜ (length (now peers) ≡ 25) × (length (now handles) ≡ handlesSize) × (p .0 < 8) × (s < 128) ⌝ }
     ensures { λ r. ⌜ referencedOf r (now (peers .exit)) (now (handles .exit)) ≡ referenced (now (peers .entry)) (now (handles .entry)) (p .0) s ⌝ }
 {
     let id = shown_id(peers, handles, p, s);
-    let c = tables::count_of(handles, p, s);
-    tables::put_handle(handles, p, s, id, c + 1);
+    tables::raise(handles, p, s, id);
     id.0
 }
 
@@ -55,7 +55,7 @@ pub fn give(
     p: Peer,
     s: usize,
 ) -> u64
-    requires { ⌜ (length (now peers) ≡ 25) × (length (now nodes) ≡ 256) × (length (now handles) ≡ 2048) × (length (now ends) ≡ endCount) × Sized (rowsOf (now entries) (now carried) (now numbers)) × (p .0 < 8) × (s < 128) ⌝ }
+    requires { ⌜ (length (now peers) ≡ 25) × (length (now nodes) ≡ 256) × (length (now handles) ≡ handlesSize) × (length (now ends) ≡ endCount) × Sized (rowsOf (now entries) (now carried) (now numbers)) × (p .0 < 8) × (s < 128) ⌝ }
     ensures { λ r. ⌜ givenOf r (now (peers .exit)) (now (handles .exit)) (ringsOf (now (ends .exit)) (now (entries .exit)) (now (carried .exit)) (now (numbers .exit))) ≡ givenTo (now (nodes .entry)) (now (peers .entry)) (now (handles .entry)) (ringsOf (now (ends .entry)) (now (entries .entry)) (now (carried .entry)) (now (numbers .entry))) (p .0) s ⌝ }
 {
     if !tables::is_live(nodes, s) {
@@ -87,7 +87,7 @@ pub fn give_all(
     slots: [u8; 8],
     n: usize,
 ) -> [u64; 8]
-    requires { ⌜ (length (now peers) ≡ 25) × (length (now nodes) ≡ 256) × (length (now handles) ≡ 2048) × (length (now ends) ≡ endCount) × Sized (rowsOf (now entries) (now carried) (now numbers)) × (p .0 < 8) × (n ≤ 8) ⌝ }
+    requires { ⌜ (length (now peers) ≡ 25) × (length (now nodes) ≡ 256) × (length (now handles) ≡ handlesSize) × (length (now ends) ≡ endCount) × Sized (rowsOf (now entries) (now carried) (now numbers)) × (p .0 < 8) × (n ≤ 8) ⌝ }
     ensures { λ r. ⌜ givesOf r (now (peers .exit)) (now (handles .exit)) (ringsOf (now (ends .exit)) (now (entries .exit)) (now (carried .exit)) (now (numbers .exit))) ≡ givesTo (now (nodes .entry)) (now (peers .entry)) (now (handles .entry)) (ringsOf (now (ends .entry)) (now (entries .entry)) (now (carried .entry)) (now (numbers .entry))) (p .0) slots n ⌝ }
 {
     let mut ids = [0u64; 8];
@@ -103,7 +103,7 @@ pub fn give_all(
 
 // The ID of the peer's handle to the slot's node, all ones where it has none.
 pub fn id_or_invalid(handles: &[u64], p: Peer, s: usize) -> HandleId
-    requires { ⌜ (length (now handles) ≡ 2048) × (p .0 < 8) × (s < 128) ⌝ }
+    requires { ⌜ (length (now handles) ≡ handlesSize) × (p .0 < 8) × (s < 128) ⌝ }
     ensures { λ r. ⌜ r ≡ record { 0 = idOrInvalid (now (handles .entry)) (p .0) s } ⌝ }
 {
     if tables::count_of(handles, p, s) == 0 {

@@ -10,7 +10,7 @@ ghost use Rattle.rings.specs.Rings.{rowsOf, ringsOf, endCount, Sized};
 ghost use Rattle.model.specs.Numbers.{slots};
 ghost use Rattle.model.specs.Requests.{destinations, attached};
 ghost use Rattle.model.specs.Refusals.{placesAt, pinned as isPinned, refusesOpen, refusesDisconnect, createBy, destroyBy, releaseBy, transferBy, sendBy, refusesReceive, refusesQuota, holdersBy};
-ghost use Rattle.tables.specs.Handles.{findAt};
+ghost use Rattle.tables.specs.Handles.{handlesSize, findAt};
 ghost use Rattle.queues.specs.Queues.{Short};
 ghost use Rattle.judges.specs.Orders.{placesOf, unless, unlessAt, plainly, rulingOf, seen, sight, countsAt, freeAt, noRings, startsAt, placeFound, idsFrom, slotsAt, livingAt, allowedAt, affordableAt, tooLarge};
 ghost use Rattle.judges.specs.declared.Order.the-variants as order;
@@ -124,7 +124,7 @@ fn counts(
     numbers: &[u64],
     s: usize,
 ) -> bool
-    requires { ⌜ (length (now nodes) ≡ 256) × (length (now handles) ≡ 2048) × (length (now charges) ≡ 96) × (length (now ends) ≡ endCount) × Sized (rowsOf (now entries) (now carried) (now numbers)) × Short (now ends) × (s < 128) ⌝ }
+    requires { ⌜ (length (now nodes) ≡ 256) × (length (now handles) ≡ handlesSize) × (length (now charges) ≡ 96) × (length (now ends) ≡ endCount) × Sized (rowsOf (now entries) (now carried) (now numbers)) × Short (now ends) × (s < 128) ⌝ }
     ensures { λ r. ⌜ r ≡ countsAt (now (nodes .entry)) (now (handles .entry)) (now (charges .entry)) (ringsOf (now (ends .entry)) (now (entries .entry)) (now (carried .entry)) (now (numbers .entry))) s ⌝ }
 {
     if tables::is_live(nodes, s) {
@@ -147,7 +147,7 @@ fn free_slot(
     numbers: &[u64],
     p: Peer,
 ) -> Found
-    requires { ⌜ (length (now nodes) ≡ 256) × (length (now handles) ≡ 2048) × (length (now charges) ≡ 96) × (length (now ends) ≡ endCount) × Sized (rowsOf (now entries) (now carried) (now numbers)) × Short (now ends) × (p .0 < 8) ⌝ }
+    requires { ⌜ (length (now nodes) ≡ 256) × (length (now handles) ≡ handlesSize) × (length (now charges) ≡ 96) × (length (now ends) ≡ endCount) × Sized (rowsOf (now entries) (now carried) (now numbers)) × Short (now ends) × (p .0 < 8) ⌝ }
     ensures { λ r. ⌜ r ≡ placeFound (p .0) (freeAt (now (nodes .entry)) (now (handles .entry)) (now (charges .entry)) (ringsOf (now (ends .entry)) (now (entries .entry)) (now (carried .entry)) (now (numbers .entry))) (p .0)) ⌝ }
 {
     let mut k = 0;
@@ -173,7 +173,7 @@ fn judge_create(
     p: Peer,
     i: HandleId,
 ) -> Order
-    requires { ⌜ (length (now peers) ≡ 25) × (length (now nodes) ≡ 256) × (length (now handles) ≡ 2048) × (length (now charges) ≡ 96) × (length (now ends) ≡ endCount) × Sized (rowsOf (now entries) (now carried) (now numbers)) × Short (now ends) × (p .0 < 8) ⌝ }
+    requires { ⌜ (length (now peers) ≡ 25) × (length (now nodes) ≡ 256) × (length (now handles) ≡ handlesSize) × (length (now charges) ≡ 96) × (length (now ends) ≡ endCount) × Sized (rowsOf (now entries) (now carried) (now numbers)) × Short (now ends) × (p .0 < 8) ⌝ }
     ensures { λ r. ⌜ r ≡ unless (createBy (findAt (now (handles .entry)) (p .0)) (freeAt (now (nodes .entry)) (now (handles .entry)) (now (charges .entry)) (ringsOf (now (ends .entry)) (now (entries .entry)) (now (carried .entry)) (now (numbers .entry))) (p .0)) (seen (now (peers .entry)) [] [] [] noRings) (p .0) (i .0)) (order.Create p i (p .0 * slots + freeAt (now (nodes .entry)) (now (handles .entry)) (now (charges .entry)) (ringsOf (now (ends .entry)) (now (entries .entry)) (now (carried .entry)) (now (numbers .entry))) (p .0))) ⌝ }
 {
     let n = starts(peers, p);
@@ -190,7 +190,7 @@ fn judge_create(
 }
 
 fn judge_destroy(peers: &[u64], nodes: &[u64], handles: &[u64], p: Peer, i: HandleId) -> Order
-    requires { ⌜ (length (now peers) ≡ 25) × (length (now nodes) ≡ 256) × (length (now handles) ≡ 2048) × (p .0 < 8) ⌝ }
+    requires { ⌜ (length (now peers) ≡ 25) × (length (now nodes) ≡ 256) × (length (now handles) ≡ handlesSize) × (p .0 < 8) ⌝ }
     ensures { λ r. ⌜ r ≡ unless (destroyBy (findAt (now (handles .entry)) (p .0)) (seen (now (peers .entry)) (now (nodes .entry)) (now (handles .entry)) [] noRings) (p .0) (i .0)) (order.Destroy p (findAt (now (handles .entry)) (p .0) (i .0))) ⌝ }
 {
     let n = starts(peers, p);
@@ -211,7 +211,7 @@ fn judge_destroy(peers: &[u64], nodes: &[u64], handles: &[u64], p: Peer, i: Hand
 
 // Is the handle the last one of a live node's owner?
 fn pinned(nodes: &[u64], handles: &[u64], p: Peer, s: usize) -> bool
-    requires { ⌜ (length (now nodes) ≡ 256) × (length (now handles) ≡ 2048) × (p .0 < 8) × (s < 128) ⌝ }
+    requires { ⌜ (length (now nodes) ≡ 256) × (length (now handles) ≡ handlesSize) × (p .0 < 8) × (s < 128) ⌝ }
     ensures { λ r. ⌜ r ≡ isPinned (seen [] (now (nodes .entry)) (now (handles .entry)) [] noRings) (p .0) s ⌝ }
 {
     if !tables::is_live(nodes, s) {
@@ -224,7 +224,7 @@ fn pinned(nodes: &[u64], handles: &[u64], p: Peer, s: usize) -> bool
 }
 
 fn judge_release(peers: &[u64], nodes: &[u64], handles: &[u64], p: Peer, i: HandleId) -> Order
-    requires { ⌜ (length (now peers) ≡ 25) × (length (now nodes) ≡ 256) × (length (now handles) ≡ 2048) × (p .0 < 8) ⌝ }
+    requires { ⌜ (length (now peers) ≡ 25) × (length (now nodes) ≡ 256) × (length (now handles) ≡ handlesSize) × (p .0 < 8) ⌝ }
     ensures { λ r. ⌜ r ≡ unless (releaseBy (findAt (now (handles .entry)) (p .0)) (seen (now (peers .entry)) (now (nodes .entry)) (now (handles .entry)) [] noRings) (p .0) (i .0)) (order.Release p (findAt (now (handles .entry)) (p .0) (i .0))) ⌝ }
 {
     let n = starts(peers, p);
@@ -248,7 +248,7 @@ fn judge_transfer(
     i: HandleId,
     q: Peer,
 ) -> Order
-    requires { ⌜ (length (now peers) ≡ 25) × (length (now nodes) ≡ 256) × (length (now handles) ≡ 2048) × (p .0 < 8) × (q .0 < 8) ⌝ }
+    requires { ⌜ (length (now peers) ≡ 25) × (length (now nodes) ≡ 256) × (length (now handles) ≡ handlesSize) × (p .0 < 8) × (q .0 < 8) ⌝ }
     ensures { λ r. ⌜ r ≡ unless (transferBy (findAt (now (handles .entry)) (p .0)) (seen (now (peers .entry)) (now (nodes .entry)) (now (handles .entry)) [] noRings) (p .0) (i .0) (q .0)) (order.Transfer q (findAt (now (handles .entry)) (p .0) (i .0))) ⌝ }
 {
     let n = starts(peers, p);
@@ -276,7 +276,7 @@ struct Slots {
 
 // The slots of the n IDs from the place `from` of a send's lists on.
 fn slots_of(handles: &[u64], frame: &[u8], p: Peer, from: usize, n: usize) -> Slots
-    requires { ⌜ (length (now handles) ≡ 2048) × (p .0 < 8) × (from ≤ 8) × (n ≤ 8) ⌝ }
+    requires { ⌜ (length (now handles) ≡ handlesSize) × (p .0 < 8) × (from ≤ 8) × (n ≤ 8) ⌝ }
     ensures { λ r. ⌜ r ≡ slotsAt (now (handles .entry)) (p .0) (idsFrom (now (frame .entry)) from n) ⌝ }
 {
     let mut at = [0u8; 8];
@@ -366,7 +366,7 @@ fn judge_send(
     p: Peer,
     z: Sizes,
 ) -> Ruling
-    requires { ⌜ (length (now peers) ≡ 25) × (length (now nodes) ≡ 256) × (length (now handles) ≡ 2048) × (length (now charges) ≡ 96) × (p .0 < 8) × Sent (now frame) z ⌝ }
+    requires { ⌜ (length (now peers) ≡ 25) × (length (now nodes) ≡ 256) × (length (now handles) ≡ handlesSize) × (length (now charges) ≡ 96) × (p .0 < 8) × Sent (now frame) z ⌝ }
     ensures { λ r. ⌜ r ≡ unlessAt (sendBy (findAt (now (handles .entry)) (p .0)) (seen (now (peers .entry)) (now (nodes .entry)) (now (handles .entry)) (now (charges .entry)) noRings) (p .0) (destinations (now (frame .entry)) z) (attached (now (frame .entry)) z) (length (payloadOf (now (frame .entry))))) (order.Send p z) (placesOf (findAt (now (handles .entry)) (p .0)) (now (frame .entry)) z) ⌝ }
 {
     let n = starts(peers, p);
@@ -443,7 +443,7 @@ fn judge_quota(peers: &[u64], p: Peer, u: User) -> Order
 }
 
 fn judge_holders(peers: &[u64], handles: &[u64], p: Peer, i: HandleId) -> Order
-    requires { ⌜ (length (now peers) ≡ 25) × (length (now handles) ≡ 2048) × (p .0 < 8) ⌝ }
+    requires { ⌜ (length (now peers) ≡ 25) × (length (now handles) ≡ handlesSize) × (p .0 < 8) ⌝ }
     ensures { λ r. ⌜ r ≡ unless (holdersBy (findAt (now (handles .entry)) (p .0)) (seen (now (peers .entry)) [] (now (handles .entry)) [] noRings) (p .0) (i .0)) (order.Holders (findAt (now (handles .entry)) (p .0) (i .0))) ⌝ }
 {
     let n = tables::standing(peers, p);
@@ -472,7 +472,7 @@ pub fn judge(
     frame: &[u8],
     c: Command,
 ) -> Ruling
-    requires { ⌜ (length (now ps) ≡ 25) × (length (now ns) ≡ 256) × (length (now hs) ≡ 2048) × (length (now cs) ≡ 96) × (length (now ends) ≡ endCount) × Sized (rowsOf (now entries) (now carried) (now numbers)) × Short (now ends) × Legal (now frame) c ⌝ }
+    requires { ⌜ (length (now ps) ≡ 25) × (length (now ns) ≡ 256) × (length (now hs) ≡ handlesSize) × (length (now cs) ≡ 96) × (length (now ends) ≡ endCount) × Sized (rowsOf (now entries) (now carried) (now numbers)) × Short (now ends) × Legal (now frame) c ⌝ }
     ensures { λ r. ⌜ r ≡ rulingOf (sight (now (ps .entry)) (now (ns .entry)) (now (hs .entry)) (now (cs .entry)) (ringsOf (now (ends .entry)) (now (entries .entry)) (now (carried .entry)) (now (numbers .entry)))) (now (frame .entry)) c ⌝ }
 {
     match c {

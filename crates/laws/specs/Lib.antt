@@ -8,5 +8,6 @@ pub mod Build
 pub mod Stores
 pub mod Rows
 pub mod Search
+pub mod Halving
 pub mod Bits
 pub mod Bytes

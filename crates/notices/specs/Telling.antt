@@ -25,7 +25,7 @@ use Rattle.tables.specs.PeersView.{statusV, userV, givenV, acceptedV}
 use Rattle.tables.specs.ChargesView.{chargesV}
 use Rattle.tables.specs.Nodes.{setDead}
 use Rattle.tables.specs.NodesView.{lifeV, life-dead, live-is, dead-length}
-use Rattle.tables.specs.Handles.{idAt, countAt, totalAt, clearPeer}
+use Rattle.tables.specs.Handles.{handlesSize, idAt, countAt, totalAt, clearPeer}
 use Rattle.tables.specs.HandlesView.{handleV, handle-is, held-is, id-is, count-is, total-is, holders-are, handle-clear}
 use Rattle.model.specs.Numbers.{peers, owner}
 use Rattle.model.specs.Lists.{both, Found, lower, least, follow, rising}
@@ -622,7 +622,7 @@ set-at ns hs p q k l = bit-bits (asks ns hs q (Falling (record { 0 = p }))) 16 k
 abbrev pub fallen : List ℕ → List ℕ → List ℕ → ℕ → Bool
 fallen ns hs hs′ s = both (isLive (lifeV ns s)) (both (ltb 1 (total (handleV hs) s)) (eqb (total (handleV hs′) s) 1))
 
-module _ (ns hs : List ℕ) (p n : ℕ) (lp : p < 8) (size : length hs ≡ 2048) where
+module _ (ns hs : List ℕ) (p n : ℕ) (lp : p < 8) (size : length hs ≡ handlesSize) where
   pub falls-is : (s : ℕ) → s < 128 → fallsAt ns hs p s ≡ fallen ns hs (clearPeer hs p) s
   unfolding fallsAt
   falls-is s l =

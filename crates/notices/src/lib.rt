@@ -5,6 +5,7 @@ ghost use Prim.Native.Nat.{_<_, _≤_};
 ghost use lib.ListN.{length};
 ghost use Rattle.laws.specs.Tests.{pick};
 ghost use Rattle.rings.specs.Rings.{rowsOf, ringsOf, endCount, Sized, oneSlot};
+ghost use Rattle.tables.specs.Handles.{handlesSize};
 ghost use Rattle.notices.specs.Notices.{noticeOf, fallsAt, aboveAt, Fair, asks, setOf, lowerOf, leastAt, postedTo, addressees as addresseesOf, told, deadAll, Destroyed, destroyedOf, destroyedSet, toldOwners};
 use ids::Peer;
 use ids::SLOTS;
@@ -46,7 +47,7 @@ pub fn notice(kind: u16, s: usize, n: u64) -> Entry
 
 // Does the sum of counts of a live node fall to 1 when the peer's handle goes?
 fn falls(nodes: &[u64], handles: &[u64], p: Peer, s: usize) -> bool
-    requires { ⌜ (length (now nodes) ≡ 256) × (length (now handles) ≡ 2048) × (p .0 < 8) × (s < 128) ⌝ }
+    requires { ⌜ (length (now nodes) ≡ 256) × (length (now handles) ≡ handlesSize) × (p .0 < 8) × (s < 128) ⌝ }
     ensures { λ r. ⌜ r ≡ fallsAt (now (nodes .entry)) (now (handles .entry)) (p .0) s ⌝ }
 {
     if !tables::is_live(nodes, s) {
@@ -61,7 +62,7 @@ fn falls(nodes: &[u64], handles: &[u64], p: Peer, s: usize) -> bool
 
 // Is the ID of the peer's own slot at the place k above the one at the place j, and k in the set?
 fn is_above(handles: &[u64], q: Peer, set: u16, j: usize, k: usize) -> bool
-    requires { ⌜ (length (now handles) ≡ 2048) × (q .0 < 8) × (k < 16) ⌝ }
+    requires { ⌜ (length (now handles) ≡ handlesSize) × (q .0 < 8) × (k < 16) ⌝ }
     ensures { λ r. ⌜ r ≡ aboveAt (now (handles .entry)) (q .0) set j k ⌝ }
 {
     if !rings::bit(rings::wide(set), k) {
@@ -74,7 +75,7 @@ fn is_above(handles: &[u64], q: Peer, set: u16, j: usize, k: usize) -> bool
 
 // Is the slot of the peer q at the place k asked for?
 fn is_asked(nodes: &[u64], handles: &[u64], q: Peer, a: Asked, k: usize) -> bool
-    requires { ⌜ (length (now nodes) ≡ 256) × (length (now handles) ≡ 2048) × (q .0 < 8) × (k < 16) × Fair a ⌝ }
+    requires { ⌜ (length (now nodes) ≡ 256) × (length (now handles) ≡ handlesSize) × (q .0 < 8) × (k < 16) × Fair a ⌝ }
     ensures { λ r. ⌜ r ≡ asks (now (nodes .entry)) (now (handles .entry)) (q .0) a k ⌝ }
 {
     match a {
@@ -86,7 +87,7 @@ fn is_asked(nodes: &[u64], handles: &[u64], q: Peer, a: Asked, k: usize) -> bool
 
 // The bit where the slot is asked for, else 0.
 fn bit_asked(nodes: &[u64], handles: &[u64], q: Peer, a: Asked, k: usize, bit: usize) -> usize
-    requires { ⌜ (length (now nodes) ≡ 256) × (length (now handles) ≡ 2048) × (q .0 < 8) × (k < 16) × Fair a ⌝ }
+    requires { ⌜ (length (now nodes) ≡ 256) × (length (now handles) ≡ handlesSize) × (q .0 < 8) × (k < 16) × Fair a ⌝ }
     ensures { λ r. ⌜ (r ≡ pick (asks (now (nodes .entry)) (now (handles .entry)) (q .0) a k) bit 0) × (r ≤ bit) ⌝ }
 {
     if is_asked(nodes, handles, q, a, k) {
@@ -97,7 +98,7 @@ fn bit_asked(nodes: &[u64], handles: &[u64], q: Peer, a: Asked, k: usize, bit: u
 
 // The slots of the peer q that are asked for.
 pub fn set_of(nodes: &[u64], handles: &[u64], q: Peer, a: Asked) -> u16
-    requires { ⌜ (length (now nodes) ≡ 256) × (length (now handles) ≡ 2048) × (q .0 < 8) × Fair a ⌝ }
+    requires { ⌜ (length (now nodes) ≡ 256) × (length (now handles) ≡ handlesSize) × (q .0 < 8) × Fair a ⌝ }
     ensures { λ r. ⌜ r ≡ setOf (now (nodes .entry)) (now (handles .entry)) (q .0) a ⌝ }
 {
     let mut k = 0;
@@ -114,7 +115,7 @@ pub fn set_of(nodes: &[u64], handles: &[u64], q: Peer, a: Asked) -> u16
 
 // Of a place that was found and the place k the one with the lower ID.
 fn lower(handles: &[u64], q: Peer, found: Found, k: usize) -> Found
-    requires { ⌜ (length (now handles) ≡ 2048) × (q .0 < 8) × (k < 16) ⌝ }
+    requires { ⌜ (length (now handles) ≡ handlesSize) × (q .0 < 8) × (k < 16) ⌝ }
     ensures { λ r. ⌜ r ≡ lowerOf (now (handles .entry)) (q .0) found k ⌝ }
 {
     let Found::At(j) = found else {
@@ -130,7 +131,7 @@ fn lower(handles: &[u64], q: Peer, found: Found, k: usize) -> Found
 
 // The place in the set of the peer's own slot with the least ID.
 fn least_id(handles: &[u64], q: Peer, set: u16) -> Found
-    requires { ⌜ (length (now handles) ≡ 2048) × (q .0 < 8) ⌝ }
+    requires { ⌜ (length (now handles) ≡ handlesSize) × (q .0 < 8) ⌝ }
     ensures { λ r. ⌜ r ≡ leastAt (now (handles .entry)) (q .0) set 16 ⌝ }
 {
     let mut found = Found::Nothing;
@@ -171,7 +172,7 @@ fn post(
 
 // Who is told: of a destruction every holder, of a release the owner.
 fn addressees(handles: &[u64], kind: u16, s: usize) -> u8
-    requires { ⌜ (length (now handles) ≡ 2048) × (s < 128) ⌝ }
+    requires { ⌜ (length (now handles) ≡ handlesSize) × (s < 128) ⌝ }
     ensures { λ r. ⌜ r ≡ addresseesOf (now (handles .entry)) kind s ⌝ }
 {
     if kind == DESTROYED {
@@ -193,7 +194,7 @@ pub fn tell(
     kind: u16,
     n: u64,
 )
-    requires { ⌜ (length (now nodes) ≡ 256) × (length (now handles) ≡ 2048) × (length (now ends) ≡ endCount) × Sized (rowsOf (now entries) (now carried) (now numbers)) × (q .0 < 8) ⌝ }
+    requires { ⌜ (length (now nodes) ≡ 256) × (length (now handles) ≡ handlesSize) × (length (now ends) ≡ endCount) × Sized (rowsOf (now entries) (now carried) (now numbers)) × (q .0 < 8) ⌝ }
     ensures { λ _. ⌜ ringsOf (now (ends .exit)) (now (entries .exit)) (now (carried .exit)) (now (numbers .exit)) ≡ told (now (handles .entry)) (q .0) kind n (ringsOf (now (ends .entry)) (now (entries .entry)) (now (carried .entry)) (now (numbers .entry))) set 16 ⌝ }
 {
     let mut rest = set;
@@ -236,7 +237,7 @@ pub fn destroy_set(
     set: u16,
     n: u64,
 )
-    requires { ⌜ (length (now nodes) ≡ 256) × (length (now handles) ≡ 2048) × (length (now ends) ≡ endCount) × Sized (rowsOf (now entries) (now carried) (now numbers)) × (p .0 < 8) ⌝ }
+    requires { ⌜ (length (now nodes) ≡ 256) × (length (now handles) ≡ handlesSize) × (length (now ends) ≡ endCount) × Sized (rowsOf (now entries) (now carried) (now numbers)) × (p .0 < 8) ⌝ }
     ensures { λ _. ⌜ destroyedOf (now (nodes .exit)) (ringsOf (now (ends .exit)) (now (entries .exit)) (now (carried .exit)) (now (numbers .exit))) ≡ destroyedSet (now (nodes .entry)) (now (handles .entry)) (ringsOf (now (ends .entry)) (now (entries .entry)) (now (carried .entry)) (now (numbers .entry))) (p .0) set n ⌝ }
 {
     let m = Match {
@@ -272,7 +273,7 @@ pub fn destroy_one(
     s: usize,
     n: u64,
 )
-    requires { ⌜ (length (now nodes) ≡ 256) × (length (now handles) ≡ 2048) × (length (now ends) ≡ endCount) × Sized (rowsOf (now entries) (now carried) (now numbers)) × (p .0 < 8) ⌝ }
+    requires { ⌜ (length (now nodes) ≡ 256) × (length (now handles) ≡ handlesSize) × (length (now ends) ≡ endCount) × Sized (rowsOf (now entries) (now carried) (now numbers)) × (p .0 < 8) ⌝ }
     ensures { λ _. ⌜ destroyedOf (now (nodes .exit)) (ringsOf (now (ends .exit)) (now (entries .exit)) (now (carried .exit)) (now (numbers .exit))) ≡ destroyedSet (now (nodes .entry)) (now (handles .entry)) (ringsOf (now (ends .entry)) (now (entries .entry)) (now (carried .entry)) (now (numbers .entry))) (p .0) (oneSlot 4 s .mask) n ⌝ }
 {
     let own = p.0 * SLOTS + s % SLOTS;
@@ -295,7 +296,7 @@ pub fn tell_owners(
     p: Peer,
     n: u64,
 )
-    requires { ⌜ (length (now nodes) ≡ 256) × (length (now handles) ≡ 2048) × (length (now ends) ≡ endCount) × Sized (rowsOf (now entries) (now carried) (now numbers)) × (p .0 < 8) ⌝ }
+    requires { ⌜ (length (now nodes) ≡ 256) × (length (now handles) ≡ handlesSize) × (length (now ends) ≡ endCount) × Sized (rowsOf (now entries) (now carried) (now numbers)) × (p .0 < 8) ⌝ }
     ensures { λ _. ⌜ ringsOf (now (ends .exit)) (now (entries .exit)) (now (carried .exit)) (now (numbers .exit)) ≡ toldOwners (now (nodes .entry)) (now (handles .entry)) (p .0) n (ringsOf (now (ends .entry)) (now (entries .entry)) (now (carried .entry)) (now (numbers .entry))) 8 ⌝ }
 {
     let mut q = 0;

@@ -1,19 +1,22 @@
 -- The laws that the functions' proofs cite, one for each return or turn of a loop, over plain variables: each is shaped like what the callee ensures.
 -- Assumes nothing.
-use Prim.Native.Nat.{ℕ, _+_, _*_, _%_, _^_, _≤_, _<_}
-use mathlib.Core.Path.{_≡_, refl, ap}
+use Prim.Native.Nat.{ℕ, zero, suc, _+_, _-_, _*_, _/_, _%_, _^_, _≤_, _<_, min}
+use mathlib.Core.Path.{_≡_, refl, sym, ap, _∙_}
 use mathlib.Core.Bool.{Bool, true, false, not}
 use mathlib.Core.List.{List, [], _∷_}
 use native.Mathlib.Omega.{arith}
 use native.Mathlib.Nat.{add-zero}
 use native.Mathlib.Numerals.{add-one}
 use lib.ListN.{getD}
-use lib.Dec.{eqb}
+use lib.Dec.{eqb, leb}
 use lib.Pow.{pow-mono, pow-lt}
-use borrow.Author.Tests.{ne-eqb, eq-eqb, lt-ltb, le-ltb}
-use Rattle.laws.specs.Tests.{pick}
+use borrow.Author.Tests.{ne-eqb, eq-eqb, lt-ltb, le-ltb, le-leb, lt-leb}
+use Rattle.laws.specs.Tests.{pick, Seen, Seen.is-true, Seen.is-false, look}
 use Rattle.laws.specs.Sums.{sumTo}
 use Rattle.laws.specs.Search.{first, first-is}
+use Rattle.laws.specs.Halving.{halve, halve-down, halve-up, halve-done}
+use Rattle.ids.specs.declared.HandleId.{HandleId}
+use Rattle.tables.specs.declared.Span.{Span}
 use Rattle.laws.specs.Build.{build}
 use Rattle.quota.specs.declared.Charge.{Charge}
 use Rattle.quota.specs.declared.Charges.{Charges}
@@ -23,7 +26,8 @@ use Rattle.tables.specs.declared.Found.the-variants.{At, Nothing}
 use Rattle.laws.specs.Bits.{bits}
 use Rattle.ids.specs.Refusals.{EBADF, ESHUTDOWN}
 use Rattle.tables.specs.Peers.{modulus, statusAt, standingAt}
-use Rattle.tables.specs.Handles.{countAt, hasIn, hasAt, foundBy, foundOwn, foundAtPlace, isFound, foundAny, lookup, totalBelow, totalAt, bitAt, holdersBelow, holdersAt, putHandle, clearBelow, clearPeer}
+use Rattle.model.specs.Numbers.{nodes}
+use Rattle.tables.specs.Handles.{listBlock, lengthBlock, mostReads, halvings, listReads, idAt, countAt, hasIn, hasAt, foundBy, foundOwn, listLength, listedId, wordAt, listedSlot, guess, atLeast, placeIn, spot, foundAmong, foundListed, lookup, totalBelow, totalAt, bitAt, holdersBelow, holdersAt, putHandle, clearBelow, clearPeer, enlisted, shifted, takenOut, unlisted, raised, reduced}
 use Rattle.tables.specs.Charges.{chargeAt, chargesAt, putCharge, putBelow, putCharges}
 
 -- standing
@@ -43,7 +47,7 @@ module _ (ps : List ℕ) (p : ℕ) where
 
 -- holds, find
 module _ (h : List ℕ) (i at : ℕ) where
-  pub holds-other : (getD h at 0 ≡ i → ⊥) → false ≡ hasIn h i at
+  holds-other : (getD h at 0 ≡ i → ⊥) → false ≡ hasIn h i at
   unfolding hasIn
   holds-other ne = rw (ne-eqb (getD h at 0) i ne) (go (eqb (getD h (at + 1) 0 % modulus) 0))
     where
@@ -51,7 +55,7 @@ module _ (h : List ℕ) (i at : ℕ) where
       go true = refl
       go false = refl
 
-  pub holds-some : getD h at 0 ≡ i → not (eqb (getD h (at + 1) 0 % modulus) 0) ≡ hasIn h i at
+  holds-some : getD h at 0 ≡ i → not (eqb (getD h (at + 1) 0 % modulus) 0) ≡ hasIn h i at
   unfolding hasIn
   holds-some e = rw (eq-eqb (getD h at 0) i e) (go (eqb (getD h (at + 1) 0 % modulus) 0))
     where
@@ -59,14 +63,17 @@ module _ (h : List ℕ) (i at : ℕ) where
       go true = refl
       go false = refl
 
--- the places of an own slot's handle, and of the handle at a place of an owner
+  module _ {v x c : ℕ} (r : ℕ) (e : (v ≡ getD h at 0) × (x ≡ getD h (at + 1) 0) × (c ≡ r + 1)) where
+    pub holds-not : (v ≡ i → ⊥) → (false ≡ hasIn h i at) × (c ≡ r + 1)
+    holds-not ne = (holds-other (λ q. ne (e .0 ∙ q)), e .2)
+
+    pub holds-this : v ≡ i → (not (eqb (x % modulus) 0) ≡ hasIn h i at) × (c ≡ r + 1)
+    holds-this q = (ap (λ (y : ℕ). not (eqb (y % modulus) 0)) (e .1) ∙ holds-some (sym (e .0) ∙ q), e .2)
+
+-- the place of an own slot's handle
 pub own-row : (h : List ℕ) (p i k : ℕ) → hasIn h i (p * 288 + 2 * k) ≡ hasAt h p i (p * 16 + k)
 unfolding hasAt
 own-row h p i k = let e : p * 288 + 2 * k ≡ p * 256 + 2 * (p * 16 + k) = omega arith in ap (hasIn h i) e
-
-pub place-row : (h : List ℕ) (p i k q : ℕ) → hasIn h i (p * 256 + 2 * k + 32 * q) ≡ hasAt h p i (q * 16 + k)
-unfolding hasAt
-place-row h p i k q = let e : p * 256 + 2 * k + 32 * q ≡ p * 256 + 2 * (q * 16 + k) = omega arith in ap (hasIn h i) e
 
 module _ (h : List ℕ) (p i : ℕ) (at : ℕ → ℕ) (n : ℕ) where
   pub found-at : (k : ℕ) → k < n → ((j : ℕ) → j < k → hasAt h p i (at j) ≡ false) → hasAt h p i (at k) ≡ true → At (at k) ≡ foundBy h p i at n
@@ -81,7 +88,7 @@ module _ (h : List ℕ) (p i : ℕ) (at : ℕ → ℕ) (n : ℕ) where
       let e : n ≡ first (λ j. hasAt h p i (at j)) n = first-is (λ j. hasAt h p i (at j)) n n (omega arith) before (λ l. absurd (omega arith)) in
       rw (← e, le-ltb n n (omega arith))
 
--- find_own, find_at_place
+-- seek_own
 module _ (h : List ℕ) (p i : ℕ) where
   pub own-at : (k : ℕ) → k < 16 → ((j : ℕ) → j < k → hasAt h p i (p * 16 + j) ≡ false) → hasAt h p i (p * 16 + k) ≡ true → At (p * 16 + k) ≡ foundOwn h p i
   unfolding foundOwn
@@ -91,40 +98,225 @@ module _ (h : List ℕ) (p i : ℕ) where
   unfolding foundOwn
   own-nothing before = found-nothing h p i (λ j. p * 16 + j) 16 before
 
-  pub place-at : (k q : ℕ) → q < 8 → ((j : ℕ) → j < q → hasAt h p i (j * 16 + k) ≡ false) → hasAt h p i (q * 16 + k) ≡ true → At (q * 16 + k) ≡ foundAtPlace h p i k
-  unfolding foundAtPlace
-  place-at k q l before here = found-at h p i (λ j. j * 16 + k) 8 q l before here
-
-  pub place-nothing : (k : ℕ) → ((j : ℕ) → j < 8 → hasAt h p i (j * 16 + k) ≡ false) → Nothing ≡ foundAtPlace h p i k
-  unfolding foundAtPlace
-  place-nothing k before = found-nothing h p i (λ j. j * 16 + k) 8 before
-
-  -- find_any
-  pub any-at : (k : ℕ) → k < 16 → ((j : ℕ) → j < k → isFound (foundAtPlace h p i j) ≡ false) → {r : Found} → r ≡ foundAtPlace h p i k → (s : ℕ) → r ≡ At s → r ≡ foundAny h p i
-  unfolding foundAny
-  any-at k l before {r = r} er s es =
-      let here : isFound (foundAtPlace h p i k) ≡ true = rw (← er, es) in
-      let e : k ≡ first (λ j. isFound (foundAtPlace h p i j)) 16 = first-is (λ j. isFound (foundAtPlace h p i j)) 16 k (omega arith) before (λ _. here) in
-      rw (← e, lt-ltb k 16 l) er
-
-  pub any-more : (k : ℕ) {r : Found} → r ≡ foundAtPlace h p i k → r ≡ Nothing → isFound (foundAtPlace h p i k) ≡ false
-  any-more k er en = rw (← er, en)
-
-  pub any-nothing : ((j : ℕ) → j < 16 → isFound (foundAtPlace h p i j) ≡ false) → Nothing ≡ foundAny h p i
-  unfolding foundAny
-  any-nothing before =
-      let e : 16 ≡ first (λ j. isFound (foundAtPlace h p i j)) 16 = first-is (λ j. isFound (foundAtPlace h p i j)) 16 16 (omega arith) before (λ l. absurd (omega arith)) in
-      rw (← e)
-
 -- find
 module _ (h : List ℕ) (p i : ℕ) {r : Found} where
   pub found-own : i % 4 ≡ 0 → r ≡ foundOwn h p i → r ≡ lookup h p i
   unfolding lookup
   found-own e f = rw (eq-eqb (i % 4) 0 e) f
 
-  pub found-any : (i % 4 ≡ 0 → ⊥) → r ≡ foundAny h p i → r ≡ lookup h p i
+  pub found-listed : (i % 4 ≡ 0 → ⊥) → r ≡ foundListed h p i → r ≡ lookup h p i
   unfolding lookup
-  found-any ne f = rw (ne-eqb (i % 4) 0 ne) f
+  found-listed ne f = rw (ne-eqb (i % 4) 0 ne) f
+
+-- narrow, place_in
+abbrev pub narrowed : ℕ → ℕ → ℕ → ℕ → ℕ → Span
+narrowed low mid high i v = pick (leb i v) (record { low = low; high = mid }) (record { low = mid + 1; high = high })
+
+pub narrowed-less : (low high i v : ℕ) {x : Span} → low < high → x ≡ narrowed low ((low + high) / 2) high i v → x .high - x .low < high - low
+narrowed-less low high i v {x} l ex = rw ex (go (look (leb i v)))
+  where
+    go : Seen (leb i v) → narrowed low ((low + high) / 2) high i v .high - narrowed low ((low + high) / 2) high i v .low < high - low
+    go (is-true e) = rw e (omega arith)
+    go (is-false e) = rw e (omega arith)
+
+pub narrow-down : (low mid high i v : ℕ) → i ≤ v → record { low = low; high = mid } ≡ narrowed low mid high i v
+narrow-down low mid high i v l = rw (le-leb i v l)
+
+pub narrow-up : (low mid high i v : ℕ) → v < i → record { low = mid + 1; high = high } ≡ narrowed low mid high i v
+narrow-up low mid high i v l = rw (lt-leb i v l)
+
+-- The span in which the place is, with the reads of records that are left for it.
+pub record Halving (h : List ℕ) (p i n r low high c : ℕ) : Type 0 where
+  pub order : low ≤ high
+  pub inside : high ≤ n
+  pub first : r ≤ c
+  pub last : c ≤ r + halvings
+  pub few : high - low < 2 ^ (r + halvings - c)
+  pub place : placeIn h p i n ≡ halve (atLeast h p i) (r + halvings - c) low high
+
+module _ (h : List ℕ) (p i n r : ℕ) where
+  pub halving-starts : n ≤ nodes → Halving h p i n r 0 n r
+  unfolding placeIn
+  halving-starts l =
+      let e : r + halvings - r ≡ halvings = omega arith in
+      record { order = omega arith; inside = omega arith; first = omega arith; last = omega arith; few = rw e (omega arith); place = rw e }
+
+  some-left : (low high f : ℕ) → low < high → high - low < 2 ^ f → 0 < f
+  some-left low high zero l few = absurd (omega arith)
+  some-left low high (suc f) l few = omega arith
+
+  pub halving-reads : (low high c : ℕ) → Halving h p i n r low high c → low < high → c < r + halvings
+  halving-reads low high c w l = omega (arith, some-left low high (r + halvings - c) l (w .few))
+
+  pub halving-turn : (low high c v d : ℕ) {x : Span} → Halving h p i n r low high c → low < high → v ≡ listedId h p ((low + high) / 2) → d ≡ c + 1 →
+      x ≡ narrowed low ((low + high) / 2) high i v → Halving h p i n r (x .low) (x .high) d
+  halving-turn low high c v d {x} w l ev ed ex = rw ex (go (look (leb i v)))
+    where
+      mid : ℕ
+      mid = (low + high) / 2
+
+      left : c < r + halvings
+      left = halving-reads low high c w l
+
+      fuel : r + halvings - c ≡ suc (r + halvings - d)
+      fuel = omega (arith, left, ed)
+
+      half : 2 ^ (r + halvings - c) ≡ 2 * 2 ^ (r + halvings - d)
+      half = rw fuel (omega arith)
+
+      go : Seen (leb i v) → Halving h p i n r (narrowed low mid high i v .low) (narrowed low mid high i v .high) d
+      go (is-true e) =
+          rw e
+          (record {
+            order = omega arith;
+            inside = omega (arith, w .inside);
+            first = omega (arith, w .first);
+            last = omega (arith, left);
+            few = omega (arith, half, w .few, w .order);
+            place = w .place ∙ ap (λ (f : ℕ). halve (atLeast h p i) f low high) fuel ∙ halve-down (atLeast h p i) (r + halvings - d) low high l (ap (leb i) (sym ev) ∙ e);
+          })
+      go (is-false e) =
+          rw e
+          (record {
+            order = omega arith;
+            inside = w .inside;
+            first = omega (arith, w .first);
+            last = omega (arith, left);
+            few = omega (arith, half, w .few, w .order);
+            place = w .place ∙ ap (λ (f : ℕ). halve (atLeast h p i) f low high) fuel ∙ halve-up (atLeast h p i) (r + halvings - d) low high l (ap (leb i) (sym ev) ∙ e);
+          })
+
+  pub halving-done : (low high c : ℕ) → Halving h p i n r low high c → high ≤ low → (low ≡ placeIn h p i n) × (c ≤ r + halvings)
+  halving-done low high c w l = (sym (w .place ∙ halve-done (atLeast h p i) (r + halvings - c) low high l), w .last)
+
+-- seek_among
+module _ (h : List ℕ) (p i n r : ℕ) {k c : ℕ} (ek : (k ≡ placeIn h p i n) × (c ≤ r + halvings)) where
+  pub among-past : n ≤ k → (Nothing ≡ foundAmong h p i n) × (c ≤ r + (halvings + 1))
+  unfolding foundAmong
+  among-past l = (rw (← ek .0, le-ltb k n l), omega (arith, ek .1))
+
+  module _ (l : k < n) {v x d : ℕ} (e : (v ≡ listedId h p k) × (x ≡ wordAt h (listBlock p) k) × (d ≡ c + 1)) where
+    pub among-other : (v ≡ i → ⊥) → (Nothing ≡ foundAmong h p i n) × (d ≤ r + (halvings + 1))
+    unfolding foundAmong
+    among-other ne = (rw (← ek .0, lt-ltb k n l, ← e .0, ne-eqb v i ne), omega (arith, ek .1, e .2))
+
+    pub among-this : v ≡ i → (At (x % nodes) ≡ foundAmong h p i n) × (d ≤ r + (halvings + 1))
+    unfolding foundAmong
+    among-this q = (rw (← ek .0, lt-ltb k n l, ← e .0, eq-eqb v i q, e .1), omega (arith, ek .1, e .2))
+
+-- seek_listed
+long : (h : List ℕ) (p : ℕ) {a : ℕ} → a ≡ idAt h lengthBlock p → {n : ℕ} → n ≡ min a nodes → listLength h p ≡ n
+long h p ea en = sym (en ∙ ap (λ (x : ℕ). min x nodes) ea)
+
+module _ (h : List ℕ) (p i : ℕ) {a v c : ℕ} (e : (a ≡ idAt h lengthBlock p) × (v ≡ wordAt h lengthBlock p) × (c ≡ 0 + 1)) {n : ℕ} (en : n ≡ min a nodes) where
+  pub listed-none : n ≡ 0 → (Nothing ≡ foundListed h p i) × (c ≤ listReads)
+  unfolding foundListed
+  listed-none z = (rw (long h p (e .0) en, z), omega (arith, e .2))
+
+  module _ (some : n ≡ 0 → ⊥) {k : ℕ} (ek : (k ≡ guess v i n) × (k < n)) {w y m : ℕ} (f : (w ≡ listedId h p k) × (y ≡ wordAt h (listBlock p) k) × (m ≡ c + 1)) where
+    pub listed-there : w ≡ i → (At (y % nodes) ≡ foundListed h p i) × (m ≤ listReads)
+    unfolding foundListed
+    listed-there q = (rw (long h p (e .0) en, ne-eqb n 0 some, ← e .1, ← ek .0, ← f .0, eq-eqb w i q, f .1), omega (arith, e .2, f .2))
+
+    pub listed-else : (w ≡ i → ⊥) → {r : Found} {o : ℕ} → (r ≡ foundAmong h p i n) × (o ≤ m + (halvings + 1)) → (r ≡ foundListed h p i) × (o ≤ listReads)
+    unfolding foundListed
+    listed-else q {r} {o} t = (rw (long h p (e .0) en, ne-eqb n 0 some, ← e .1, ← ek .0, ← f .0, ne-eqb w i q) (t .0), omega (arith, e .2, f .2, t .1))
+
+-- spot
+module _ (h : List ℕ) (p i n : ℕ) {a v c : ℕ} (e : (a ≡ idAt h lengthBlock p) × (v ≡ wordAt h lengthBlock p) × (c ≡ 0 + 1)) {k : ℕ} (ek : (k ≡ guess v i n) × (k < n))
+    {w y d : ℕ} (f : (w ≡ listedId h p k) × (y ≡ wordAt h (listBlock p) k) × (d ≡ 0 + 1)) where
+  spot-there : w ≡ i → k ≡ spot h p i n
+  unfolding spot
+  spot-there q = rw (← e .1, ← ek .0, ← f .0, eq-eqb w i q)
+
+  spot-else : (w ≡ i → ⊥) → {j m : ℕ} → (j ≡ placeIn h p i n) × (m ≤ 0 + halvings) → j ≡ spot h p i n
+  unfolding spot
+  spot-else q g = rw (← e .1, ← ek .0, ← f .0, ne-eqb w i q) (g .0)
+
+-- enlist, shift, take_out, unlist, raise, reduce
+module _ (h : List ℕ) (p : ℕ) where
+  pub enlist-done : (i s : ℕ) {n : ℕ} → n ≡ listLength h p → {h₁ h₂ : List ℕ} → h₁ ≡ putHandle h (listBlock p) n i s → h₂ ≡ putHandle h₁ lengthBlock p (n + 1) i → h₂ ≡ enlisted h p i s
+  unfolding enlisted
+  enlist-done i s e f g = rw (← e, ← f) g
+
+  module _ (k : ℕ) where
+    pub shift-none : h ≡ shifted h p k 0
+    unfolding shifted
+    shift-none = refl
+
+    pub shift-more : (m : ℕ) {h₁ h₂ : List ℕ} {x y d : ℕ} → h₁ ≡ shifted h p k m → (x ≡ listedId h₁ p (k + m + 1)) × (y ≡ wordAt h₁ (listBlock p) (k + m + 1)) × (d ≡ 0 + 1) →
+        h₂ ≡ putHandle h₁ (listBlock p) (k + m) x y → h₂ ≡ shifted h p k (m + 1)
+    unfolding shifted
+    shift-more m e f g = rw (add-one, ← e, ← f .0, ← f .1) g
+
+    pub shift-all : (m n : ℕ) {h₁ : List ℕ} → h₁ ≡ shifted h p k m → m ≡ n - 1 - k → h₁ ≡ shifted h p k (n - 1 - k)
+    shift-all m n e f = rw (← f) e
+
+    pub take-out-done : (n : ℕ) {h₁ h₂ : List ℕ} {l x y d : ℕ} → h₁ ≡ shifted h p k (n - 1 - k) → l ≡ n - 1 - 1 →
+        (x ≡ listedId h₁ p l) × (y ≡ wordAt h₁ (listBlock p) l) × (d ≡ 0 + 1) → h₂ ≡ putHandle h₁ lengthBlock p (n - 1) x → h₂ ≡ takenOut h p k n
+    unfolding takenOut
+    take-out-done n e el f g = rw (← e, ← el, ← f .0) g
+
+module _ (h : List ℕ) (p i : ℕ) where
+  pub unlist-chosen : i % 4 ≡ 0 → h ≡ unlisted h p i
+  unfolding unlisted
+  unlist-chosen e = rw (eq-eqb (i % 4) 0 e)
+
+  module _ (ne : i % 4 ≡ 0 → ⊥) {a v c : ℕ} (e : (a ≡ idAt h lengthBlock p) × (v ≡ wordAt h lengthBlock p) × (c ≡ 0 + 1)) {n : ℕ} (en : n ≡ min a nodes) where
+    pub unlist-empty : n ≡ 0 → h ≡ unlisted h p i
+    unfolding unlisted
+    unlist-empty z = rw (ne-eqb (i % 4) 0 ne, long h p (e .0) en, z, le-ltb (spot h p i 0) 0 (omega arith))
+
+    module _ {g : ℕ} (eg : (g ≡ guess v i n) × (g < n)) {w y d : ℕ} (f : (w ≡ listedId h p g) × (y ≡ wordAt h (listBlock p) g) × (d ≡ 0 + 1)) where
+      pub unlist-there : w ≡ i → {h₁ : List ℕ} → h₁ ≡ takenOut h p g n → h₁ ≡ unlisted h p i
+      unfolding unlisted
+      unlist-there q t = rw (ne-eqb (i % 4) 0 ne, long h p (e .0) en, ← spot-there h p i n e eg f q, lt-ltb g n (eg .1), ← f .0, eq-eqb w i q) t
+
+      module _ (other : w ≡ i → ⊥) {k m : ℕ} (ek : (k ≡ placeIn h p i n) × (m ≤ 0 + halvings)) where
+        pub unlist-past : n ≤ k → h ≡ unlisted h p i
+        unfolding unlisted
+        unlist-past l = rw (ne-eqb (i % 4) 0 ne, long h p (e .0) en, ← spot-else h p i n e eg f other ek, le-ltb k n l)
+
+        module _ (l : k < n) {u x o : ℕ} (z : (u ≡ listedId h p k) × (x ≡ wordAt h (listBlock p) k) × (o ≡ 0 + 1)) where
+          pub unlist-other : (u ≡ i → ⊥) → h ≡ unlisted h p i
+          unfolding unlisted
+          unlist-other q = rw (ne-eqb (i % 4) 0 ne, long h p (e .0) en, ← spot-else h p i n e eg f other ek, lt-ltb k n l, ← z .0, ne-eqb u i q)
+
+          pub unlist-this : u ≡ i → {h₁ : List ℕ} → h₁ ≡ takenOut h p k n → h₁ ≡ unlisted h p i
+          unfolding unlisted
+          unlist-this q t = rw (ne-eqb (i % 4) 0 ne, long h p (e .0) en, ← spot-else h p i n e eg f other ek, lt-ltb k n l, ← z .0, eq-eqb u i q) t
+
+module _ (h : List ℕ) (p s i : ℕ) {c : ℕ} (ec : c ≡ countAt h p s) {h₁ : List ℕ} (e₁ : h₁ ≡ putHandle h p s i (c + 1)) where
+  pub raise-more : (c ≡ 0 → ⊥) → h₁ ≡ raised h p s i
+  unfolding raised
+  raise-more z = rw (← ec, ne-eqb c 0 z) e₁
+
+  pub raise-first : c ≡ 0 → {h₂ : List ℕ} → h₂ ≡ enlisted h₁ p i s → h₂ ≡ raised h p s i
+  unfolding raised
+  raise-first z e₂ = rw (← ec, eq-eqb c 0 z, ← e₁) e₂
+
+module _ (h : List ℕ) (p s : ℕ) {c l : ℕ} (ec : c ≡ countAt h p s) (el : l ≡ c - 1) {i : HandleId} (ei : i ≡ record { 0 = idAt h p s }) {h₁ : List ℕ} (e₁ : h₁ ≡ putHandle h p s (i .0) l) where
+  left-is : l ≡ countAt h p s - 1
+  left-is = rw (el, ec)
+
+  put-is : h₁ ≡ putHandle h p s (idAt h p s) l
+  put-is = rw ei at e₁
+
+  pub reduce-more : (l ≡ 0 → ⊥) → (l ≡ countAt h p s - 1) × (h₁ ≡ reduced h p s)
+  unfolding reduced
+  reduce-more z = (left-is, rw (← left-is, ne-eqb l 0 z) put-is)
+
+  pub reduce-last : l ≡ 0 → {h₂ : List ℕ} → h₂ ≡ unlisted h₁ p (i .0) → (0 ≡ countAt h p s - 1) × (h₂ ≡ reduced h p s)
+  unfolding reduced
+  reduce-last z e₂ = (sym z ∙ left-is, rw (← left-is, eq-eqb l 0 z, ← put-is) (rw ei at e₂))
+
+-- find, with the number of reads
+module _ (h : List ℕ) (p i : ℕ) {r : Found} {c : ℕ} where
+  pub sought-own : i % 4 ≡ 0 → (r ≡ foundOwn h p i) × (c ≤ mostReads) → (r ≡ lookup h p i) × (c ≤ mostReads)
+  sought-own e f = (found-own h p i e (f .0), f .1)
+
+  pub sought-listed : (i % 4 ≡ 0 → ⊥) → (r ≡ foundListed h p i) × (c ≤ listReads) → (r ≡ lookup h p i) × (c ≤ mostReads)
+  sought-listed e f = (found-listed h p i e (f .0), omega (arith, f .1))
 
 -- total
 module _ (h : List ℕ) (s : ℕ) where
@@ -195,9 +387,9 @@ module _ (h : List ℕ) (p : ℕ) where
   unfolding clearBelow
   clear-more s e f = rw (add-one, ← e) f
 
-  pub clear-all : (s : ℕ) {h₁ : List ℕ} → h₁ ≡ clearBelow h p s → s ≡ 128 → h₁ ≡ clearPeer h p
+  pub clear-all : (s : ℕ) {h₁ h₂ : List ℕ} → h₁ ≡ clearBelow h p s → s ≡ 128 → h₂ ≡ putHandle h₁ lengthBlock p 0 0 → h₂ ≡ clearPeer h p
   unfolding clearPeer
-  clear-all s e f = rw (← f) e
+  clear-all s e f g = rw (← f, ← e) g
 
 -- load, store
 pub loaded : (t : List ℕ) (p : ℕ) {a b c d : Charge} →

@@ -12,7 +12,7 @@ use lib.Count.{trailingZeros}
 use lib.Pow.{pow-pos}
 use lib.Dec.{eqb, ltb}
 use borrow.Author.Tests.{ltb-true, ltb-false, eqb-true, eqb-false, ne-eqb, lt-ltb, le-ltb}
-use Rattle.laws.specs.Tests.{pick, Seen, Seen.is-true, Seen.is-false, look, Same, Same.same, Same.other, same?, clash}
+use Rattle.laws.specs.Tests.{pick, Seen, Seen.is-true, Seen.is-false, look, Same, Same.same, Same.other, same?, clash, pick-all}
 use Rattle.laws.specs.Tables.{upd, upd-same, upd-other, upd-self, upd-twice}
 use Rattle.laws.specs.Sums.{sumTo, sum-ext}
 use Rattle.laws.specs.Search.{first, first-found, first-before, first-is}
@@ -28,7 +28,7 @@ use Rattle.tables.specs.declared.Found.the-variants.{At, Nothing}
 use Rattle.laws.specs.Bits.{bit, bits, bits-ext, bits-first}
 use Rattle.laws.specs.Guards.{upto, upto-at, upto-ext, upto-upd}
 use Rattle.tables.specs.Peers.{modulus}
-use Rattle.tables.specs.Handles.{idAt, countAt, hasIn, hasAt, foundBy, foundOwn, foundAtPlace, isFound, foundAny, lookup, slotFound, findAt, totalBelow, totalAt, heldAt, holdersBelow, holdersAt, putHandle, clearBelow, clearPeer}
+use Rattle.tables.specs.Handles.{listBlock, lengthBlock, handlesSize, idAt, countAt, hasIn, hasAt, foundBy, foundOwn, listLength, listedId, wordAt, guessed, placeIn, spot, foundAmong, foundListed, lookup, slotFound, findAt, totalBelow, totalAt, heldAt, holdersBelow, holdersAt, putHandle, clearBelow, clearPeer, enlisted, shifted, takenOut, unlisted, raised, reduced}
 
 abbrev pub handleIn : List ℕ → ℕ → ℕ → Handle
 handleIn h p s = handleOf (idAt h p s) (countAt h p s)
@@ -46,13 +46,13 @@ unfolding handleV
 handles-of h p l = upto-at 8 (λ s. none) (handlesOf h) p l
 
 -- One store: no other handle's two numbers are these two.
-odd : (a b : ℕ) → 2 * a + 1 ≡ 2 * b → ⊥
+pub odd : (a b : ℕ) → 2 * a + 1 ≡ 2 * b → ⊥
 odd a b e = omega arith
 
-place : (p s q t : ℕ) → s < 128 → t < 128 → p * 128 + s ≡ q * 128 + t → (p ≡ q) × (s ≡ t)
+pub place : (p s q t : ℕ) → s < 128 → t < 128 → p * 128 + s ≡ q * 128 + t → (p ≡ q) × (s ≡ t)
 place p s q t a b e = let x : p ≡ q = omega arith in (x, omega arith)
 
-module _ (h : List ℕ) (size : length h ≡ 2048) (p s i c : ℕ) (lp : p < 8) (ls : s < 128) (lc : c < modulus) where
+module _ (h : List ℕ) (size : length h ≡ handlesSize) (p s i c : ℕ) (lp : p < 8) (ls : s < 128) (lc : c < modulus) where
   put-here : handleIn (putHandle h p s i c) p s ≡ handleOf i c
   unfolding putHandle
   put-here =
@@ -65,7 +65,7 @@ module _ (h : List ℕ) (size : length h ≡ 2048) (p s i c : ℕ) (lp : p < 8) 
         m,
       )
 
-  put-else : (a : ℕ) → (p * 256 + 2 * s ≡ a → ⊥) → (p * 256 + 2 * s + 1 ≡ a → ⊥) → getD (putHandle h p s i c) a 0 ≡ getD h a 0
+  pub put-else : (a : ℕ) → (p * 256 + 2 * s ≡ a → ⊥) → (p * 256 + 2 * s + 1 ≡ a → ⊥) → getD (putHandle h p s i c) a 0 ≡ getD h a 0
   unfolding putHandle
   put-else a e f =
       getD-set-other (set h (p * 256 + 2 * s) i) (p * 256 + 2 * s + 1) a c 0 (λ x. f (sym x)) ∙ getD-set-other h (p * 256 + 2 * s) a i 0 (λ x. e (sym x))
@@ -102,8 +102,24 @@ module _ (h : List ℕ) (size : length h ≡ 2048) (p s i c : ℕ) (lp : p < 8) 
       go q (same e) = rw (← e, upd-same) put-own
       go q (other e) = rw (upd-other (handlesOf h) p q (upd (handlesOf h p) s (handleOf i c)) e) (put-peer q e)
 
+-- A record behind the handles.
+module _ (h : List ℕ) (b k i c : ℕ) (far : 8 ≤ b) where
+  far-else : (a : ℕ) → a < 2048 → getD (putHandle h b k i c) a 0 ≡ getD h a 0
+  unfolding putHandle
+  far-else a l =
+      getD-set-other (set h (b * 256 + 2 * k) i) (b * 256 + 2 * k + 1) a c 0 (λ x. absurd (omega arith)) ∙ getD-set-other h (b * 256 + 2 * k) a i 0 (λ x. absurd (omega arith))
+
+  far-own : (p : ℕ) → p < 8 → handlesOf (putHandle h b k i c) p ≡ handlesOf h p
+  unfolding handlesOf
+  far-own p lp =
+      upto-ext 128 none (handleIn (putHandle h b k i c) p) (handleIn h p) (λ t lt. rw (far-else (p * 256 + 2 * t) (omega arith), far-else (p * 256 + 2 * t + 1) (omega arith)))
+
+  pub handle-far : handleV (putHandle h b k i c) ≡ handleV h
+  unfolding handleV
+  handle-far = upto-ext 8 (λ s. none) (handlesOf (putHandle h b k i c)) (handlesOf h) far-own
+
 -- What is read.
-of-has : (a c i : ℕ) → hasId i (handleOf a c) ≡ pick (eqb c 0) false (eqb a i)
+pub of-has : (a c i : ℕ) → hasId i (handleOf a c) ≡ pick (eqb c 0) false (eqb a i)
 of-has a zero i = refl
 of-has a (suc c) i = rw (ne-eqb (suc c) 0 (λ x. absurd (omega arith)))
 
@@ -123,7 +139,7 @@ of-given : (a c n : ℕ) → givenAfter (handleOf a c) n ≡ pick (eqb c 0) (suc
 of-given a zero n = refl
 of-given a (suc c) n = rw (ne-eqb (suc c) 0 (λ x. absurd (omega arith)))
 
-of-some : (a c : ℕ) → (c ≡ 0 → ⊥) → handleOf a c ≡ some a c
+pub of-some : (a c : ℕ) → (c ≡ 0 → ⊥) → handleOf a c ≡ some a c
 of-some a zero n = absurd (n refl)
 of-some a (suc c) n = refl
 
@@ -149,10 +165,10 @@ pub count-small : (h : List ℕ) (p s : ℕ) → countAt h p s < modulus
 count-small h p s = omega arith
 
 -- What a search finds, and what it says where it finds nothing.
-not-nothing : {s : ℕ} → Nothing ≡ At s → ⊥
+pub not-nothing : {s : ℕ} → Nothing ≡ At s → ⊥
 not-nothing {s} e = let z : _≡_ {A = ℕ} 0 1 = cc in absurd (omega arith)
 
-not-at : {s : ℕ} → At s ≡ Nothing → ⊥
+pub not-at : {s : ℕ} → At s ≡ Nothing → ⊥
 not-at {s} e = not-nothing (sym e)
 
 module _ (h : List ℕ) (p i : ℕ) where
@@ -188,138 +204,52 @@ module _ (h : List ℕ) (p i : ℕ) where
       go (is-true f) = absurd (not-at (rw f at e))
       go (is-false f) = let m : n ≤ k = ltb-false k n f in first-before t n j (omega (arith, m))
 
-  own-some : p < 8 → (s : ℕ) → foundOwn h p i ≡ At s → (s < 128) × (hasAt h p i s ≡ true)
+  pub own-some : p < 8 → (s : ℕ) → foundOwn h p i ≡ At s → (s < 128) × (hasAt h p i s ≡ true)
   unfolding foundOwn
   own-some lp s e = let x = by-some (λ k. p * 16 + k) 16 s e in (omega (arith, x .1, x .2), x .3)
 
-  own-none : foundOwn h p i ≡ Nothing → (k : ℕ) → k < 16 → hasAt h p i (p * 16 + k) ≡ false
+  pub own-none : foundOwn h p i ≡ Nothing → (k : ℕ) → k < 16 → hasAt h p i (p * 16 + k) ≡ false
   unfolding foundOwn
   own-none e = by-none (λ k. p * 16 + k) 16 e
 
-  place-some : (k : ℕ) → k < 16 → (s : ℕ) → foundAtPlace h p i k ≡ At s → (s < 128) × (hasAt h p i s ≡ true)
-  unfolding foundAtPlace
-  place-some k lk s e = let x = by-some (λ q. q * 16 + k) 8 s e in (omega (arith, x .1, x .2), x .3)
-
-  place-none : (k : ℕ) → isFound (foundAtPlace h p i k) ≡ false → (q : ℕ) → q < 8 → hasAt h p i (q * 16 + k) ≡ false
-  unfolding foundAtPlace
-  place-none k e = go (foundBy h p i (λ q. q * 16 + k) 8) refl
+  listed-small : (s : ℕ) → foundListed h p i ≡ At s → s < 128
+  unfolding foundListed foundAmong
+  listed-small s e = go (look (eqb n 0)) (look (eqb (listedId h p g) i)) (look (ltb k n)) (look (eqb (listedId h p k) i))
     where
-      go : (x : Found) → foundBy h p i (λ q. q * 16 + k) 8 ≡ x → (q : ℕ) → q < 8 → hasAt h p i (q * 16 + k) ≡ false
-      go (At s) f q l = clash (rw f at e)
-      go Nothing f q l = by-none (λ q. q * 16 + k) 8 f q l
+      n : ℕ
+      n = listLength h p
 
-  any-some : (s : ℕ) → foundAny h p i ≡ At s → (s < 128) × (hasAt h p i s ≡ true)
-  unfolding foundAny
-  any-some s e = go (look (ltb k 16))
-    where
-      k : ℕ
-      k = first (λ j. isFound (foundAtPlace h p i j)) 16
-
-      go : Seen (ltb k 16) → (s < 128) × (hasAt h p i s ≡ true)
-      go (is-true f) = place-some k (ltb-true k 16 f) s (rw f at e)
-      go (is-false f) = absurd (not-nothing (rw f at e))
-
-  any-none : foundAny h p i ≡ Nothing → (s : ℕ) → s < 128 → hasAt h p i s ≡ false
-  unfolding foundAny
-  any-none e s l = go (look (ltb k 16))
-    where
-      t : ℕ → Bool
-      t j = isFound (foundAtPlace h p i j)
+      g : ℕ
+      g = guessed h p i
 
       k : ℕ
-      k = first t 16
+      k = placeIn h p i n
 
-      at-none : (x : Found) → foundAtPlace h p i k ≡ x → x ≡ Nothing → isFound (foundAtPlace h p i k) ≡ false
-      at-none x f n = rw (f, n)
+      small : (x : ℕ) → At (x % 128) ≡ At s → s < 128
+      small x q = let y : x % 128 ≡ s = cc in omega arith
 
-      go : Seen (ltb k 16) → hasAt h p i s ≡ false
-      go (is-true f) =
-          let n : foundAtPlace h p i k ≡ Nothing = rw f at e in
-          let y : isFound (foundAtPlace h p i k) ≡ true = first-found t 16 (ltb-true k 16 f) in
-          clash (sym y ∙ at-none (foundAtPlace h p i k) refl n)
-      go (is-false f) =
-          let m : 16 ≤ k = ltb-false k 16 f in
-          let x : hasAt h p i (s / 16 * 16 + s % 16) ≡ false = place-none (s % 16) (first-before t 16 (s % 16) (omega (arith, m))) (s / 16) (omega arith) in
-          let y : s / 16 * 16 + s % 16 ≡ s = omega arith in
-          rw y at x
+      go : Seen (eqb n 0) → Seen (eqb (listedId h p g) i) → Seen (ltb k n) → Seen (eqb (listedId h p k) i) → s < 128
+      go (is-true z) x y w = absurd (not-nothing (rw z at e))
+      go (is-false z) (is-true x) y w = small (wordAt h (listBlock p) g) (rw (z, x) at e)
+      go (is-false z) (is-false x) (is-false y) w = absurd (not-nothing (rw (z, x, y) at e))
+      go (is-false z) (is-false x) (is-true y) (is-true w) = small (wordAt h (listBlock p) k) (rw (z, x, y, w) at e)
+      go (is-false z) (is-false x) (is-true y) (is-false w) = absurd (not-nothing (rw (z, x, y, w) at e))
 
-  lookup-some : p < 8 → (s : ℕ) → lookup h p i ≡ At s → (s < 128) × (hasAt h p i s ≡ true)
+  lookup-small : p < 8 → (s : ℕ) → lookup h p i ≡ At s → s < 128
   unfolding lookup
-  lookup-some lp s e = go (look (eqb (i % 4) 0))
+  lookup-small lp s e = go (look (eqb (i % 4) 0))
     where
-      go : Seen (eqb (i % 4) 0) → (s < 128) × (hasAt h p i s ≡ true)
-      go (is-true f) = own-some lp s (rw f at e)
-      go (is-false f) = any-some s (rw f at e)
+      go : Seen (eqb (i % 4) 0) → s < 128
+      go (is-true f) = own-some lp s (rw f at e) .0
+      go (is-false f) = listed-small s (rw f at e)
 
   pub lookup-at : p < 8 → (s : ℕ) → lookup h p i ≡ At s → (s ≡ findAt h p i) × (s < 128)
   unfolding findAt
-  lookup-at lp s e = (rw e, lookup-some lp s e .0)
+  lookup-at lp s e = (rw e, lookup-small lp s e)
 
   pub lookup-nothing : lookup h p i ≡ Nothing → findAt h p i ≡ nodes
   unfolding findAt
   lookup-nothing e = rw e
-
--- On a bus of a run the lookup is the model's: two handles of a peer have two IDs, and an ID with its two low bits clear is that of an own node.
-module _ (h : List ℕ) (p g : ℕ) (lp : p < 8) (w : Handles p g (handleV h p)) (i : ℕ) where
-  has-is : (s : ℕ) → s < 128 → hasAt h p i s ≡ hasId i (handleV h p s)
-  unfolding hasAt hasIn
-  has-is s ls = rw (handle-is h p s lp ls) (sym (of-has (idAt h p s) (countAt h p s) i))
-
-  -- what holds the ID
-  has-some : (x : Handle) → hasId i x ≡ true → (c : ℕ) × (x ≡ some i c)
-  has-some none e = clash (sym e)
-  has-some (some j c) e = let y : j ≡ i = eqb-true j i e in (c, rw y)
-
-  -- the slot of the ID, if it is held
-  slot-is : (s : ℕ) → s < 128 → hasId i (handleV h p s) ≡ true → s ≡ slotOf (handleV h p) i
-  unfolding slotOf
-  slot-is s ls e = first-is (λ t. hasId i (handleV h p t)) 128 s (omega arith) (λ t lt. go t lt (look (hasId i (handleV h p t)))) (λ _. e)
-    where
-      go : (t : ℕ) → t < s → Seen (hasId i (handleV h p t)) → hasId i (handleV h p t) ≡ false
-      go t lt (is-true f) =
-          let x = has-some (handleV h p s) e in
-          let y = has-some (handleV h p t) f in
-          absurd (omega (arith, w .distinct s t i (x .0) (y .0) (x .1) (y .1)))
-      go t lt (is-false f) = f
-
-  -- no slot has it
-  slot-none : ((s : ℕ) → s < 128 → hasId i (handleV h p s) ≡ false) → 128 ≡ slotOf (handleV h p) i
-  unfolding slotOf
-  slot-none none-has = first-is (λ t. hasId i (handleV h p t)) 128 128 (omega arith) none-has (λ l. absurd (omega arith))
-
-  -- a chosen ID is that of an own node
-  own-place : i % 4 ≡ 0 → (s : ℕ) → hasId i (handleV h p s) ≡ true → s / 16 ≡ p
-  own-place e s f = go (same? (s / 16) p)
-    where
-      go : Same (s / 16) p → s / 16 ≡ p
-      go (same o) = o
-      go (other ne) =
-          let x = has-some (handleV h p s) f in
-          let y = w .given s i (x .0) (x .1) ne in
-          absurd (omega (arith, y .2))
-
-  missed : lookup h p i ≡ Nothing → (s : ℕ) → s < 128 → hasAt h p i s ≡ false
-  unfolding lookup
-  missed e s l = go (look (eqb (i % 4) 0))
-    where
-      own : i % 4 ≡ 0 → foundOwn h p i ≡ Nothing → Seen (hasAt h p i s) → hasAt h p i s ≡ false
-      own c n (is-false f) = f
-      own c n (is-true f) =
-          let o : s / 16 ≡ p = own-place c s (sym (has-is s l) ∙ f) in
-          let y : p * 16 + s % 16 ≡ s = omega arith in
-          rw y at (own-none h p i n (s % 16) (omega arith))
-
-      go : Seen (eqb (i % 4) 0) → hasAt h p i s ≡ false
-      go (is-true f) = own (eqb-true (i % 4) 0 f) (rw f at e) (look (hasAt h p i s))
-      go (is-false f) = any-none h p i (rw f at e) s l
-
-  pub find-is : findAt h p i ≡ slotOf (handleV h p) i
-  unfolding findAt
-  find-is = go (lookup h p i) refl
-    where
-      go : (x : Found) → lookup h p i ≡ x → slotFound (lookup h p i) ≡ slotOf (handleV h p) i
-      go (At s) e = let x = lookup-some h p i lp s e in rw e (slot-is s (x .0) (sym (has-is s (x .0)) ∙ x .1))
-      go Nothing e = rw e (slot-none (λ s l. sym (has-is s l) ∙ missed e s l))
 
 any-bits : (t : ℕ → Bool) (n : ℕ) → anyBelow t n ≡ not (eqb (bits t n) 0)
 unfolding bits sumTo
@@ -357,14 +287,14 @@ pub put-length : (h : List ℕ) (p s i c : ℕ) → length (putHandle h p s i c)
 unfolding putHandle
 put-length h p s i c = simp length-set
 
-clear-below-length : (h : List ℕ) (p n : ℕ) → length (clearBelow h p n) ≡ length h
+pub clear-below-length : (h : List ℕ) (p n : ℕ) → length (clearBelow h p n) ≡ length h
 unfolding clearBelow
 clear-below-length h p zero = refl
 clear-below-length h p (suc n) = put-length (clearBelow h p n) p n 0 0 ∙ clear-below-length h p n
 
 pub clear-length : (h : List ℕ) (p : ℕ) → length (clearPeer h p) ≡ length h
 unfolding clearPeer
-clear-length h p = clear-below-length h p 128
+clear-length h p = put-length (clearBelow h p 128) lengthBlock p 0 0 ∙ clear-below-length h p 128
 
 past : (h : List ℕ) (p t : ℕ) → ltb t 128 ≡ false → handlesOf h p t ≡ none
 unfolding handlesOf upto
@@ -385,20 +315,88 @@ above-more n f = fun-ext (λ t. go t (same? n t))
         again (is-true x) = let y : t < n = ltb-true t n x in rw (x, lt-ltb t (suc n) (omega arith))
         again (is-false x) = let y : n ≤ t = ltb-false t n x in rw (x, le-ltb t (suc n) (omega arith))
 
-module _ (h : List ℕ) (size : length h ≡ 2048) (p : ℕ) (lp : p < 8) where
+module _ (h : List ℕ) (size : length h ≡ handlesSize) (p : ℕ) (lp : p < 8) where
   clear-below : (n : ℕ) → n ≤ 128 → handleV (clearBelow h p n) ≡ upd (handleV h) p (above n (handleV h p))
   unfolding clearBelow
   clear-below zero l = sym (upd-self (handleV h) p (above 0 (handleV h p)) (fun-ext (λ t. rw (le-ltb t 0 (omega arith)))))
   clear-below (suc n) l =
       let e : handleV (clearBelow h p n) ≡ upd (handleV h) p (above n (handleV h p)) = clear-below n (omega arith) in
-      let z : length (clearBelow h p n) ≡ 2048 = clear-below-length h p n ∙ size in
+      let z : length (clearBelow h p n) ≡ handlesSize = clear-below-length h p n ∙ size in
       handle-put (clearBelow h p n) z p n 0 0 lp (omega arith) (omega arith)
       ∙ rw (e, upd-same, upd-twice, above-more n (handleV h p))
 
   pub handle-clear : handleV (clearPeer h p) ≡ upd (handleV h) p (λ s. none)
   unfolding clearPeer
-  handle-clear = clear-below 128 (omega arith) ∙ ap (upd (handleV h) p) (fun-ext (λ t. go t (look (ltb t 128))))
+  handle-clear = handle-far (clearBelow h p 128) lengthBlock p 0 0 (omega arith) ∙ clear-below 128 (omega arith) ∙ ap (upd (handleV h) p) (fun-ext (λ t. go t (look (ltb t 128))))
     where
       go : (t : ℕ) → Seen (ltb t 128) → above 128 (handleV h p) t ≡ none
       go t (is-true e) = rw e
       go t (is-false e) = rw (e, handles-of h p lp) (past h p t e)
+
+-- A list changed: the handles are as they were.
+pub enlist-handles : (h : List ℕ) (p i s : ℕ) → handleV (enlisted h p i s) ≡ handleV h
+unfolding enlisted
+enlist-handles h p i s = handle-far (putHandle h (listBlock p) (listLength h p) i s) lengthBlock p (listLength h p + 1) i (omega arith) ∙ handle-far h (listBlock p) (listLength h p) i s (omega arith)
+
+pub enlist-length : (h : List ℕ) (p i s : ℕ) → length (enlisted h p i s) ≡ length h
+unfolding enlisted
+enlist-length h p i s = put-length (putHandle h (listBlock p) (listLength h p) i s) lengthBlock p (listLength h p + 1) i ∙ put-length h (listBlock p) (listLength h p) i s
+
+pub shift-handles : (h : List ℕ) (p k m : ℕ) → handleV (shifted h p k m) ≡ handleV h
+unfolding shifted
+shift-handles h p k zero = refl
+shift-handles h p k (suc m) =
+    handle-far (shifted h p k m) (listBlock p) (k + m) (idAt (shifted h p k m) (listBlock p) (k + m + 1)) (wordAt (shifted h p k m) (listBlock p) (k + m + 1)) (omega arith) ∙ shift-handles h p k m
+
+pub shift-length : (h : List ℕ) (p k m : ℕ) → length (shifted h p k m) ≡ length h
+unfolding shifted
+shift-length h p k zero = refl
+shift-length h p k (suc m) =
+    put-length (shifted h p k m) (listBlock p) (k + m) (idAt (shifted h p k m) (listBlock p) (k + m + 1)) (wordAt (shifted h p k m) (listBlock p) (k + m + 1)) ∙ shift-length h p k m
+
+module _ (h : List ℕ) (p i : ℕ) where
+  unlist-cases : (P : List ℕ → Type 0) → P h → ((k n : ℕ) → P (takenOut h p k n)) → P (unlisted h p i)
+  unfolding unlisted
+  unlist-cases P kept out =
+      let n = listLength h p in
+      let k = spot h p i n in
+      pick-all P (eqb (i % 4) 0) h (pick (ltb k n) (pick (eqb (listedId h p k) i) (takenOut h p k n) h) h) kept
+      (pick-all P (ltb k n) (pick (eqb (listedId h p k) i) (takenOut h p k n) h) h (pick-all P (eqb (listedId h p k) i) (takenOut h p k n) h (out k n) kept) kept)
+
+  pub unlist-handles : handleV (unlisted h p i) ≡ handleV h
+  unfolding takenOut
+  unlist-handles =
+      unlist-cases (λ x. handleV x ≡ handleV h) refl (λ k n. handle-far (shifted h p k (n - 1 - k)) lengthBlock p (n - 1) (listedId (shifted h p k (n - 1 - k)) p (n - 1 - 1)) (omega arith) ∙ shift-handles h p k (n - 1 - k))
+
+  pub unlist-length : length (unlisted h p i) ≡ length h
+  unfolding takenOut
+  unlist-length = unlist-cases (λ x. length x ≡ length h) refl (λ k n. put-length (shifted h p k (n - 1 - k)) lengthBlock p (n - 1) (listedId (shifted h p k (n - 1 - k)) p (n - 1 - 1)) ∙ shift-length h p k (n - 1 - k))
+
+-- One reference more, and one less, seen.
+module _ (h : List ℕ) (size : length h ≡ handlesSize) (p s : ℕ) (lp : p < 8) (ls : s < 128) where
+  pub handle-raised : (i : ℕ) → countAt h p s + 1 < modulus → handleV (raised h p s i) ≡ upd (handleV h) p (upd (handleV h p) s (handleOf i (countAt h p s + 1)))
+  unfolding raised
+  handle-raised i lc =
+      let g = putHandle h p s i (countAt h p s + 1) in
+      pick-all (λ (x : List ℕ). handleV x ≡ handleV g) (eqb (countAt h p s) 0) (enlisted g p i s) g (enlist-handles g p i s) refl
+      ∙ handle-put h size p s i (countAt h p s + 1) lp ls lc
+
+  pub handle-reduced : handleV (reduced h p s) ≡ upd (handleV h) p (upd (handleV h p) s (handleOf (idAt h p s) (countAt h p s - 1)))
+  unfolding reduced
+  handle-reduced =
+      let g = putHandle h p s (idAt h p s) (countAt h p s - 1) in
+      pick-all (λ (x : List ℕ). handleV x ≡ handleV g) (eqb (countAt h p s - 1) 0) (unlisted g p (idAt h p s)) g (unlist-handles g p (idAt h p s)) refl
+      ∙ handle-put h size p s (idAt h p s) (countAt h p s - 1) lp ls (omega (arith, count-small h p s))
+
+pub raised-length : (h : List ℕ) (p s i : ℕ) → length (raised h p s i) ≡ length h
+unfolding raised
+raised-length h p s i =
+    let g = putHandle h p s i (countAt h p s + 1) in
+    pick-all (λ (x : List ℕ). length x ≡ length g) (eqb (countAt h p s) 0) (enlisted g p i s) g (enlist-length g p i s) refl ∙ put-length h p s i (countAt h p s + 1)
+
+pub reduced-length : (h : List ℕ) (p s : ℕ) → length (reduced h p s) ≡ length h
+unfolding reduced
+reduced-length h p s =
+    let g = putHandle h p s (idAt h p s) (countAt h p s - 1) in
+    pick-all (λ (x : List ℕ). length x ≡ length g) (eqb (countAt h p s - 1) 0) (unlisted g p (idAt h p s)) g (unlist-length g p (idAt h p s)) refl
+    ∙ put-length h p s (idAt h p s) (countAt h p s - 1)

@@ -1,6 +1,7 @@
 pub mod Peers
 pub mod Nodes
 pub mod Handles
+pub mod Probes
 pub mod Charges
 pub mod CodeLaws
 pub mod PeersView
@@ -8,3 +9,4 @@ pub mod NodesView
 pub mod HandlesView
 pub mod ChargesView
 pub mod Fresh
+pub mod Listed

@@ -1,16 +1,19 @@
 // The lent tables of peers, nodes, handles and charges, each read and written by small functions of one table. A function
 // requires the size of the table that it is lent and bounds of the indices; any contents have a meaning.
 ghost use mathlib.Core.Path.{_≡_};
-ghost use Prim.Native.Nat.{_+_, _-_, _^_, _<_, _≤_};
+ghost use Prim.Native.Nat.{_+_, _-_, _*_, _^_, _<_, _≤_, min};
 ghost use lib.Count.{trailingZeros};
-ghost use lib.ListN.{length};
+ghost use lib.ListN.{length, getD};
 ghost use Rattle.tables.specs.Peers.{modulus, acceptedAt, statusAt, standingAt, userAt, givenAt, setOpen, setDisconnected, setGiven, countCommand};
 ghost use Rattle.tables.specs.Nodes.{liveAt, setLive, setDead};
-ghost use Rattle.tables.specs.Handles.{idAt, countAt, hasIn, foundOwn, foundAtPlace, foundAny, lookup, totalAt, bitAt, holdersAt, putHandle, clearPeer};
+ghost use Rattle.model.specs.Numbers.{nodes};
+ghost use Rattle.tables.specs.Handles.{listBlock, lengthBlock, handlesSize, mostReads, halvings, listReads, idAt, countAt, hasIn, foundOwn, listLength, listedId, wordAt, guess, placeIn, foundAmong, foundListed, lookup, totalAt, bitAt, holdersAt, putHandle, clearPeer, enlisted, shifted, takenOut, unlisted, raised, reduced};
+ghost use Rattle.tables.specs.CodeLaws.{narrowed};
 ghost use Rattle.tables.specs.Charges.{chargeAt, chargesAt, putCharge, putCharges};
 use ids::EBADF;
 use ids::ESHUTDOWN;
 use ids::HandleId;
+use ids::NODES;
 use ids::Peer;
 use ids::SLOTS;
 use ids::User;
@@ -24,6 +27,14 @@ const OPEN: u64 = 1;
 
 const DISCONNECTED: u64 = 2;
 
+// The table of handles is in blocks of 128 records of two numbers: a block for the handles of each peer, behind these a
+// block for the list of each peer, and behind these the lengths of the lists.
+const BLOCK: usize = 256;
+
+const LISTS: usize = 8;
+
+const LENGTHS: usize = 16;
+
 // A peer was never opened, is open, or has disconnected.
 pub enum Status {
     Unopened,
@@ -35,6 +46,35 @@ pub enum Status {
 pub enum Found {
     At(usize),
     Nothing,
+}
+
+// What a search found, and how many records of the table it read.
+pub struct Sought {
+    pub found: Found,
+    pub reads: usize,
+}
+
+// A record that a search has read, with the number of records read so far; whether it is a handle that is held; a place in a
+// list; the places between which it is looked for.
+struct Entry {
+    id: u64,
+    word: u64,
+    reads: usize,
+}
+
+struct Held {
+    held: bool,
+    reads: usize,
+}
+
+struct Place {
+    at: usize,
+    reads: usize,
+}
+
+struct Span {
+    low: usize,
+    high: usize,
 }
 
 // How many commands were accepted.
@@ -153,105 +193,224 @@ pub fn set_dead(nodes: &mut [u64], s: usize, n: u64)
 
 // The count of a peer's handle to a slot's node, 0 where it has none.
 pub fn count_of(handles: &[u64], p: Peer, s: usize) -> u64
-    requires { ⌜ (length (now handles) ≡ 2048) × (p .0 < 8) × (s < 128) ⌝ }
+    requires { ⌜ (length (now handles) ≡ handlesSize) × (p .0 < 8) × (s < 128) ⌝ }
     ensures { λ r. ⌜ (r ≡ countAt (now (handles .entry)) (p .0) s) × (r < modulus) ⌝ }
 {
-    handles[p.0 * 256 + 2 * s + 1] % MODULUS
+    handles[p.0 * BLOCK + 2 * s + 1] % MODULUS
 }
 
 // The ID of a peer's handle to a slot's node.
 pub fn id_of(handles: &[u64], p: Peer, s: usize) -> HandleId
-    requires { ⌜ (length (now handles) ≡ 2048) × (p .0 < 8) × (s < 128) ⌝ }
+    requires { ⌜ (length (now handles) ≡ handlesSize) × (p .0 < 8) × (s < 128) ⌝ }
     ensures { λ r. ⌜ r ≡ record { 0 = idAt (now (handles .entry)) (p .0) s } ⌝ }
 {
-    HandleId(handles[p.0 * 256 + 2 * s])
+    HandleId(handles[p.0 * BLOCK + 2 * s])
+}
+
+// The record of two numbers at a place, and how many records the search has read with it. A search reads the table by this
+// function alone.
+fn look(handles: &[u64], at: usize, reads: usize) -> Entry
+    requires { ⌜ (length (now handles) ≡ handlesSize) × (at + 1 < handlesSize) × (reads < mostReads) ⌝ }
+    ensures { λ r. ⌜ (r .id ≡ getD (now (handles .entry)) at 0) × (r .word ≡ getD (now (handles .entry)) (at + 1) 0) × (r .reads ≡ reads + 1) ⌝ }
+{
+    Entry {
+        id: handles[at],
+        word: handles[at + 1],
+        reads: reads + 1,
+    }
 }
 
 // Is the handle whose ID stands at this place held, under this ID?
-fn holds(handles: &[u64], at: usize, id: HandleId) -> bool
-    requires { ⌜ (length (now handles) ≡ 2048) × (at + 1 < 2048) ⌝ }
-    ensures { λ r. ⌜ r ≡ hasIn (now (handles .entry)) (id .0) at ⌝ }
+fn holds(handles: &[u64], at: usize, id: HandleId, reads: usize) -> Held
+    requires { ⌜ (length (now handles) ≡ handlesSize) × (at + 1 < handlesSize) × (reads < mostReads) ⌝ }
+    ensures { λ r. ⌜ (r .held ≡ hasIn (now (handles .entry)) (id .0) at) × (r .reads ≡ reads + 1) ⌝ }
 {
-    if handles[at] != id.0 {
-        return false;
+    let e = look(handles, at, reads);
+    if e.id != id.0 {
+        return Held {
+            held: false,
+            reads: e.reads,
+        };
     }
-    handles[at + 1] % MODULUS != 0
+    Held {
+        held: e.word % MODULUS != 0,
+        reads: e.reads,
+    }
 }
 
 // The first of the peer's own slots that it knows by this ID.
-fn find_own(handles: &[u64], p: Peer, id: HandleId) -> Found
-    requires { ⌜ (length (now handles) ≡ 2048) × (p .0 < 8) ⌝ }
-    ensures { λ r. ⌜ r ≡ foundOwn (now (handles .entry)) (p .0) (id .0) ⌝ }
+fn seek_own(handles: &[u64], p: Peer, id: HandleId) -> Sought
+    requires { ⌜ (length (now handles) ≡ handlesSize) × (p .0 < 8) ⌝ }
+    ensures { λ r. ⌜ (r .found ≡ foundOwn (now (handles .entry)) (p .0) (id .0)) × (r .reads ≤ mostReads) ⌝ }
 {
     let base = p.0 * 288;
     let mut k = 0;
+    let mut reads = 0;
     while k < SLOTS {
-        if holds(handles, base + 2 * k, id) {
-            return Found::At(p.0 * SLOTS + k);
+        let e = holds(handles, base + 2 * k, id, reads);
+        if e.held {
+            return Sought {
+                found: Found::At(p.0 * SLOTS + k),
+                reads: e.reads,
+            };
         }
+        reads = e.reads;
         k += 1;
     }
-    Found::Nothing
-}
-
-// The first of the slots at the place k of each owner that the peer knows by this ID.
-fn find_at_place(handles: &[u64], p: Peer, id: HandleId, k: usize) -> Found
-    requires { ⌜ (length (now handles) ≡ 2048) × (p .0 < 8) × (k < 16) ⌝ }
-    ensures { λ r. ⌜ r ≡ foundAtPlace (now (handles .entry)) (p .0) (id .0) k ⌝ }
-{
-    let base = p.0 * 256 + 2 * k;
-    let mut q = 0;
-    while q < 8 {
-        if holds(handles, base + 32 * q, id) {
-            return Found::At(q * SLOTS + k);
-        }
-        q += 1;
+    Sought {
+        found: Found::Nothing,
+        reads,
     }
-    Found::Nothing
 }
 
-// A slot that the peer knows by this ID: the first place of every owner, then the second, since nodes are made at the
-// lowest places.
-fn find_any(handles: &[u64], p: Peer, id: HandleId) -> Found
-    requires { ⌜ (length (now handles) ≡ 2048) × (p .0 < 8) ⌝ }
-    ensures { λ r. ⌜ r ≡ foundAny (now (handles .entry)) (p .0) (id .0) ⌝ }
+// An entry of the peer's list.
+fn entry_at(handles: &[u64], p: Peer, k: usize, reads: usize) -> Entry
+    requires { ⌜ (length (now handles) ≡ handlesSize) × (p .0 < 8) × (k < nodes) × (reads < mostReads) ⌝ }
+    ensures { λ r. ⌜ (r .id ≡ listedId (now (handles .entry)) (p .0) k) × (r .word ≡ wordAt (now (handles .entry)) (listBlock (p .0)) k) × (r .reads ≡ reads + 1) ⌝ }
 {
-    let mut k = 0;
-    while k < SLOTS {
-        let r = find_at_place(handles, p, id, k);
-        let Found::Nothing = r else {
-            return r;
+    look(handles, (LISTS + p.0) * BLOCK + 2 * k, reads)
+}
+
+// The half in which the first place is whose ID is at least this one.
+fn narrow(low: usize, mid: usize, high: usize, id: u64, other: u64) -> Span
+    requires { ⌜ mid < high ⌝ }
+    ensures { λ r. ⌜ r ≡ narrowed low mid high id other ⌝ }
+{
+    if id <= other {
+        return Span { low, high: mid };
+    }
+    Span { low: mid + 1, high }
+}
+
+// The first of the n entries of the peer's list whose ID is at least this one.
+fn place_in(handles: &[u64], p: Peer, id: HandleId, n: usize, reads: usize) -> Place
+    requires { ⌜ (length (now handles) ≡ handlesSize) × (p .0 < 8) × (n ≤ nodes) × (reads + halvings < mostReads) ⌝ }
+    ensures { λ r. ⌜ (r .at ≡ placeIn (now (handles .entry)) (p .0) (id .0) n) × (r .reads ≤ reads + halvings) ⌝ }
+{
+    let mut low = 0;
+    let mut high = n;
+    let mut count = reads;
+    while low < high {
+        let mid = (low + high) / 2;
+        let e = entry_at(handles, p, mid, count);
+        let s = narrow(low, mid, high, id.0, e.id);
+        low = s.low;
+        high = s.high;
+        count = e.reads;
+    }
+    Place {
+        at: low,
+        reads: count,
+    }
+}
+
+// The slot of this ID among the n entries of the peer's list.
+fn seek_among(handles: &[u64], p: Peer, id: HandleId, n: usize, reads: usize) -> Sought
+    requires { ⌜ (length (now handles) ≡ handlesSize) × (p .0 < 8) × (n ≤ nodes) × (reads + halvings < mostReads) ⌝ }
+    ensures { λ r. ⌜ (r .found ≡ foundAmong (now (handles .entry)) (p .0) (id .0) n) × (r .reads ≤ reads + (halvings + 1)) ⌝ }
+{
+    let w = place_in(handles, p, id, n, reads);
+    let k = w.at;
+    if n <= k {
+        return Sought {
+            found: Found::Nothing,
+            reads: w.reads,
         };
-        k += 1;
     }
-    Found::Nothing
+    let e = entry_at(handles, p, k, w.reads);
+    if e.id != id.0 {
+        return Sought {
+            found: Found::Nothing,
+            reads: e.reads,
+        };
+    }
+    Sought {
+        found: Found::At((e.word % NODES as u64) as usize),
+        reads: e.reads,
+    }
 }
 
-// The slot that the peer knows by this ID. An ID whose two low bits are clear was chosen: it names one of the peer's own
-// nodes, or none.
-pub fn find(handles: &[u64], p: Peer, id: HandleId) -> Found
-    requires { ⌜ (length (now handles) ≡ 2048) × (p .0 < 8) ⌝ }
-    ensures { λ r. ⌜ r ≡ lookup (now (handles .entry)) (p .0) (id .0) ⌝ }
+// A length, at most that of a list with every node.
+fn at_most(x: u64) -> usize
+    ensures { λ r. ⌜ r ≡ min x nodes ⌝ }
+{
+    if x < NODES as u64 { x as usize } else { NODES }
+}
+
+// The place that is as far before the last of n as the ID is before the last one. IDs that the bus gives a peer are 4 apart.
+fn guess_place(last: u64, id: u64, n: usize) -> usize
+    requires { ⌜ (0 < n) × (n ≤ nodes) ⌝ }
+    ensures { λ r. ⌜ (r ≡ guess last id n) × (r < n) ⌝ }
+{
+    if last <= id {
+        return n - 1;
+    }
+    let back = (last - id) / 4;
+    if back < n as u64 {
+        n - 1 - back as usize
+    } else {
+        0
+    }
+}
+
+// The slot of this ID in the peer's list: at the guessed place, or else by halving.
+fn seek_listed(handles: &[u64], p: Peer, id: HandleId) -> Sought
+    requires { ⌜ (length (now handles) ≡ handlesSize) × (p .0 < 8) ⌝ }
+    ensures { λ r. ⌜ (r .found ≡ foundListed (now (handles .entry)) (p .0) (id .0)) × (r .reads ≤ listReads) ⌝ }
+{
+    let l = look(handles, LENGTHS * BLOCK + 2 * p.0, 0);
+    let n = at_most(l.id);
+    if n == 0 {
+        return Sought {
+            found: Found::Nothing,
+            reads: l.reads,
+        };
+    }
+    let k = guess_place(l.word, id.0, n);
+    let e = entry_at(handles, p, k, l.reads);
+    if e.id == id.0 {
+        return Sought {
+            found: Found::At((e.word % NODES as u64) as usize),
+            reads: e.reads,
+        };
+    }
+    seek_among(handles, p, id, n, e.reads)
+}
+
+// The slot that the peer knows by this ID, and how many records were read. An ID whose two low bits are clear was chosen: it
+// names one of the peer's own nodes, or none. Any other was given: it is in the peer's list, or nowhere.
+pub fn seek(handles: &[u64], p: Peer, id: HandleId) -> Sought
+    requires { ⌜ (length (now handles) ≡ handlesSize) × (p .0 < 8) ⌝ }
+    ensures { λ r. ⌜ (r .found ≡ lookup (now (handles .entry)) (p .0) (id .0)) × (r .reads ≤ mostReads) ⌝ }
 {
     if id.0 % 4 == 0 {
-        return find_own(handles, p, id);
+        return seek_own(handles, p, id);
     }
-    find_any(handles, p, id)
+    seek_listed(handles, p, id)
+}
+
+// The slot that the peer knows by this ID.
+pub fn find(handles: &[u64], p: Peer, id: HandleId) -> Found
+    requires { ⌜ (length (now handles) ≡ handlesSize) × (p .0 < 8) ⌝ }
+    ensures { λ r. ⌜ r ≡ lookup (now (handles .entry)) (p .0) (id .0) ⌝ }
+{
+    let s = seek(handles, p, id);
+    s.found
 }
 
 // The peer's handle to the slot's node has this ID and this count; at 0 there is none.
 pub fn put_handle(handles: &mut [u64], p: Peer, s: usize, id: HandleId, count: u64)
-    requires { ⌜ (length (now handles) ≡ 2048) × (p .0 < 8) × (s < 128) ⌝ }
+    requires { ⌜ (length (now handles) ≡ handlesSize) × (p .0 < 8) × (s < 128) ⌝ }
     ensures { λ _. ⌜ now (handles .exit) ≡ putHandle (now (handles .entry)) (p .0) s (id .0) count ⌝ }
 {
-    let at = p.0 * 256 + 2 * s;
+    let at = p.0 * BLOCK + 2 * s;
     handles[at] = id.0;
     handles[at + 1] = count;
 }
 
 // The sum of the counts over all peers.
 pub fn total(handles: &[u64], s: usize) -> u64
-    requires { ⌜ (length (now handles) ≡ 2048) × (s < 128) ⌝ }
+    requires { ⌜ (length (now handles) ≡ handlesSize) × (s < 128) ⌝ }
     ensures { λ r. ⌜ r ≡ totalAt (now (handles .entry)) s ⌝ }
 {
     let mut q = 0;
@@ -266,7 +425,7 @@ pub fn total(handles: &[u64], s: usize) -> u64
 
 // The bit where the peer holds a handle to the slot's node, else 0.
 fn bit_of(handles: &[u64], p: Peer, s: usize, bit: u64) -> u64
-    requires { ⌜ (length (now handles) ≡ 2048) × (p .0 < 8) × (s < 128) ⌝ }
+    requires { ⌜ (length (now handles) ≡ handlesSize) × (p .0 < 8) × (s < 128) ⌝ }
     ensures { λ r. ⌜ (r ≡ bitAt (now (handles .entry)) s (p .0) bit) × (r ≤ bit) ⌝ }
 {
     let c = count_of(handles, p, s);
@@ -275,7 +434,7 @@ fn bit_of(handles: &[u64], p: Peer, s: usize, bit: u64) -> u64
 
 // One bit for each peer that holds a handle to the slot's node.
 pub fn holders(handles: &[u64], s: usize) -> u8
-    requires { ⌜ (length (now handles) ≡ 2048) × (s < 128) ⌝ }
+    requires { ⌜ (length (now handles) ≡ handlesSize) × (s < 128) ⌝ }
     ensures { λ r. ⌜ r ≡ holdersAt (now (handles .entry)) s ⌝ }
 {
     let mut q = 0;
@@ -308,7 +467,7 @@ pub fn without(set: u8, q: usize) -> u8
 
 // All handles of the peer are gone.
 pub fn clear_peer(handles: &mut [u64], p: Peer)
-    requires { ⌜ (length (now handles) ≡ 2048) × (p .0 < 8) ⌝ }
+    requires { ⌜ (length (now handles) ≡ handlesSize) × (p .0 < 8) ⌝ }
     ensures { λ _. ⌜ now (handles .exit) ≡ clearPeer (now (handles .entry)) (p .0) ⌝ }
 {
     let mut s = 0;
@@ -316,6 +475,131 @@ pub fn clear_peer(handles: &mut [u64], p: Peer)
         put_handle(handles, p, s, HandleId(0), 0);
         s += 1;
     }
+    put_record(handles, LENGTHS, p.0, 0, 0);
+}
+
+// A record of a block has these two numbers.
+fn put_record(handles: &mut [u64], block: usize, k: usize, x: u64, y: u64)
+    requires { ⌜ (length (now handles) ≡ handlesSize) × (block ≤ lengthBlock) × (block * 256 + 2 * k + 1 < handlesSize) ⌝ }
+    ensures { λ _. ⌜ now (handles .exit) ≡ putHandle (now (handles .entry)) block k x y ⌝ }
+{
+    let at = block * BLOCK + 2 * k;
+    handles[at] = x;
+    handles[at + 1] = y;
+}
+
+// How many entries the peer's list has.
+fn list_length(handles: &[u64], p: Peer) -> usize
+    requires { ⌜ (length (now handles) ≡ handlesSize) × (p .0 < 8) ⌝ }
+    ensures { λ r. ⌜ r ≡ listLength (now (handles .entry)) (p .0) ⌝ }
+{
+    at_most(handles[LENGTHS * BLOCK + 2 * p.0])
+}
+
+// A new entry behind the last of the peer's list.
+fn enlist(handles: &mut [u64], p: Peer, id: HandleId, s: usize)
+    requires { ⌜ (length (now handles) ≡ handlesSize) × (p .0 < 8) ⌝ }
+    ensures { λ _. ⌜ now (handles .exit) ≡ enlisted (now (handles .entry)) (p .0) (id .0) s ⌝ }
+{
+    let n = list_length(handles, p);
+    put_record(handles, LISTS + p.0, n, id.0, s as u64);
+    put_record(handles, LENGTHS, p.0, n as u64 + 1, id.0);
+}
+
+// The entries behind the place k of a list of n, each one place down.
+fn shift(handles: &mut [u64], p: Peer, k: usize, n: usize)
+    requires { ⌜ (length (now handles) ≡ handlesSize) × (p .0 < 8) × (k < n) × (n ≤ nodes) ⌝ }
+    ensures { λ _. ⌜ now (handles .exit) ≡ shifted (now (handles .entry)) (p .0) k (n - 1 - k) ⌝ }
+{
+    let mut m = 0;
+    while k + m + 1 < n {
+        let e = entry_at(handles, p, k + m + 1, 0);
+        put_record(handles, LISTS + p.0, k + m, e.id, e.word);
+        m += 1;
+    }
+}
+
+// The place before this one, or the first.
+fn place_before(k: usize) -> usize
+    ensures { λ r. ⌜ r ≡ k - 1 ⌝ }
+{
+    if k == 0 { 0 } else { k - 1 }
+}
+
+// The entry at the place k of the peer's list of n is gone.
+fn take_out(handles: &mut [u64], p: Peer, k: usize, n: usize)
+    requires { ⌜ (length (now handles) ≡ handlesSize) × (p .0 < 8) × (k < n) × (n ≤ nodes) ⌝ }
+    ensures { λ _. ⌜ now (handles .exit) ≡ takenOut (now (handles .entry)) (p .0) k n ⌝ }
+{
+    shift(handles, p, k, n);
+    let last = entry_at(handles, p, place_before(n - 1), 0);
+    put_record(handles, LENGTHS, p.0, n as u64 - 1, last.id);
+}
+
+// The entry of this ID in the peer's list is gone: the one at the guessed place, or else the one found by halving.
+fn unlist(handles: &mut [u64], p: Peer, id: HandleId)
+    requires { ⌜ (length (now handles) ≡ handlesSize) × (p .0 < 8) ⌝ }
+    ensures { λ _. ⌜ now (handles .exit) ≡ unlisted (now (handles .entry)) (p .0) (id .0) ⌝ }
+{
+    if id.0 % 4 == 0 {
+        return;
+    }
+    let l = look(handles, LENGTHS * BLOCK + 2 * p.0, 0);
+    let n = at_most(l.id);
+    if n == 0 {
+        return;
+    }
+    let g = guess_place(l.word, id.0, n);
+    let f = entry_at(handles, p, g, 0);
+    if f.id == id.0 {
+        take_out(handles, p, g, n);
+        return;
+    }
+    let w = place_in(handles, p, id, n, 0);
+    let k = w.at;
+    if n <= k {
+        return;
+    }
+    let e = entry_at(handles, p, k, 0);
+    if e.id != id.0 {
+        return;
+    }
+    take_out(handles, p, k, n);
+}
+
+// One more reference of the peer to the slot's node, under this ID: the first enters it in the peer's list.
+pub fn raise(handles: &mut [u64], p: Peer, s: usize, id: HandleId)
+    requires { ⌜ (length (now handles) ≡ handlesSize) × (p .0 < 8) × (s < 128) ⌝ }
+    ensures { λ _. ⌜ now (handles .exit) ≡ raised (now (handles .entry)) (p .0) s (id .0) ⌝ }
+{
+    let c = count_of(handles, p, s);
+    put_handle(handles, p, s, id, c + 1);
+    if c != 0 {
+        return;
+    }
+    enlist(handles, p, id, s);
+}
+
+// One less, at least 0.
+fn one_less(c: u64) -> u64
+    ensures { λ r. ⌜ r ≡ c - 1 ⌝ }
+{
+    if c == 0 { 0 } else { c - 1 }
+}
+
+// One reference of the peer to the slot's node less: how many are left. The last takes its entry out of the peer's list.
+pub fn reduce(handles: &mut [u64], p: Peer, s: usize) -> u64
+    requires { ⌜ (length (now handles) ≡ handlesSize) × (p .0 < 8) × (s < 128) ⌝ }
+    ensures { λ r. ⌜ (r ≡ countAt (now (handles .entry)) (p .0) s - 1) × (now (handles .exit) ≡ reduced (now (handles .entry)) (p .0) s) ⌝ }
+{
+    let left = one_less(count_of(handles, p, s));
+    let id = id_of(handles, p, s);
+    put_handle(handles, p, s, id, left);
+    if left != 0 {
+        return left;
+    }
+    unlist(handles, p, id);
+    0
 }
 
 // The charge in a row of the table.

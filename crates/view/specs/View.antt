@@ -13,6 +13,7 @@ use Rattle.rings.specs.Rings.{Rings, ringsOf, endCount, Sized, queueOf}
 use Rattle.pool.specs.Pool.{areaSize, poolSize, Pair, paired, sumOf}
 use Rattle.tables.specs.PeersView.{statusV, userV, givenV, acceptedV}
 use Rattle.tables.specs.NodesView.{lifeV}
+use Rattle.tables.specs.Handles.{handlesSize}
 use Rattle.tables.specs.HandlesView.{handleV}
 use Rattle.tables.specs.ChargesView.{chargesV}
 use Rattle.model.specs.State.{Entry, State}
@@ -35,7 +36,7 @@ busOf ps ns hs cs ends entries carried numbers pool =
 pub record Shape (b : Bus) : Type 0 where
   pub peers : length (b .peers) ≡ 25
   pub nodes : length (b .nodes) ≡ 256
-  pub handles : length (b .handles) ≡ 2048
+  pub handles : length (b .handles) ≡ handlesSize
   pub charges : length (b .charges) ≡ 96
   pub ends : length (b .rings .ends) ≡ endCount
   pub rows : Sized (b .rings .rows)

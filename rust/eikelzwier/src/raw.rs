@@ -9,7 +9,7 @@ pub const PEERS_LEN: usize = 25;
 /// Elements of `nodes`.
 pub const NODES_LEN: usize = 256;
 /// Elements of `handles`.
-pub const HANDLES_LEN: usize = 2048;
+pub const HANDLES_LEN: usize = 4112;
 /// Elements of `charges`.
 pub const CHARGES_LEN: usize = 96;
 /// Elements of `ends`.

@@ -1,6 +1,6 @@
--- `tables::clear_peer` meets its contract: the loop's invariant is the table with the handles of the slots passed gone. Assumes nothing.
-use Rattle.tables.specs.Handles.{clearBelow}
+-- `tables::clear_peer` meets its contract: each turn is one more handle gone; then the length of the list. Assumes nothing.
 use Rattle.tables.specs.CodeLaws.{clear-none, clear-more, clear-all}
+use Rattle.tables.specs.Handles.{clearBelow}
 use lib.ListN.{length}
 use mathlib.Core.Path.{_≡_, refl}
 use Prim.Native.Nat.{_≤_, _-_}
@@ -28,16 +28,16 @@ loop-less : tie.Need-loop-less Inv-loop μ-loop
 loop-less c = search needs
 
 loop-again : tie.Need-loop-again Inv-loop μ-loop
-loop-again c =
-    let put = c .before .before .put-handle in
-    let loop = c .before .before .before .before .before .loop in
-    (omega arith, omega (arith, put .kept .0, loop .inv .1), clear-more _ _ _ (loop .inv .2) (put .ensures))
+loop-again c = (omega arith, omega (arith, (c .before .before .put-handle) .kept .0, (c .before .before .before .before .before .loop) .inv .1), clear-more _ _ _ ((c .before .before .before .before .before .loop) .inv .2) ((c .before .before .put-handle) .ensures))
+
+put-record-requires : tie.Need-put-record-requires Inv-loop μ-loop
+put-record-requires c κs = (omega (arith, (c .before .before .before .before) .pre, (c .before .before .loop) .inv .1), omega (arith, (c .before .before .before .before) .pre), omega (arith, (c .before .before .before .before) .pre))
 
 same-length : tie.Need-same-length Inv-loop μ-loop
-same-length c = search needs
+same-length c = omega (arith, (c .before .before .put-record) .kept .0, (c .before .before .before .before .before .loop) .inv .1)
 
 returns : tie.Need-returns Inv-loop μ-loop
-returns c = clear-all _ _ _ (c .before .loop .inv .2) (omega (arith, c .before .loop .inv .0, c .loop-test .left))
+returns c = clear-all _ _ _ ((c .before .before .before .before .before .loop) .inv .2) (omega (arith, (c .before .before .before .before .before .loop) .inv .0, (c .before .before .before .before .loop-test) .left)) ((c .before .before .put-record) .ensures)
 
 pub clear-peer-spec : {M : Type 1} → statement M
 clear-peer-spec =
@@ -50,5 +50,6 @@ clear-peer-spec =
     add-s
     loop-less
     loop-again
+    put-record-requires
     same-length
     returns)

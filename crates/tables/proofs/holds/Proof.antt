@@ -1,38 +1,17 @@
--- `tables::holds` meets its contract: the ID is compared first, then the count. Assumes nothing.
-use Rattle.tables.specs.CodeLaws.{holds-other, holds-some}
+-- `tables::holds` meets its contract: the record read once, compared. Assumes nothing.
+use Rattle.tables.specs.CodeLaws.{holds-not, holds-this}
 use borrow.Author.Needs.{needs}
 use Rattle.tables.proofs.holds.Statement.{statement}
 use Rattle.tables.proofs.holds.Tie as tie
 
-mul-if1 : tie.Need-mul-if1
-mul-if1 c = search needs
-
-shared-slice-read-if1 : tie.Need-shared-slice-read-if1
-shared-slice-read-if1 c = search needs
+look-requires : tie.Need-look-requires
+look-requires c κs = search needs
 
 returns : tie.Need-returns
-returns c = holds-other _ _ _ (c .if1 .taken)
-
-add-result : tie.Need-add-result
-add-result c = search needs
-
-mul-result : tie.Need-mul-result
-mul-result c = search needs
-
-shared-slice-read-result : tie.Need-shared-slice-read-result
-shared-slice-read-result c = search needs
+returns c = holds-not _ _ _ _ ((c .before .before .before .look) .ensures) ((c .if1) .taken)
 
 returns-2 : tie.Need-returns-2
-returns-2 c = holds-some _ _ _ (c .before .if1 .left)
+returns-2 c = holds-this _ _ _ _ ((c .before .before .before .before .look) .ensures) ((c .before .if1) .left)
 
 pub holds-spec : {M : Type 1} → statement M
-holds-spec =
-    tie.close
-    (tie.spec
-    mul-if1
-    shared-slice-read-if1
-    returns
-    add-result
-    mul-result
-    shared-slice-read-result
-    returns-2)
+holds-spec = tie.close (tie.spec look-requires returns returns-2)
