@@ -1,5 +1,5 @@
 /*
- * The message bus core, for C. Link libexport.a (rt staticlib export).
+ * The message bus core, for C. Link libeikelzwier.a (tools/build-library).
  *
  * A bus lives in nine buffers that the caller lends to each call. The library
  * has no state of its own, allocates nothing and calls nothing of the host but
@@ -11,7 +11,7 @@
  *   - A pointer is not null, also at length 0, and aligned for its type.
  *   - All elements of the length passed may be read, and written where the
  *     parameter is not const. Nobody else writes them during the call.
- *   - No two buffers of a call overlap, frame and answer included. The library
+ *   - No two buffers of a call overlap, frame, answer and journal included. The library
  *     cannot test this; overlapping buffers are forbidden.
  * All else is tested. Any length and any contents are safe: a call returns, and
  * writes only where this file says.
@@ -27,6 +27,10 @@
 #ifdef __cplusplus
 extern "C" {
 #endif
+
+/* The version of this library. A later one may have other rules, and a journal
+ * belongs to the version that wrote it (docs/RECOVERY.md). */
+#define BUS_VERSION "0.3.0"
 
 /* The exact length of each bus buffer, in elements. docs/BUFFERS.md says what
  * stands in each. Together they have 174,632 bytes. */
@@ -51,7 +55,8 @@ extern "C" {
                                 release of a live node's owner handle at count 1 */
 #define BUS_EIO 5            /* a bus buffer lacks its exact length, or a number stored
                                 there is out of its range (docs/BUFFERS.md); never in a
-                                run from a fresh bus */
+                                run from a fresh bus. With a journal also: its used length
+                                is over its length; never where both are handed on */
 #define BUS_ENXIO 6          /* an ID that the acting peer does not hold */
 #define BUS_EBADF 9          /* peer never opened */
 #define BUS_EAGAIN 11        /* receive, nothing queued */
@@ -60,6 +65,8 @@ extern "C" {
                                 peer over 7; user over 3; send without destination;
                                 create with ID bit 0 or 1 set */
 #define BUS_ENOTTY 25        /* command byte unknown */
+#define BUS_EFBIG 27         /* with a journal alone: all else accepts the command, and
+                                its line has no room there */
 #define BUS_ENOSPC 28        /* create with 16 nodes counted */
 #define BUS_ERANGE 34        /* the next message is over the room of the receive */
 #define BUS_EOVERFLOW 75     /* 2^40 - 1 commands accepted already; not for questions */
@@ -120,6 +127,93 @@ BusOutcome bus_command(
     uint8_t *pool, size_t pool_len,
     const uint8_t *frame, size_t frame_len,
     uint8_t *answer, size_t answer_len);
+
+/* What comes back of a command with a journal. */
+typedef struct BusReport {
+    uint8_t number; /* BUS_DONE or the refusal */
+    size_t len;     /* the answer's length, as in BusOutcome */
+    size_t used;    /* the journal's used length, to be passed with the next command */
+} BusReport;
+
+/*
+ * Carries out one command as bus_command does, with a journal of which `used`
+ * bytes are used, 0 at first.
+ *
+ * An accepted command that is no question (09, 0a) is appended to the journal
+ * as its frame line, two lowercase digits for each byte and LF, before the bus
+ * is changed and the answer written. `used` comes back behind the LF. A refusal
+ * and a question leave the journal and `used` as they are, and no call writes
+ * any other byte of the journal.
+ *
+ * Beside the refusals of bus_command:
+ *   - used over journal_len: BUS_EIO, beside the other tests for it, behind
+ *     the one of the answer buffer.
+ *   - the line has no room between used and journal_len: BUS_EFBIG, the last
+ *     of all checks. Receives, releases and disconnects are refused by it too;
+ *     questions never are.
+ *
+ * What the caller owes (docs/RECOVERY.md):
+ *   - The bus, the journal and `used` go together: each call gets them as the
+ *     call before left them.
+ *   - The bytes from the old to the new `used` are durable before anybody else
+ *     sees the answer.
+ *   - Behind `used` there is no LF where recovery may read later.
+ */
+BusReport bus_command_with_journal(
+    uint64_t *peers, size_t peers_len,
+    uint64_t *nodes, size_t nodes_len,
+    uint64_t *handles, size_t handles_len,
+    uint16_t *charges, size_t charges_len,
+    uint16_t *ends, size_t ends_len,
+    uint16_t *entries, size_t entries_len,
+    uint8_t *carried, size_t carried_len,
+    uint64_t *numbers, size_t numbers_len,
+    uint8_t *pool, size_t pool_len,
+    const uint8_t *frame, size_t frame_len,
+    uint8_t *answer, size_t answer_len,
+    uint8_t *journal, size_t journal_len,
+    size_t used);
+
+/* The place in a recovery that the line reader did not stop. */
+#define BUS_NO_PLACE SIZE_MAX
+
+/* What comes back of a recovery. */
+typedef struct BusRecovery {
+    uint8_t number; /* BUS_DONE or BUS_EIO */
+    size_t line;    /* BUS_DONE: how many lines were carried out. BUS_EIO: the line
+                       that stopped it, from 1; 0 where a bus buffer lacks its length */
+    size_t place;   /* where the line reader refused that line: the place, from 0, of
+                       the first fault in it; else BUS_NO_PLACE */
+    size_t used;    /* the journal's used length, behind the last LF; 0 with BUS_EIO */
+} BusRecovery;
+
+/*
+ * Makes the bus again from the bytes kept of a journal, whatever the bus
+ * buffers held before: a fresh bus, and on it each whole line carried out. What
+ * stands behind the last LF is ignored.
+ *
+ * A line that is no frame, that is refused or that is a question stops it:
+ * BUS_EIO, the line, and a fresh bus. A bus buffer of another length: BUS_EIO
+ * and line 0, and nothing is written. The bytes kept may be any, of any number;
+ * they are only read.
+ *
+ * A journal of another version than BUS_VERSION is not for this function: what
+ * it makes of one is not said here.
+ *
+ * To go on, the caller lends a journal that begins with the first `used` of the
+ * bytes kept, and has cut off or erased what stands behind them.
+ */
+BusRecovery bus_recover(
+    uint64_t *peers, size_t peers_len,
+    uint64_t *nodes, size_t nodes_len,
+    uint64_t *handles, size_t handles_len,
+    uint16_t *charges, size_t charges_len,
+    uint16_t *ends, size_t ends_len,
+    uint16_t *entries, size_t entries_len,
+    uint8_t *carried, size_t carried_len,
+    uint64_t *numbers, size_t numbers_len,
+    uint8_t *pool, size_t pool_len,
+    const uint8_t *kept, size_t kept_len);
 
 #ifdef __cplusplus
 }

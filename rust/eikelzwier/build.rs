@@ -1,5 +1,5 @@
 //! Links the static library. `EIKELZWIER_LIB` names the folder of
-//! `libexport.a`; without it, it is the repository's `target/staticlib`.
+//! `libeikelzwier.a`; without it, it is the repository's `target/staticlib`.
 
 use std::env;
 use std::path::PathBuf;
@@ -13,13 +13,13 @@ fn main() {
             PathBuf::from(here).join("../../target/staticlib")
         }
     };
-    let archive = folder.join("libexport.a");
+    let archive = folder.join("libeikelzwier.a");
     println!("cargo:rerun-if-changed={}", archive.display());
     assert!(
         archive.is_file(),
-        "there is no {}: run `rt staticlib export` at the repository's root, or set EIKELZWIER_LIB",
+        "there is no {}: run `tools/build-library` at the repository's root, or set EIKELZWIER_LIB",
         archive.display()
     );
     println!("cargo:rustc-link-search=native={}", folder.display());
-    println!("cargo:rustc-link-lib=static=export");
+    println!("cargo:rustc-link-lib=static=eikelzwier");
 }

@@ -98,7 +98,7 @@ fn in_range(peers: &[u64], ends: &[u16]) -> bool
 }
 
 // Have the buffers their lengths and their numbers their ranges?
-fn is_sound(
+pub fn is_sound(
     peers: &[u64],
     nodes: &[u64],
     handles: &[u64],
@@ -216,7 +216,7 @@ fn change(
 }
 
 // An order carried out; it cannot fail.
-fn carry_out(
+pub fn carry_out(
     ps: &mut [u64],
     ns: &mut [u64],
     hs: &mut [u64],

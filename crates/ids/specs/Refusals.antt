@@ -1,4 +1,4 @@
--- The refusal numbers of document 01's table, "Given exactly when".
+-- The refusal numbers of document 01's table, "Given exactly when"; and 27 of document 02.
 -- Assumes nothing.
 use Prim.Native.Nat.{ℕ}
 
@@ -33,6 +33,10 @@ EINVAL = 22
 -- command byte unknown
 abbrev pub ENOTTY : ℕ
 ENOTTY = 25
+
+-- document 02, No. 4: the line of an accepted command has no room in the journal
+abbrev pub EFBIG : ℕ
+EFBIG = 27
 
 -- create with 16 nodes counted
 abbrev pub ENOSPC : ℕ

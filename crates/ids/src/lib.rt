@@ -10,7 +10,7 @@ pub struct User(pub usize);
 // A handle's ID, as one peer knows a node.
 pub struct HandleId(pub u64);
 
-// The refusal numbers of document 01's table; specs/Refusals.antt has the row of each.
+// The refusal numbers of document 01's table, and 27 of document 02; specs/Refusals.antt has the row of each.
 pub const EPERM: u8 = 1;
 
 pub const EIO: u8 = 5;
@@ -26,6 +26,8 @@ pub const EEXIST: u8 = 17;
 pub const EINVAL: u8 = 22;
 
 pub const ENOTTY: u8 = 25;
+
+pub const EFBIG: u8 = 27;
 
 pub const ENOSPC: u8 = 28;
 

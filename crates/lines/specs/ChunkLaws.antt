@@ -56,7 +56,7 @@ unfolding split
 split-piece p h = ap split (sym (append-nil p)) ∙ split-behind p [] h ∙ ap (parts []) (append-nil p)
 
 -- the piece behind the last LF has none
-rest-plain : (s : List ℕ) → NoLf (split s .rest)
+pub rest-plain : (s : List ℕ) → NoLf (split s .rest)
 unfolding split
 rest-plain [] = tt
 rest-plain (c ∷ s) = go (look (eqb c lf)) (split s .whole) (split s .rest) (rest-plain s)
@@ -169,7 +169,7 @@ line-plain : (s : List ℕ) → NoLf (take (lineLength s) s)
 unfolding lineLength
 line-plain s = all-of (λ c. eqb c lf ≡ false) s (lineLength s) 0 (first-before (lfAt s) (length s))
 
-first-line : (s : List ℕ) → lineLength s < length s →
+pub first-line : (s : List ℕ) → lineLength s < length s →
     split s ≡ parts (take (lineLength s) s ∷ split (drop (lineLength s + 1) s) .whole) (split (drop (lineLength s + 1) s) .rest)
 first-line s h =
     ap split (split-at s n 0 h ∙ ap₂ (λ (c : ℕ) (k : ℕ). take n s ++ c ∷ drop k s) ends (sym (add-one n)))
@@ -181,7 +181,7 @@ first-line s h =
     ends : getD s n 0 ≡ lf
     ends = eqb-true (getD s n 0) lf (unfold lineLength in first-found (lfAt s) (length s) h)
 
-read-whole : (s : List ℕ) → lineLength s < length s →
+pub read-whole : (s : List ℕ) → lineLength s < length s →
     readLine s ≡ pick (wellFormed (take (lineLength s) s)) (Frame (lineLength s / 2) (lineLength s + 1)) (Bad (faultPlace (take (lineLength s) s)) (lineLength s + 1))
 unfolding readLine lineRead
 read-whole s h = rw (lt-ltb (lineLength s) (length s) h)
@@ -192,15 +192,15 @@ unfolding lineLength
 piece-length p h =
     sym (first-is (lfAt p) (length p) (length p) (omega arith) (λ j l. all-at (λ c. eqb c lf ≡ false) p j 0 h l) (λ l. absurd (omega arith)))
 
-piece-plain : (s : List ℕ) → lineLength s ≡ length s → NoLf s
+pub piece-plain : (s : List ℕ) → lineLength s ≡ length s → NoLf s
 piece-plain s e = rw (e, take-length) at (line-plain s)
 
-piece-read : (p : List ℕ) → NoLf p → readLine p ≡ Piece (faultPlace p)
+pub piece-read : (p : List ℕ) → NoLf p → readLine p ≡ Piece (faultPlace p)
 unfolding readLine lineRead
 piece-read p h = rw (piece-length p h, le-ltb (length p) (length p) (omega arith), take-length p)
 
 -- a frame's bytes are those of its line
-frame-bytes : (s b : List ℕ) (n next : ℕ) → n ≤ length s → readLine s ≡ Frame (n / 2) next → take (n / 2) (frameAfter s b) ≡ bytesOf (take n s)
+pub frame-bytes : (s b : List ℕ) (n next : ℕ) → n ≤ length s → readLine s ≡ Frame (n / 2) next → take (n / 2) (frameAfter s b) ≡ bytesOf (take n s)
 unfolding frameAfter bytesOf
 frame-bytes s b n next h e =
     let l : length (take n s) ≡ n = rw length-take (omega arith) in

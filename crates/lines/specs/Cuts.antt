@@ -2,7 +2,7 @@
 -- were kept"; behind them stands at most "a trailing piece without LF", and what is before it is the text of these frames.
 -- Assumes nothing.
 use Prim.Native.Nat.{ℕ, suc, _+_, _*_, _-_, _/_, _%_, _≤_, _<_}
-use mathlib.Core.Path.{_≡_, refl, ap, ap₂, _∙_}
+use mathlib.Core.Path.{_≡_, refl, sym, ap, ap₂, _∙_}
 use mathlib.Core.Bool.{false}
 use mathlib.Core.List.{List, [], _∷_, _++_, map, flatten, append-assoc}
 use native.Mathlib.Omega.{arith}
@@ -10,12 +10,12 @@ use lib.ListN.{length, getD, take, length-append}
 use lib.Seq.{append-snoc, take-append-le, take-append-add, take-nil}
 use lib.Dec.{eqb, ltb}
 use borrow.Author.Tests.{ltb-true, ltb-false, eq-eqb}
-use Rattle.laws.specs.Tests.{Seen, Seen.is-true, Seen.is-false, look}
+use Rattle.laws.specs.Tests.{pick, Seen, Seen.is-true, Seen.is-false, look}
 use Rattle.laws.specs.Weights.{keep, All, all-at, all-take}
 use Rattle.laws.specs.Build.{build-ext, build-list}
 use Rattle.lines.specs.Line.{lf, mostDigits, faultPlace, bytesOf, pairAt, digitValue, digitsOf, answerLine}
 use Rattle.lines.specs.LineLaws.{digits-length}
-use Rattle.lines.specs.Chunks.{parts, split, Found, Found.frame, found, readingAll, NoLf}
+use Rattle.lines.specs.Chunks.{parts, longer, split, Found, Found.frame, found, readingAll, NoLf}
 use Rattle.lines.specs.ChunkLaws.{one-line, split-piece, reads-all}
 use Rattle.lines.specs.RoundTrip.{Byte, digit-back, digits-all, digits-fault, digits-high, digits-lower, digits-plain}
 
@@ -117,3 +117,33 @@ cut-anywhere (f ∷ fs) k h = go (look (ltb (2 * length f) k)) (λ m. cut-anywhe
 pub cut-read : (fs : List (List ℕ)) (k : ℕ) (b : List ℕ) → All OneLineLong fs →
     readingAll (take k (textOf fs)) b .lines ≡ map frame (take (lfs (take k (textOf fs))) fs)
 cut-read fs k b h = reads-all (take k (textOf fs)) b .lines ∙ cut-anywhere fs k h .lines
+
+-- Characters but LF behind what was kept (bytes that were never written, or a last one half written) make the trailing piece longer, and nothing else.
+pub split-longer : (s t : List ℕ) → NoLf t → split (s ++ t) ≡ parts (split s .whole) (split s .rest ++ t)
+unfolding split
+split-longer [] t h = split-piece t h
+split-longer (c ∷ s) t h = go (look (eqb c lf)) (split s .whole) (split s .rest) (split-longer s t h)
+  where
+    go : Seen (eqb c lf) → (ls : List (List ℕ)) (r : List ℕ) → split (s ++ t) ≡ parts ls (r ++ t) →
+        pick (eqb c lf) (parts ([] ∷ split (s ++ t) .whole) (split (s ++ t) .rest)) (longer c (split (s ++ t) .whole) (split (s ++ t) .rest))
+        ≡ parts (pick (eqb c lf) (parts ([] ∷ ls) r) (longer c ls r) .whole) (pick (eqb c lf) (parts ([] ∷ ls) r) (longer c ls r) .rest ++ t)
+    go (is-true e) ls r h = rw (e, h) refl
+    go (is-false e) [] r h = rw (e, h) refl
+    go (is-false e) (l ∷ ls) r h = rw (e, h) refl
+
+-- The text s was kept of that of the frames fs, and t stands behind it.
+pub record KeptBefore (fs : List (List ℕ)) (s t : List ℕ) : Type 0 where
+  pub few : lfs s ≤ length fs
+  pub lines : map found (split (s ++ t) .whole) ≡ map frame (take (lfs s) fs)
+  pub before : textOf (take (lfs s) fs) ++ split (s ++ t) .rest ≡ s ++ t
+
+pub cut-before : (fs : List (List ℕ)) (k : ℕ) (t : List ℕ) → All OneLineLong fs → NoLf t → KeptBefore fs (take k (textOf fs)) t
+cut-before fs k t h n =
+    let s : List ℕ = take k (textOf fs) in
+    let c = cut-anywhere fs k h in
+    let e = split-longer s t n in
+    record {
+      few = c .few;
+      lines = rw e (c .lines);
+      before = rw e (sym (append-assoc (textOf (take (lfs s) fs)) (split s .rest) t) ∙ ap (λ (x : List ℕ). x ++ t) (c .before));
+    }

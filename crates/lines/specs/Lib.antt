@@ -6,3 +6,4 @@ pub mod RoundTrip
 pub mod Text
 pub mod Examples
 pub mod Cuts
+pub mod Again

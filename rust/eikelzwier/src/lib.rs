@@ -39,9 +39,11 @@
 
 #![warn(missing_docs)]
 
+mod journal;
 pub mod raw;
 mod refusal;
 
+pub use journal::{Journal, Recovered, Stopped};
 pub use refusal::Refusal;
 
 /// Bytes of the longest answer. A shorter answer buffer is refused.
@@ -68,7 +70,9 @@ impl Outcome {
 }
 
 /// A message bus of eight peers, in buffers of its own on the heap.
-#[derive(Clone)]
+///
+/// Two are equal if their buffers are, to the byte.
+#[derive(Clone, PartialEq, Eq)]
 pub struct Bus {
     peers: Box<[u64]>,
     nodes: Box<[u64]>,

@@ -1,4 +1,4 @@
-//! The two functions of the static library, as `include/eikelzwier.h` declares
+//! The functions of the static library, as `include/eikelzwier.h` declares
 //! them, and the exact lengths of the bus buffers in elements.
 //!
 //! Every buffer is passed as a pointer and its number of elements. Any length
@@ -31,6 +31,37 @@ pub struct BusOutcome {
     pub number: u8,
     /// The answer's length.
     pub len: usize,
+}
+
+/// What [`bus_command_with_journal`] returns.
+#[repr(C)]
+#[derive(Clone, Copy, PartialEq, Eq, Debug)]
+pub struct BusReport {
+    /// 0, or the number of the refusal.
+    pub number: u8,
+    /// The answer's length.
+    pub len: usize,
+    /// The journal's used length.
+    pub used: usize,
+}
+
+/// The place in a recovery that the line reader did not stop.
+pub const NO_PLACE: usize = usize::MAX;
+
+/// What [`bus_recover`] returns.
+#[repr(C)]
+#[derive(Clone, Copy, PartialEq, Eq, Debug)]
+pub struct BusRecovery {
+    /// 0 or 5.
+    pub number: u8,
+    /// How many lines were carried out; or the line that stopped it, from 1;
+    /// or 0 where a bus buffer lacks its length.
+    pub line: usize,
+    /// Where the line reader refused that line, the place of its first fault,
+    /// from 0; else [`NO_PLACE`].
+    pub place: usize,
+    /// The journal's used length; 0 where it was stopped.
+    pub used: usize,
 }
 
 extern "C" {
@@ -94,4 +125,69 @@ extern "C" {
         answer: *mut u8,
         answer_len: usize,
     ) -> BusOutcome;
+
+    /// [`bus_command`] with a journal, of which `used` bytes are used: an
+    /// accepted command that is no question is appended as its frame line
+    /// before the bus is changed. 5 where `used` is over the journal's length;
+    /// 27 where the line has no room, the last of all checks.
+    ///
+    /// # Safety
+    /// As for [`bus_command`]; the journal is written.
+    pub fn bus_command_with_journal(
+        peers: *mut u64,
+        peers_len: usize,
+        nodes: *mut u64,
+        nodes_len: usize,
+        handles: *mut u64,
+        handles_len: usize,
+        charges: *mut u16,
+        charges_len: usize,
+        ends: *mut u16,
+        ends_len: usize,
+        entries: *mut u16,
+        entries_len: usize,
+        carried: *mut u8,
+        carried_len: usize,
+        numbers: *mut u64,
+        numbers_len: usize,
+        pool: *mut u8,
+        pool_len: usize,
+        frame: *const u8,
+        frame_len: usize,
+        answer: *mut u8,
+        answer_len: usize,
+        journal: *mut u8,
+        journal_len: usize,
+        used: usize,
+    ) -> BusReport;
+
+    /// A fresh bus, and on it each whole line of the bytes kept carried out. A
+    /// line that is no frame, is refused or is a question stops it with 5 and a
+    /// fresh bus. A bus buffer of another length gives 5 and line 0, and
+    /// nothing is written.
+    ///
+    /// # Safety
+    /// As for [`bus_fresh`]; the bytes kept are only read.
+    pub fn bus_recover(
+        peers: *mut u64,
+        peers_len: usize,
+        nodes: *mut u64,
+        nodes_len: usize,
+        handles: *mut u64,
+        handles_len: usize,
+        charges: *mut u16,
+        charges_len: usize,
+        ends: *mut u16,
+        ends_len: usize,
+        entries: *mut u16,
+        entries_len: usize,
+        carried: *mut u8,
+        carried_len: usize,
+        numbers: *mut u64,
+        numbers_len: usize,
+        pool: *mut u8,
+        pool_len: usize,
+        kept: *const u8,
+        kept_len: usize,
+    ) -> BusRecovery;
 }

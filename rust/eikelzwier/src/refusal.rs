@@ -24,6 +24,9 @@ pub enum Refusal {
     Invalid = 22,
     /// ENOTTY: command byte unknown.
     UnknownCommand = 25,
+    /// EFBIG: with a journal alone; all else accepts the command, and its line
+    /// has no room there.
+    JournalFull = 27,
     /// ENOSPC: create with 16 nodes counted.
     NoRoom = 28,
     /// ERANGE: the next message is over the room of the receive.
@@ -42,7 +45,7 @@ pub enum Refusal {
 
 impl Refusal {
     /// Every refusal, by its number.
-    pub const ALL: [Refusal; 15] = [
+    pub const ALL: [Refusal; 16] = [
         Refusal::NotPermitted,
         Refusal::Damaged,
         Refusal::NoHandle,
@@ -51,6 +54,7 @@ impl Refusal {
         Refusal::Exists,
         Refusal::Invalid,
         Refusal::UnknownCommand,
+        Refusal::JournalFull,
         Refusal::NoRoom,
         Refusal::OverRoom,
         Refusal::Overflow,

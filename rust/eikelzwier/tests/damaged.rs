@@ -4,7 +4,7 @@
 
 use std::fmt::Debug;
 
-use eikelzwier::raw::{self, BusOutcome};
+use eikelzwier::raw::{self, BusOutcome, BusRecovery, BusReport};
 use eikelzwier::ANSWER_LEN;
 use reference::script::Random;
 
@@ -178,6 +178,136 @@ impl Tables {
         }
         (outcome, answer[..outcome.len].to_vec())
     }
+
+    /// One command with a journal, and the answer buffer behind it.
+    fn journal_call(
+        &mut self,
+        frame: &[u8],
+        answer_len: usize,
+        journal: &mut [u8],
+        used: usize,
+    ) -> (BusReport, Vec<u8>) {
+        let mut bytes = journal.iter().copied();
+        let mut lent = Buffer::new(journal.len(), BYTE, || bytes.next().expect("as many"));
+        let mut answer = Buffer::new(answer_len, BYTE, || 0xee);
+        // Safety: pointers and lengths are those of eleven vectors and a slice.
+        let report = unsafe {
+            raw::bus_command_with_journal(
+                self.peers.pointer(),
+                self.peers.len(),
+                self.nodes.pointer(),
+                self.nodes.len(),
+                self.handles.pointer(),
+                self.handles.len(),
+                self.charges.pointer(),
+                self.charges.len(),
+                self.ends.pointer(),
+                self.ends.len(),
+                self.entries.pointer(),
+                self.entries.len(),
+                self.carried.pointer(),
+                self.carried.len(),
+                self.numbers.pointer(),
+                self.numbers.len(),
+                self.pool.pointer(),
+                self.pool.len(),
+                frame.as_ptr(),
+                frame.len(),
+                answer.pointer(),
+                answer.len(),
+                lent.pointer(),
+                lent.len(),
+                used,
+            )
+        };
+        self.check();
+        answer.check(BYTE);
+        lent.check(BYTE);
+        journal.copy_from_slice(lent.get());
+        (report, answer.get().to_vec())
+    }
+
+    /// The same, and what holds of every one: it is the command without a
+    /// journal, but for 27 and for the used length's 5; it is kept exactly where
+    /// it is accepted and no question; and no byte but the line's is written.
+    fn keep(
+        &mut self,
+        frame: &[u8],
+        answer_len: usize,
+        journal: &mut [u8],
+        used: usize,
+    ) -> BusReport {
+        let (tables, lines) = (self.clone(), journal.to_vec());
+        let mut without = self.clone();
+        let (outcome, expected) = without.command(frame, answer_len);
+        let (report, answer) = self.journal_call(frame, answer_len, journal, used);
+        let line = line_of(frame);
+        let counts = outcome.number == 0 && !matches!(frame[0], 0x09 | 0x0a);
+        let roomy = used <= lines.len() && line.len() <= lines.len() - used;
+        let (number, len, after) = match (answer_len < ANSWER_LEN, used > lines.len()) {
+            (true, _) => (22, 0, used),
+            (false, true) => (5, 1, used),
+            _ if counts && !roomy => (27, 1, used),
+            _ if counts => (0, outcome.len, used + line.len()),
+            _ => (outcome.number, outcome.len, used),
+        };
+        assert_eq!(
+            (report.number, report.len, report.used),
+            (number, len, after)
+        );
+        assert!(answer[len..].iter().all(|b| *b == 0xee));
+        if (number, len) == (outcome.number, outcome.len) {
+            assert!(*self == without && answer[..len] == expected);
+        } else {
+            assert!(*self == tables, "a refusal changed the bus");
+            assert_eq!(answer[..len], [number][..len]);
+        }
+        let mut kept = lines;
+        if after > used {
+            kept[used..after].copy_from_slice(&line);
+        }
+        assert!(
+            *journal == kept[..],
+            "another byte of the journal was written"
+        );
+        report
+    }
+
+    fn recover(&mut self, kept: &[u8]) -> BusRecovery {
+        // Safety: pointers and lengths are those of nine vectors and a slice.
+        let recovery = unsafe {
+            raw::bus_recover(
+                self.peers.pointer(),
+                self.peers.len(),
+                self.nodes.pointer(),
+                self.nodes.len(),
+                self.handles.pointer(),
+                self.handles.len(),
+                self.charges.pointer(),
+                self.charges.len(),
+                self.ends.pointer(),
+                self.ends.len(),
+                self.entries.pointer(),
+                self.entries.len(),
+                self.carried.pointer(),
+                self.carried.len(),
+                self.numbers.pointer(),
+                self.numbers.len(),
+                self.pool.pointer(),
+                self.pool.len(),
+                kept.as_ptr(),
+                kept.len(),
+            )
+        };
+        self.check();
+        recovery
+    }
+}
+
+/// The line of a frame.
+fn line_of(frame: &[u8]) -> Vec<u8> {
+    let digits = frame.iter().map(|byte| format!("{byte:02x}"));
+    (digits.collect::<String>() + "\n").into_bytes()
 }
 
 const OPEN: [u8; 3] = [0x01, 0, 0];
@@ -228,10 +358,59 @@ fn wrong_lengths() {
                     let (outcome, _) = tables.command(frame, ANSWER_LEN - 1);
                     assert_eq!(outcome, BusOutcome { number: 22, len: 0 });
                 }
+                let mut journal = [0xff; 40];
+                for used in [0, 40, 41] {
+                    assert_eq!(tables.keep(&OPEN, ANSWER_LEN, &mut journal, used).number, 5);
+                }
+                let unfit = BusRecovery {
+                    number: 5,
+                    line: 0,
+                    place: raw::NO_PLACE,
+                    used: 0,
+                };
+                for kept in [&b""[..], b"010000\n", b"010000\n010000\n"] {
+                    assert_eq!(tables.recover(kept), unfit);
+                }
                 assert!(tables == before, "table {table} of {len}: written");
             }
         }
     }
+}
+
+/// Recovery writes a fresh bus first: what the tables held before does not
+/// matter, nor what the bytes are.
+#[test]
+fn recovery_over_any_contents() {
+    let mut random = Random::new(5);
+    let (mut whole, mut stopped) = (0, 0);
+    for round in 0..300 {
+        let most = [u64::MAX, 3][round % 2];
+        let mut tables = Tables::new(LENGTHS, most, &mut random);
+        let mut kept = b"010000\n010101\n03000000000000000008\n0600".to_vec();
+        for _ in 0..round % 4 {
+            let at = random.below(kept.len());
+            kept[at] = random.draw() as u8;
+        }
+        let recovery = tables.recover(&kept);
+        let mut expected = Tables::new(LENGTHS, u64::MAX, &mut random);
+        assert_eq!(expected.fresh(), 0);
+        if recovery.number == 0 {
+            whole += 1;
+            for line in kept[..recovery.used].split_inclusive(|c| *c == b'\n') {
+                let digits = std::str::from_utf8(&line[..line.len() - 1]).expect("digits");
+                let frame: Vec<u8> = (0..digits.len() / 2)
+                    .map(|n| u8::from_str_radix(&digits[2 * n..2 * n + 2], 16).expect("digits"))
+                    .collect();
+                assert_eq!(expected.command(&frame, ANSWER_LEN).0.number, 0);
+            }
+        } else {
+            stopped += 1;
+            assert_eq!((recovery.number, recovery.used), (5, 0));
+            assert!(recovery.line > 0);
+        }
+        assert!(tables == expected, "round {round}");
+    }
+    assert!(whole > 0 && stopped > 0);
 }
 
 #[test]
@@ -314,15 +493,26 @@ fn random_contents() {
         }
         for _ in 0..30 {
             let frame = random_frame(&mut random, &mut tables);
-            let (outcome, _) = tables.command(&frame, ANSWER_LEN + random.below(3));
-            numbers[usize::from(outcome.number)] += 1;
+            let number = if random.chance(50) {
+                tables
+                    .command(&frame, ANSWER_LEN + random.below(3))
+                    .0
+                    .number
+            } else {
+                // A journal with much room, little or none, and any used length.
+                let mut journal = vec![0xff; random.below(1500)];
+                let used = random.below(journal.len() + 3);
+                let answer_len = ANSWER_LEN - usize::from(random.chance(3)) + random.below(3);
+                tables.keep(&frame, answer_len, &mut journal, used).number
+            };
+            numbers[usize::from(number)] += 1;
         }
     }
     println!("answers to random contents:");
     for (number, times) in numbers.iter().enumerate().filter(|(_, n)| **n > 0) {
         println!("{number}: {times}");
     }
-    assert!(numbers[0] > 0 && numbers[5] > 0);
+    assert!(numbers[0] > 0 && numbers[5] > 0 && numbers[27] > 0);
 }
 
 /// A frame of random bytes, or a command with IDs from the handle table.

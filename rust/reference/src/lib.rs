@@ -1,12 +1,14 @@
-//! The message bus of document 01 in ordinary Rust.
+//! The message bus of document 01 in ordinary Rust, with the journal of
+//! document 02, No. 4.
 //!
-//! Written from document 01 and the readings of its doubtful clauses in docs/DECISIONS.md,
+//! Written from these documents and the readings of their doubtful clauses in docs/DECISIONS.md,
 //! not from the proved core's definitions, so that agreement with the core
 //! means something. It keeps its state in its own tables, not in lent buffers,
-//! so EIO (5) has no case here.
+//! so of EIO (5) only the journal's cases are here.
 //!
 //! - [`Bus`] takes one frame and writes one answer.
 //! - [`answer_lines`] does so for lines of hexadecimal.
+//! - [`journal`] keeps the commands, and finds the bus again from them.
 
 #![forbid(unsafe_code)]
 #![warn(missing_docs)]
@@ -16,6 +18,7 @@ mod bus;
 mod frame;
 mod handles;
 mod ids;
+pub mod journal;
 mod line;
 mod queue;
 mod quota;

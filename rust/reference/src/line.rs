@@ -41,7 +41,7 @@ fn decode<'a>(line: &[u8], frame: &'a mut [u8; MAX_FRAME]) -> Option<&'a [u8]> {
     (bad < 16).then_some(frame)
 }
 
-fn encode(bytes: &[u8], out: &mut Vec<u8>) {
+pub(crate) fn encode(bytes: &[u8], out: &mut Vec<u8>) {
     out.extend(bytes.iter().flat_map(|byte| {
         let digit = |value: u8| b"0123456789abcdef"[usize::from(value)];
         [digit(byte >> 4), digit(byte & 15)]
