@@ -1,33 +1,22 @@
 /*
- * The nine bus buffers in one structure, and the arguments that lend them:
- * bus_fresh(LENT(&bus)), bus_command(LENT(&bus), frame, ..).
+ * The bus buffers in one structure, and the arguments that lend them:
+ * bus_fresh(LENT(&bus)), bus_command(LENT(&bus), frame, ..). Both are made from
+ * the header's list.
  */
 #ifndef LENT_H
 #define LENT_H
 
 #include "eikelzwier.h"
 
+#define LENT_NOTHING()
+#define LENT_COMMA() ,
+#define LENT_FIELD(with, name, element, length) element name[length];
+#define LENT_ARGUMENTS(bus, name, element, length) (bus)->name, length
+
 typedef struct LentBus {
-    uint64_t peers[BUS_PEERS_LEN];
-    uint64_t nodes[BUS_NODES_LEN];
-    uint64_t handles[BUS_HANDLES_LEN];
-    uint64_t numbers[BUS_NUMBERS_LEN];
-    uint16_t charges[BUS_CHARGES_LEN];
-    uint16_t ends[BUS_ENDS_LEN];
-    uint16_t entries[BUS_ENTRIES_LEN];
-    uint8_t carried[BUS_CARRIED_LEN];
-    uint8_t pool[BUS_POOL_LEN];
+    BUS_BUFFERS(LENT_FIELD, LENT_NOTHING, )
 } LentBus;
 
-#define LENT(b)                    \
-    (b)->peers, BUS_PEERS_LEN,     \
-    (b)->nodes, BUS_NODES_LEN,     \
-    (b)->handles, BUS_HANDLES_LEN, \
-    (b)->charges, BUS_CHARGES_LEN, \
-    (b)->ends, BUS_ENDS_LEN,       \
-    (b)->entries, BUS_ENTRIES_LEN, \
-    (b)->carried, BUS_CARRIED_LEN, \
-    (b)->numbers, BUS_NUMBERS_LEN, \
-    (b)->pool, BUS_POOL_LEN
+#define LENT(bus) BUS_BUFFERS(LENT_ARGUMENTS, LENT_COMMA, bus)
 
 #endif

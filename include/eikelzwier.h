@@ -44,6 +44,21 @@ extern "C" {
 #define BUS_NUMBERS_LEN 4096  /* uint64_t, 32,768 bytes */
 #define BUS_POOL_LEN 32768    /* uint8_t,  32,768 bytes */
 
+/* The bus buffers in the order in which each function takes them, for code that
+ * treats them alike: EACH(with, name, element type, length) of each, and
+ * BETWEEN() between two. examples/lent.h makes a structure and the arguments of a
+ * call from it. */
+#define BUS_BUFFERS(EACH, BETWEEN, with)                      \
+    EACH(with, peers, uint64_t, BUS_PEERS_LEN) BETWEEN()      \
+    EACH(with, nodes, uint64_t, BUS_NODES_LEN) BETWEEN()      \
+    EACH(with, handles, uint64_t, BUS_HANDLES_LEN) BETWEEN()  \
+    EACH(with, charges, uint16_t, BUS_CHARGES_LEN) BETWEEN()  \
+    EACH(with, ends, uint16_t, BUS_ENDS_LEN) BETWEEN()        \
+    EACH(with, entries, uint16_t, BUS_ENTRIES_LEN) BETWEEN()  \
+    EACH(with, carried, uint8_t, BUS_CARRIED_LEN) BETWEEN()   \
+    EACH(with, numbers, uint64_t, BUS_NUMBERS_LEN) BETWEEN()  \
+    EACH(with, pool, uint8_t, BUS_POOL_LEN)
+
 /* The least length of an answer buffer, which is that of the longest answer,
  * and the length of the longest frame that is not refused; both in bytes. */
 #define BUS_ANSWER_LEN 591

@@ -107,24 +107,18 @@ static int guarded(const struct buffer *b)
     return 1;
 }
 
-/* The buffers of a call: the nine tables, the frame, the answer. */
-enum { PEERS, NODES, HANDLES, CHARGES, ENDS, ENTRIES, CARRIED, NUMBERS, POOL, TABLES };
+/* The buffers of a call: the bus buffers, the frame, the answer. */
+#define COMMA() ,
+#define NUMBER(with, name, element, length) table_##name
+#define SHAPE(with, name, element, length) {#name, length, sizeof(element)}
+
+enum { BUS_BUFFERS(NUMBER, COMMA, ), TABLES };
 enum { FRAME = TABLES, ANSWER, BUFFERS };
 
 static const struct {
     const char *name;
     size_t len, width;
-} shape[TABLES] = {
-    {"peers", BUS_PEERS_LEN, sizeof(uint64_t)},
-    {"nodes", BUS_NODES_LEN, sizeof(uint64_t)},
-    {"handles", BUS_HANDLES_LEN, sizeof(uint64_t)},
-    {"charges", BUS_CHARGES_LEN, sizeof(uint16_t)},
-    {"ends", BUS_ENDS_LEN, sizeof(uint16_t)},
-    {"entries", BUS_ENTRIES_LEN, sizeof(uint16_t)},
-    {"carried", BUS_CARRIED_LEN, sizeof(uint8_t)},
-    {"numbers", BUS_NUMBERS_LEN, sizeof(uint64_t)},
-    {"pool", BUS_POOL_LEN, sizeof(uint8_t)},
-};
+} shape[TABLES] = {BUS_BUFFERS(SHAPE, COMMA, )};
 
 struct bus {
     struct buffer b[BUFFERS];
@@ -169,10 +163,8 @@ static void check_guards(const struct bus *bus)
 }
 
 #define LENT(bus, t) at(&(bus)->b[t]), (bus)->b[t].len
-#define ALL_TABLES(bus)                                                                         \
-    LENT(bus, PEERS), LENT(bus, NODES), LENT(bus, HANDLES), LENT(bus, CHARGES),                 \
-        LENT(bus, ENDS), LENT(bus, ENTRIES), LENT(bus, CARRIED), LENT(bus, NUMBERS),            \
-        LENT(bus, POOL)
+#define LENT_TABLE(bus, name, element, length) LENT(bus, table_##name)
+#define ALL_TABLES(bus) BUS_BUFFERS(LENT_TABLE, COMMA, bus)
 
 static unsigned long calls;
 
@@ -365,7 +357,7 @@ static void random_frame(struct bus *bus)
         bytes[2] = 0xff;
     /* IDs that stand in the handle table. */
     if (kind != 0 && kind != 1 && kind != 7 && kind != 8 && below(8)) {
-        const unsigned char *handles = at(&bus->b[HANDLES]);
+        const unsigned char *handles = at(&bus->b[table_handles]);
         for (size_t i = kind == 6 ? 6 : 2; i + 8 <= len; i += 8) {
             size_t row = 128 * bytes[1] + below(128);
             if (kind == 6 && i >= 6 + 8 * ((size_t)bytes[2] + bytes[3]))
@@ -393,8 +385,8 @@ static void random_frame(struct bus *bus)
 /* Puts the numbers that a command tests into their ranges. */
 static void put_in_range(struct bus *bus)
 {
-    uint64_t *peers = at(&bus->b[PEERS]);
-    uint16_t *ends = at(&bus->b[ENDS]);
+    uint64_t *peers = at(&bus->b[table_peers]);
+    uint16_t *ends = at(&bus->b[table_ends]);
     peers[0] %= UINT64_C(1) << (below(2) ? 40 : 20);
     for (size_t p = 0; p < 8; p++) {
         peers[1 + 3 * p] = below(8) ? 1 : below(3);
@@ -429,8 +421,8 @@ static void test_random(unsigned long rounds)
             if (below(4) == 0) {
                 /* One more byte damaged, seldom where it may give 5. */
                 int t = (int)below(TABLES);
-                if ((t == PEERS || t == ENDS) && below(16))
-                    t = HANDLES;
+                if ((t == table_peers || t == table_ends) && below(16))
+                    t = table_handles;
                 struct buffer *b = &bus.b[t];
                 ((unsigned char *)at(b))[below(b->bytes)] = (unsigned char)draw();
             }

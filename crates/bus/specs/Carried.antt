@@ -48,6 +48,7 @@ use Rattle.effects.specs.Receiving.{transfer-view, transfer-id, shape-transfer,
 use Rattle.effects.specs.Listing.{listed-create, listed-release, listed-transfer, listed-disconnect}
 use Rattle.effects.specs.Destroying.{destroy-view, shape-destroy, disconnect-view, shape-disconnect}
 use Rattle.bus.specs.Command.{Done, answered, carried}
+use Rattle.ids.specs.Sizes.{peers}
 
 -- What comes of a command is, seen, the state st with the reply rep.
 pub record Seen-as (out : List ℕ) (d : Done) (st : State) (rep : Reply) : Type 0 where
@@ -72,7 +73,7 @@ module _ (b : Bus) (shape : Shape b) (raw : Raw b) (g : Good (stateOf b)) (lists
   abbrev st : State
   st = stateOf b
 
-  release-seen : (p : Peer) (i : HandleId) → p .0 < 8 → slot st (p .0) (i .0) < nodes →
+  release-seen : (p : Peer) (i : HandleId) → p .0 < peers → slot st (p .0) (i .0) < nodes →
       stateOf (afterRelease b (p .0) (slot st (p .0) (i .0))) ≡ releasesHandle (accept st) (p .0) (slot st (p .0) (i .0)) (st .handle (p .0) (slot st (p .0) (i .0)))
   release-seen p i l m = go (st .handle (p .0) (slot st (p .0) (i .0))) refl (held-by (st .handle (p .0)) (i .0) m)
     where
@@ -81,7 +82,7 @@ module _ (b : Bus) (shape : Shape b) (raw : Raw b) (g : Good (stateOf b)) (lists
       go none e t = clash (sym t ∙ ap (hasId (i .0)) e)
       go (some j c) e t = release-view b (p .0) (slot st (p .0) (i .0)) j c shape g l m e
 
-  release-shape : (p : Peer) (i : HandleId) → p .0 < 8 → slot st (p .0) (i .0) < nodes → Shape (afterRelease b (p .0) (slot st (p .0) (i .0)))
+  release-shape : (p : Peer) (i : HandleId) → p .0 < peers → slot st (p .0) (i .0) < nodes → Shape (afterRelease b (p .0) (slot st (p .0) (i .0)))
   release-shape p i l m = go (st .handle (p .0) (slot st (p .0) (i .0))) refl (held-by (st .handle (p .0)) (i .0) m)
     where
       go : (h : Handle) → st .handle (p .0) (slot st (p .0) (i .0)) ≡ h → hasId (i .0) (st .handle (p .0) (slot st (p .0) (i .0))) ≡ true →
@@ -89,7 +90,7 @@ module _ (b : Bus) (shape : Shape b) (raw : Raw b) (g : Good (stateOf b)) (lists
       go none e t = clash (sym t ∙ ap (hasId (i .0)) e)
       go (some j c) e t = shape-release b (p .0) (slot st (p .0) (i .0)) j c shape g l m e
 
-  release-listed : (p : Peer) (i : HandleId) → p .0 < 8 → slot st (p .0) (i .0) < nodes → AllListed (afterRelease b (p .0) (slot st (p .0) (i .0)) .handles)
+  release-listed : (p : Peer) (i : HandleId) → p .0 < peers → slot st (p .0) (i .0) < nodes → AllListed (afterRelease b (p .0) (slot st (p .0) (i .0)) .handles)
   release-listed p i l m = go (st .handle (p .0) (slot st (p .0) (i .0))) refl (held-by (st .handle (p .0)) (i .0) m)
     where
       go : (h : Handle) → st .handle (p .0) (slot st (p .0) (i .0)) ≡ h → hasId (i .0) (st .handle (p .0) (slot st (p .0) (i .0))) ≡ true →
@@ -98,7 +99,7 @@ module _ (b : Bus) (shape : Shape b) (raw : Raw b) (g : Good (stateOf b)) (lists
       go (some j c) e t = listed-release b shape g lists (p .0) (slot st (p .0) (i .0)) j c l m e
 
   -- Something is queued where a receive is not refused.
-  nonempty : (p room : ℕ) → p < 8 → takeable room (st .queue p) ≡ 0 → 0 < lengthOf (b .rings .ends) p
+  nonempty : (p room : ℕ) → p < peers → takeable room (st .queue p) ≡ 0 → 0 < lengthOf (b .rings .ends) p
   nonempty p room l e = some-of (st .queue p) e (queue-count (b .rings) (b .pool) p l)
     where
       some-of : (q : List Entry) → takeable room q ≡ 0 → length q ≡ lengthOf (b .rings .ends) p → 0 < lengthOf (b .rings .ends) p
@@ -123,7 +124,7 @@ module _ (b : Bus) (shape : Shape b) (raw : Raw b) (g : Good (stateOf b)) (lists
   carried-seen (Transfer p i q) l e =
       let t = tested st f (Transfer p i q) e in
       let s = slot st (p .0) (i .0) in
-      let m : q .0 < 8 = omega (arith, l .1) in
+      let m : q .0 < peers = omega (arith, l .1) in
       let id = transfer-id b (q .0) s shape g m (t .holds) in
       record {
         shape = shape-transfer b (q .0) s shape g m (t .holds);
@@ -136,7 +137,7 @@ module _ (b : Bus) (shape : Shape b) (raw : Raw b) (g : Good (stateOf b)) (lists
   carried-seen (Send p z) l e =
       plain-seen out _ _ _ (shape-send b (p .0) z _ (payloadOf f) shape) (raw-send b raw g (p .0) z _ (payloadOf f)) lists (send-view b shape g (p .0) (omega (arith, l .0)) f z (l .1) e)
   carried-seen (Receive p room) l e =
-      let m : p .0 < 8 = omega arith in
+      let m : p .0 < peers = omega arith in
       let some = nonempty (p .0) room m (tested st f (Receive p room) e .next) in
       record {
         shape = shape-receive b (p .0) out shape g m some;

@@ -43,107 +43,123 @@ use Rattle.judges.specs.declared.Ruling.{Ruling}
 use Rattle.judges.specs.Orders.{Sight, sight, rulingOf}
 use Rattle.effects.specs.Effects.{openedPeers, createdOf, created, destroysOf, destroys, releasesOf, releases, transfers, sendsOf, sends, disconnectsOf, disconnects, receivedOf, received}
 use Rattle.bus.specs.Fairness.{fair}
-use Rattle.bus.specs.Command.{sizedOk, peerOk, peersOk, rangesOk, soundOk, freshBus, freshOf, freshNumber, Done, doneOf, carried, answered, replyTo, altered, Changed, changedOf, settled, changed, carriedOut, commandOf, Fair}
+use Rattle.bus.specs.Command.{sizedNodes, sizedHandles, sizedCharges, sizedEnds, sizedEntries, sizedCarried, sizedNumbers, sizedPool, sizedOk, peerOk, peersOk, rangesOk, soundOk, freshBus, freshOf, freshNumber, Done, doneOf, carried, answered, replyTo, altered, Changed, changedOf, settled, changed, carriedOut, commandOf, Fair}
+use Rattle.ids.specs.Sizes.{peers, mostIds, acceptedEnd, givenEnd, endFields}
+use Rattle.tables.specs.Peers.{peerRow}
+use Rattle.ids.specs.Sizes.{peersSize, nodesSize, handlesSize, endsSize, entriesSize, carriedSize, numbersSize, poolSize}
+use Rattle.tables.specs.Charges.{chargesSize}
 
 -- The lengths, by the test that fails; then the test that all have passed.
 module _ (b : Bus) where
-  pub wrong-peers : (length (b .peers) ≡ 25 → ⊥) → false ≡ sizedOk b
+  pub wrong-peers : (length (b .peers) ≡ peersSize → ⊥) → false ≡ sizedOk b
   unfolding sizedOk
-  wrong-peers h = rw (ne-eqb (length (b .peers)) 25 h)
+  wrong-peers h = rw (ne-eqb (length (b .peers)) peersSize h)
 
-  module _ (e0 : length (b .peers) ≡ 25) where
-    pub wrong-nodes : (length (b .nodes) ≡ 256 → ⊥) → false ≡ sizedOk b
+  module _ (e0 : length (b .peers) ≡ peersSize) where
+    to-nodes : sizedOk b ≡ sizedNodes b
     unfolding sizedOk
-    wrong-nodes h = rw (eq-eqb (length (b .peers)) 25 e0, ne-eqb (length (b .nodes)) 256 h)
+    to-nodes = rw (eq-eqb (length (b .peers)) peersSize e0)
 
-    module _ (e1 : length (b .nodes) ≡ 256) where
-      pub wrong-handles : (length (b .handles) ≡ 4112 → ⊥) → false ≡ sizedOk b
-      unfolding sizedOk
-      wrong-handles h = rw (eq-eqb (length (b .peers)) 25 e0, eq-eqb (length (b .nodes)) 256 e1, ne-eqb (length (b .handles)) 4112 h)
+    pub wrong-nodes : (length (b .nodes) ≡ nodesSize → ⊥) → false ≡ sizedOk b
+    wrong-nodes h = rw (to-nodes, ne-eqb (length (b .nodes)) nodesSize h)
 
-      module _ (e2 : length (b .handles) ≡ 4112) where
-        pub wrong-charges : (length (b .charges) ≡ 96 → ⊥) → false ≡ sizedOk b
-        unfolding sizedOk
-        wrong-charges h = rw (eq-eqb (length (b .peers)) 25 e0, eq-eqb (length (b .nodes)) 256 e1, eq-eqb (length (b .handles)) 4112 e2, ne-eqb (length (b .charges)) 96 h)
+    module _ (e1 : length (b .nodes) ≡ nodesSize) where
+      to-handles : sizedOk b ≡ sizedHandles b
+      to-handles = rw (to-nodes, eq-eqb (length (b .nodes)) nodesSize e1)
 
-        module _ (e3 : length (b .charges) ≡ 96) where
-          pub wrong-ends : (length (b .rings .ends) ≡ 16 → ⊥) → false ≡ sizedOk b
-          unfolding sizedOk
-          wrong-ends h = rw (eq-eqb (length (b .peers)) 25 e0, eq-eqb (length (b .nodes)) 256 e1, eq-eqb (length (b .handles)) 4112 e2, eq-eqb (length (b .charges)) 96 e3, ne-eqb (length (b .rings .ends)) 16 h)
+      pub wrong-handles : (length (b .handles) ≡ handlesSize → ⊥) → false ≡ sizedOk b
+      wrong-handles h = rw (to-handles, ne-eqb (length (b .handles)) handlesSize h)
 
-          module _ (e4 : length (b .rings .ends) ≡ 16) where
-            pub wrong-entries : (length (b .rings .rows .entries) ≡ 20480 → ⊥) → false ≡ sizedOk b
-            unfolding sizedOk
-            wrong-entries h = rw (eq-eqb (length (b .peers)) 25 e0, eq-eqb (length (b .nodes)) 256 e1, eq-eqb (length (b .handles)) 4112 e2, eq-eqb (length (b .charges)) 96 e3, eq-eqb (length (b .rings .ends)) 16 e4, ne-eqb (length (b .rings .rows .entries)) 20480 h)
+      module _ (e2 : length (b .handles) ≡ handlesSize) where
+        to-charges : sizedOk b ≡ sizedCharges b
+        to-charges = rw (to-handles, eq-eqb (length (b .handles)) handlesSize e2)
 
-            module _ (e5 : length (b .rings .rows .entries) ≡ 20480) where
-              pub wrong-carried : (length (b .rings .rows .carried) ≡ 32768 → ⊥) → false ≡ sizedOk b
-              unfolding sizedOk
-              wrong-carried h = rw (eq-eqb (length (b .peers)) 25 e0, eq-eqb (length (b .nodes)) 256 e1, eq-eqb (length (b .handles)) 4112 e2, eq-eqb (length (b .charges)) 96 e3, eq-eqb (length (b .rings .ends)) 16 e4, eq-eqb (length (b .rings .rows .entries)) 20480 e5, ne-eqb (length (b .rings .rows .carried)) 32768 h)
+        pub wrong-charges : (length (b .charges) ≡ chargesSize → ⊥) → false ≡ sizedOk b
+        wrong-charges h = rw (to-charges, ne-eqb (length (b .charges)) chargesSize h)
 
-              module _ (e6 : length (b .rings .rows .carried) ≡ 32768) where
-                pub wrong-numbers : (length (b .rings .rows .numbers) ≡ 4096 → ⊥) → false ≡ sizedOk b
-                unfolding sizedOk
-                wrong-numbers h = rw (eq-eqb (length (b .peers)) 25 e0, eq-eqb (length (b .nodes)) 256 e1, eq-eqb (length (b .handles)) 4112 e2, eq-eqb (length (b .charges)) 96 e3, eq-eqb (length (b .rings .ends)) 16 e4, eq-eqb (length (b .rings .rows .entries)) 20480 e5, eq-eqb (length (b .rings .rows .carried)) 32768 e6, ne-eqb (length (b .rings .rows .numbers)) 4096 h)
+        module _ (e3 : length (b .charges) ≡ chargesSize) where
+          to-ends : sizedOk b ≡ sizedEnds b
+          to-ends = rw (to-charges, eq-eqb (length (b .charges)) chargesSize e3)
 
-                module _ (e7 : length (b .rings .rows .numbers) ≡ 4096) where
-                  pub all-but-pool : eqb (length (b .pool)) 32768 ≡ sizedOk b
-                  unfolding sizedOk
-                  all-but-pool = rw (eq-eqb (length (b .peers)) 25 e0, eq-eqb (length (b .nodes)) 256 e1, eq-eqb (length (b .handles)) 4112 e2, eq-eqb (length (b .charges)) 96 e3, eq-eqb (length (b .rings .ends)) 16 e4, eq-eqb (length (b .rings .rows .entries)) 20480 e5, eq-eqb (length (b .rings .rows .carried)) 32768 e6, eq-eqb (length (b .rings .rows .numbers)) 4096 e7)
+          pub wrong-ends : (length (b .rings .ends) ≡ endsSize → ⊥) → false ≡ sizedOk b
+          wrong-ends h = rw (to-ends, ne-eqb (length (b .rings .ends)) endsSize h)
+
+          module _ (e4 : length (b .rings .ends) ≡ endsSize) where
+            to-entries : sizedOk b ≡ sizedEntries b
+            to-entries = rw (to-ends, eq-eqb (length (b .rings .ends)) endsSize e4)
+
+            pub wrong-entries : (length (b .rings .rows .entries) ≡ entriesSize → ⊥) → false ≡ sizedOk b
+            wrong-entries h = rw (to-entries, ne-eqb (length (b .rings .rows .entries)) entriesSize h)
+
+            module _ (e5 : length (b .rings .rows .entries) ≡ entriesSize) where
+              to-carried : sizedOk b ≡ sizedCarried b
+              to-carried = rw (to-entries, eq-eqb (length (b .rings .rows .entries)) entriesSize e5)
+
+              pub wrong-carried : (length (b .rings .rows .carried) ≡ carriedSize → ⊥) → false ≡ sizedOk b
+              wrong-carried h = rw (to-carried, ne-eqb (length (b .rings .rows .carried)) carriedSize h)
+
+              module _ (e6 : length (b .rings .rows .carried) ≡ carriedSize) where
+                to-numbers : sizedOk b ≡ sizedNumbers b
+                to-numbers = rw (to-carried, eq-eqb (length (b .rings .rows .carried)) carriedSize e6)
+
+                pub wrong-numbers : (length (b .rings .rows .numbers) ≡ numbersSize → ⊥) → false ≡ sizedOk b
+                wrong-numbers h = rw (to-numbers, ne-eqb (length (b .rings .rows .numbers)) numbersSize h)
+
+                module _ (e7 : length (b .rings .rows .numbers) ≡ numbersSize) where
+                  to-pool : sizedOk b ≡ sizedPool b
+                  to-pool = rw (to-numbers, eq-eqb (length (b .rings .rows .numbers)) numbersSize e7)
+
+                  pub all-but-pool : eqb (length (b .pool)) poolSize ≡ sizedOk b
+                  all-but-pool = sym to-pool
 
 -- What the test says: every buffer has its length.
 pub sized-shape : (b : Bus) → sizedOk b ≡ true → Shape b
 unfolding sizedOk
 sized-shape b h =
-    let h0 = both-true (eqb (length (b .peers)) 25) (both (eqb (length (b .nodes)) 256) (both (eqb (length (b .handles)) 4112) (both (eqb (length (b .charges)) 96) (both (eqb (length (b .rings .ends)) 16) (both (eqb (length (b .rings .rows .entries)) 20480) (both (eqb (length (b .rings .rows .carried)) 32768) (both (eqb (length (b .rings .rows .numbers)) 4096) (eqb (length (b .pool)) 32768)))))))) h in
-    let h1 = both-true (eqb (length (b .nodes)) 256) (both (eqb (length (b .handles)) 4112) (both (eqb (length (b .charges)) 96) (both (eqb (length (b .rings .ends)) 16) (both (eqb (length (b .rings .rows .entries)) 20480) (both (eqb (length (b .rings .rows .carried)) 32768) (both (eqb (length (b .rings .rows .numbers)) 4096) (eqb (length (b .pool)) 32768))))))) (h0 .1) in
-    let h2 = both-true (eqb (length (b .handles)) 4112) (both (eqb (length (b .charges)) 96) (both (eqb (length (b .rings .ends)) 16) (both (eqb (length (b .rings .rows .entries)) 20480) (both (eqb (length (b .rings .rows .carried)) 32768) (both (eqb (length (b .rings .rows .numbers)) 4096) (eqb (length (b .pool)) 32768)))))) (h1 .1) in
-    let h3 = both-true (eqb (length (b .charges)) 96) (both (eqb (length (b .rings .ends)) 16) (both (eqb (length (b .rings .rows .entries)) 20480) (both (eqb (length (b .rings .rows .carried)) 32768) (both (eqb (length (b .rings .rows .numbers)) 4096) (eqb (length (b .pool)) 32768))))) (h2 .1) in
-    let h4 = both-true (eqb (length (b .rings .ends)) 16) (both (eqb (length (b .rings .rows .entries)) 20480) (both (eqb (length (b .rings .rows .carried)) 32768) (both (eqb (length (b .rings .rows .numbers)) 4096) (eqb (length (b .pool)) 32768)))) (h3 .1) in
-    let h5 = both-true (eqb (length (b .rings .rows .entries)) 20480) (both (eqb (length (b .rings .rows .carried)) 32768) (both (eqb (length (b .rings .rows .numbers)) 4096) (eqb (length (b .pool)) 32768))) (h4 .1) in
-    let h6 = both-true (eqb (length (b .rings .rows .carried)) 32768) (both (eqb (length (b .rings .rows .numbers)) 4096) (eqb (length (b .pool)) 32768)) (h5 .1) in
-    let h7 = both-true (eqb (length (b .rings .rows .numbers)) 4096) (eqb (length (b .pool)) 32768) (h6 .1) in
+    let h0 = both-true (eqb (length (b .peers)) peersSize) (sizedNodes b) h in
+    let h1 = both-true (eqb (length (b .nodes)) nodesSize) (sizedHandles b) (h0 .1) in
+    let h2 = both-true (eqb (length (b .handles)) handlesSize) (sizedCharges b) (h1 .1) in
+    let h3 = both-true (eqb (length (b .charges)) chargesSize) (sizedEnds b) (h2 .1) in
+    let h4 = both-true (eqb (length (b .rings .ends)) endsSize) (sizedEntries b) (h3 .1) in
+    let h5 = both-true (eqb (length (b .rings .rows .entries)) entriesSize) (sizedCarried b) (h4 .1) in
+    let h6 = both-true (eqb (length (b .rings .rows .carried)) carriedSize) (sizedNumbers b) (h5 .1) in
+    let h7 = both-true (eqb (length (b .rings .rows .numbers)) numbersSize) (sizedPool b) (h6 .1) in
     record {
-      peers = eqb-true (length (b .peers)) 25 (h0 .0);
-      nodes = eqb-true (length (b .nodes)) 256 (h1 .0);
-      handles = eqb-true (length (b .handles)) 4112 (h2 .0);
-      charges = eqb-true (length (b .charges)) 96 (h3 .0);
-      ends = eqb-true (length (b .rings .ends)) 16 (h4 .0);
-      rows =
-          record {
-            entries = eqb-true (length (b .rings .rows .entries)) 20480 (h5 .0);
-            carried = eqb-true (length (b .rings .rows .carried)) 32768 (h6 .0);
-            numbers = eqb-true (length (b .rings .rows .numbers)) 4096 (h7 .0);
-          };
-      pool = eqb-true (length (b .pool)) 32768 (h7 .1);
+      peers = eqb-true (length (b .peers)) peersSize (h0 .0);
+      nodes = eqb-true (length (b .nodes)) nodesSize (h1 .0);
+      handles = eqb-true (length (b .handles)) handlesSize (h2 .0);
+      charges = eqb-true (length (b .charges)) chargesSize (h3 .0);
+      ends = eqb-true (length (b .rings .ends)) endsSize (h4 .0);
+      rows = record { entries = eqb-true (length (b .rings .rows .entries)) entriesSize (h5 .0); carried = eqb-true (length (b .rings .rows .carried)) carriedSize (h6 .0); numbers = eqb-true (length (b .rings .rows .numbers)) numbersSize (h7 .0) };
+      pool = eqb-true (length (b .pool)) poolSize (h7 .1);
     }
 
 -- The numbers of a peer, by the test that fails; then the last test.
 module _ (ps ends : List ℕ) (p : ℕ) where
-  pub bad-state : 2 < getD ps (1 + 3 * p) 0 → false ≡ peerOk ps ends p
+  pub bad-state : 2 < getD ps (peerRow p) 0 → false ≡ peerOk ps ends p
   unfolding peerOk
-  bad-state h = rw (lt-leb (getD ps (1 + 3 * p) 0) 2 h)
+  bad-state h = rw (lt-leb (getD ps (peerRow p) 0) 2 h)
 
-  module _ (h₀ : getD ps (1 + 3 * p) 0 ≤ 2) where
-    pub bad-user : 3 < getD ps (1 + 3 * p + 1) 0 → false ≡ peerOk ps ends p
+  module _ (h₀ : getD ps (peerRow p) 0 ≤ 2) where
+    pub bad-user : 3 < getD ps (peerRow p + 1) 0 → false ≡ peerOk ps ends p
     unfolding peerOk
-    bad-user h = rw (le-leb (getD ps (1 + 3 * p) 0) 2 h₀, lt-leb (getD ps (1 + 3 * p + 1) 0) 3 h)
+    bad-user h = rw (le-leb (getD ps (peerRow p) 0) 2 h₀, lt-leb (getD ps (peerRow p + 1) 0) 3 h)
 
-    module _ (h₁ : getD ps (1 + 3 * p + 1) 0 ≤ 3) where
-      pub bad-given : 17592186044416 ≤ getD ps (1 + 3 * p + 2) 0 → false ≡ peerOk ps ends p
+    module _ (h₁ : getD ps (peerRow p + 1) 0 ≤ 3) where
+      pub bad-given : givenEnd ≤ getD ps (peerRow p + 2) 0 → false ≡ peerOk ps ends p
       unfolding peerOk
-      bad-given h = rw (le-leb (getD ps (1 + 3 * p) 0) 2 h₀, le-leb (getD ps (1 + 3 * p + 1) 0) 3 h₁, le-ltb (getD ps (1 + 3 * p + 2) 0) 17592186044416 h)
+      bad-given h = rw (le-leb (getD ps (peerRow p) 0) 2 h₀, le-leb (getD ps (peerRow p + 1) 0) 3 h₁, le-ltb (getD ps (peerRow p + 2) 0) givenEnd h)
 
-      module _ (h₂ : getD ps (1 + 3 * p + 2) 0 < 17592186044416) where
-        pub bad-head : 512 ≤ getD ends (p * 2) 0 → false ≡ peerOk ps ends p
+      module _ (h₂ : getD ps (peerRow p + 2) 0 < givenEnd) where
+        pub bad-head : ringSize ≤ getD ends (p * endFields) 0 → false ≡ peerOk ps ends p
         unfolding peerOk
         bad-head h =
-            rw (le-leb (getD ps (1 + 3 * p) 0) 2 h₀, le-leb (getD ps (1 + 3 * p + 1) 0) 3 h₁, lt-ltb (getD ps (1 + 3 * p + 2) 0) 17592186044416 h₂, le-ltb (getD ends (p * 2) 0) 512 h)
+            rw (le-leb (getD ps (peerRow p) 0) 2 h₀, le-leb (getD ps (peerRow p + 1) 0) 3 h₁, lt-ltb (getD ps (peerRow p + 2) 0) givenEnd h₂, le-ltb (getD ends (p * endFields) 0) ringSize h)
 
-        pub last-length : getD ends (p * 2) 0 < 512 → leb (getD ends (p * 2 + 1) 0) 512 ≡ peerOk ps ends p
+        pub last-length : getD ends (p * endFields) 0 < ringSize → leb (getD ends (p * endFields + 1) 0) ringSize ≡ peerOk ps ends p
         unfolding peerOk
         last-length h =
-            rw (le-leb (getD ps (1 + 3 * p) 0) 2 h₀, le-leb (getD ps (1 + 3 * p + 1) 0) 3 h₁, lt-ltb (getD ps (1 + 3 * p + 2) 0) 17592186044416 h₂, lt-ltb (getD ends (p * 2) 0) 512 h)
+            rw (le-leb (getD ps (peerRow p) 0) 2 h₀, le-leb (getD ps (peerRow p + 1) 0) 3 h₁, lt-ltb (getD ps (peerRow p + 2) 0) givenEnd h₂, lt-ltb (getD ends (p * endFields) 0) ringSize h)
 
 both-false : (a b : Bool) → b ≡ false → both a b ≡ false
 both-false true b e = e
@@ -170,15 +186,15 @@ module _ (ps ends : List ℕ) where
       go (same e) ih = both-false (peersOk ps ends n) (peerOk ps ends n) (ap (peerOk ps ends) (sym e) ∙ h)
       go (other d) ih = rw (ih (omega (arith, d)) h)
 
-  pub bad-peer : (p : ℕ) {r : Bool} → p < 8 → r ≡ peerOk ps ends p → r ≡ false → false ≡ rangesOk ps ends
+  pub bad-peer : (p : ℕ) {r : Bool} → p < peers → r ≡ peerOk ps ends p → r ≡ false → false ≡ rangesOk ps ends
   unfolding rangesOk
-  bad-peer p l e f = rw (one-fails 8 p l (sym e ∙ f))
+  bad-peer p l e f = rw (one-fails peers p l (sym e ∙ f))
 
-  pub good-peers : (p : ℕ) → 8 ≤ p → p ≤ 8 → peersOk ps ends p ≡ true → ltb (getD ps 0 0) 1099511627776 ≡ rangesOk ps ends
+  pub good-peers : (p : ℕ) → 8 ≤ p → p ≤ mostIds → peersOk ps ends p ≡ true → ltb (getD ps 0 0) acceptedEnd ≡ rangesOk ps ends
   unfolding rangesOk
   good-peers p l u h =
       let e : p ≡ 8 = omega arith in
-      let k : peersOk ps ends 8 ≡ true = ap (peersOk ps ends) (sym e) ∙ h in
+      let k : peersOk ps ends peers ≡ true = ap (peersOk ps ends) (sym e) ∙ h in
       rw k
 
   pub each-peer : (n : ℕ) → peersOk ps ends n ≡ true → (p : ℕ) → p < n → peerOk ps ends p ≡ true
@@ -194,15 +210,15 @@ module _ (ps ends : List ℕ) where
   peer-short : (p : ℕ) → peerOk ps ends p ≡ true → lengthOf ends p ≤ ringSize
   unfolding peerOk
   peer-short p h =
-      let h₀ = both-true (leb (getD ps (1 + 3 * p) 0) 2) (both (leb (getD ps (1 + 3 * p + 1) 0) 3) (both (ltb (getD ps (1 + 3 * p + 2) 0) 17592186044416) (both (ltb (getD ends (p * 2) 0) 512) (leb (getD ends (p * 2 + 1) 0) 512)))) h in
-      let h₁ = both-true (leb (getD ps (1 + 3 * p + 1) 0) 3) (both (ltb (getD ps (1 + 3 * p + 2) 0) 17592186044416) (both (ltb (getD ends (p * 2) 0) 512) (leb (getD ends (p * 2 + 1) 0) 512))) (h₀ .1) in
-      let h₂ = both-true (ltb (getD ps (1 + 3 * p + 2) 0) 17592186044416) (both (ltb (getD ends (p * 2) 0) 512) (leb (getD ends (p * 2 + 1) 0) 512)) (h₁ .1) in
-      let h₃ = both-true (ltb (getD ends (p * 2) 0) 512) (leb (getD ends (p * 2 + 1) 0) 512) (h₂ .1) in
-      leb-true (getD ends (p * 2 + 1) 0) 512 (h₃ .1)
+      let h₀ = both-true (leb (getD ps (peerRow p) 0) 2) (both (leb (getD ps (peerRow p + 1) 0) 3) (both (ltb (getD ps (peerRow p + 2) 0) givenEnd) (both (ltb (getD ends (p * endFields) 0) ringSize) (leb (getD ends (p * endFields + 1) 0) ringSize)))) h in
+      let h₁ = both-true (leb (getD ps (peerRow p + 1) 0) 3) (both (ltb (getD ps (peerRow p + 2) 0) givenEnd) (both (ltb (getD ends (p * endFields) 0) ringSize) (leb (getD ends (p * endFields + 1) 0) ringSize))) (h₀ .1) in
+      let h₂ = both-true (ltb (getD ps (peerRow p + 2) 0) givenEnd) (both (ltb (getD ends (p * endFields) 0) ringSize) (leb (getD ends (p * endFields + 1) 0) ringSize)) (h₁ .1) in
+      let h₃ = both-true (ltb (getD ends (p * endFields) 0) ringSize) (leb (getD ends (p * endFields + 1) 0) ringSize) (h₂ .1) in
+      leb-true (getD ends (p * endFields + 1) 0) ringSize (h₃ .1)
 
   pub ranges-short : rangesOk ps ends ≡ true → Short ends
   unfolding rangesOk
-  ranges-short h = let t = both-true (peersOk ps ends 8) (ltb (getD ps 0 0) 1099511627776) h in λ p l. peer-short p (each-peer 8 (t .0) p l)
+  ranges-short h = let t = both-true (peersOk ps ends peers) (ltb (getD ps 0 0) acceptedEnd) h in λ p l. peer-short p (each-peer 8 (t .0) p l)
 
 -- Both tests.
 module _ (b : Bus) {r : Bool} (e : r ≡ sizedOk b) where

@@ -8,6 +8,8 @@ use lib.ListN.{length, getD, replicate}
 use lib.Dec.{eqb, ltb, leb}
 use Rattle.laws.specs.Tests.{pick}
 use Rattle.ids.specs.Refusals.{EINVAL, EIO}
+use Rattle.ids.specs.Sizes.{peers, mostIds, acceptedEnd, givenEnd, peersSize, nodesSize}
+use Rattle.model.specs.Numbers.{nodes}
 use Rattle.frames.specs.declared.Parsed.{Parsed}
 use Rattle.frames.specs.declared.Parsed.the-variants.{Read, Refused}
 use Rattle.frames.specs.Frame.{parse, payloadOf}
@@ -16,11 +18,11 @@ use Rattle.answers.specs.declared.Answer.{Answer}
 use Rattle.answers.specs.declared.Answer.the-variants.{Refused as isRefused, Done as isDone, Transferred as isTransferred, Quota as isQuota, Holders as isHolders}
 use Rattle.answers.specs.declared.Outcome.{Outcome}
 use Rattle.answers.specs.Answer.{answerSize, answerAfter, outcomeOf}
-use Rattle.rings.specs.Rings.{ringSize, rowCount, endCount, headOf, lengthOf}
+use Rattle.rings.specs.Rings.{ringSize, endsSize, entriesSize, carriedSize, numbersSize, headOf, lengthOf}
 use Rattle.pool.specs.Pool.{poolSize}
 use Rattle.tables.specs.Peers.{stateAt, userAt, peerRow}
-use Rattle.tables.specs.Handles.{holdersAt}
-use Rattle.tables.specs.Charges.{chargesAt}
+use Rattle.tables.specs.Handles.{handlesSize, holdersAt}
+use Rattle.tables.specs.Charges.{chargesSize, chargesAt}
 use Rattle.model.specs.Lists.{both}
 use Rattle.view.specs.View.{Bus, busOf, stateOf}
 use Rattle.judges.specs.declared.Order.{Order}
@@ -31,25 +33,40 @@ use Rattle.judges.specs.Orders.{sight, rulingOf}
 use Rattle.effects.specs.Effects.{transfers, received}
 use Rattle.effects.specs.After.{queuesIn, afterOpen, afterCreate, afterDestroy, afterRelease, afterTransfer, afterSend, afterReceive, afterDisconnect}
 
--- Every buffer has its exact length.
+-- Every buffer has its exact length: the test of one, and of those behind it.
+abbrev pub sizedPool : Bus → Bool
+sizedPool b = eqb (length (b .pool)) poolSize
+
+abbrev pub sizedNumbers : Bus → Bool
+sizedNumbers b = both (eqb (length (b .rings .rows .numbers)) numbersSize) (sizedPool b)
+
+abbrev pub sizedCarried : Bus → Bool
+sizedCarried b = both (eqb (length (b .rings .rows .carried)) carriedSize) (sizedNumbers b)
+
+abbrev pub sizedEntries : Bus → Bool
+sizedEntries b = both (eqb (length (b .rings .rows .entries)) entriesSize) (sizedCarried b)
+
+abbrev pub sizedEnds : Bus → Bool
+sizedEnds b = both (eqb (length (b .rings .ends)) endsSize) (sizedEntries b)
+
+abbrev pub sizedCharges : Bus → Bool
+sizedCharges b = both (eqb (length (b .charges)) chargesSize) (sizedEnds b)
+
+abbrev pub sizedHandles : Bus → Bool
+sizedHandles b = both (eqb (length (b .handles)) handlesSize) (sizedCharges b)
+
+abbrev pub sizedNodes : Bus → Bool
+sizedNodes b = both (eqb (length (b .nodes)) nodesSize) (sizedHandles b)
+
 unfoldable pub sizedOk : Bus → Bool
-sizedOk b =
-    both (eqb (length (b .peers)) 25)
-    (both (eqb (length (b .nodes)) 256)
-    (both (eqb (length (b .handles)) 4112)
-    (both (eqb (length (b .charges)) 96)
-    (both (eqb (length (b .rings .ends)) 16)
-    (both (eqb (length (b .rings .rows .entries)) 20480)
-    (both (eqb (length (b .rings .rows .carried)) 32768)
-    (both (eqb (length (b .rings .rows .numbers)) 4096)
-    (eqb (length (b .pool)) 32768))))))))
+sizedOk b = both (eqb (length (b .peers)) peersSize) (sizedNodes b)
 
 -- The numbers of a peer that steer everything are in their ranges: state, user, given IDs, the head and the length of its queue.
 unfoldable pub peerOk : List ℕ → List ℕ → ℕ → Bool
 peerOk ps ends p =
     both (leb (stateAt ps p) 2)
     (both (leb (userAt ps p) 3)
-    (both (ltb (getD ps (peerRow p + 2) 0) 17592186044416)
+    (both (ltb (getD ps (peerRow p + 2) 0) givenEnd)
     (both (ltb (headOf ends p) ringSize)
     (leb (lengthOf ends p) ringSize))))
 
@@ -59,7 +76,7 @@ peersOk ps ends zero = true
 peersOk ps ends (suc p) = both (peersOk ps ends p) (peerOk ps ends p)
 
 unfoldable pub rangesOk : List ℕ → List ℕ → Bool
-rangesOk ps ends = both (peersOk ps ends 8) (ltb (getD ps 0 0) 1099511627776)
+rangesOk ps ends = both (peersOk ps ends peers) (ltb (getD ps 0 0) acceptedEnd)
 
 -- No test for EIO fails.
 unfoldable pub soundOk : Bus → Bool
@@ -114,7 +131,8 @@ commandOf b f out =
 
 -- "Making a fresh bus (no peer opened) refuses only a wrong length, returning 5 and writing nothing."
 unfoldable pub freshBus : Bus
-freshBus = busOf (replicate 25 0) (replicate 256 0) (replicate 4112 0) (replicate 96 0) (replicate 16 0) (replicate 20480 0) (replicate 32768 0) (replicate 4096 0) (replicate 32768 0)
+freshBus =
+    busOf (replicate peersSize 0) (replicate nodesSize 0) (replicate handlesSize 0) (replicate chargesSize 0) (replicate endsSize 0) (replicate entriesSize 0) (replicate carriedSize 0) (replicate numbersSize 0) (replicate poolSize 0)
 
 unfoldable pub freshOf : Bus → Bus
 freshOf b = pick (sizedOk b) freshBus b
@@ -125,16 +143,16 @@ freshNumber b = pick (sizedOk b) 0 EIO
 -- The numbers of an order are in their bounds.
 abbrev pub Fair : Order → Type 0
 Fair (order.Refuse n) = Unit {0}
-Fair (order.Open p u) = p .0 < 8
-Fair (order.Disconnect p) = p .0 < 8
-Fair (order.Create p i s) = (p .0 < 8) × (s < 128)
-Fair (order.Destroy p s) = p .0 < 8
-Fair (order.Release p s) = (p .0 < 8) × (s < 128)
-Fair (order.Transfer q s) = (q .0 < 8) × (s < 128)
-Fair (order.Send p z) = (p .0 < 8) × (z .nd ≤ 8)
-Fair (order.Receive p) = p .0 < 8
-Fair (order.Quota p u) = p .0 < 8
-Fair (order.Holders s) = s < 128
+Fair (order.Open p u) = p .0 < peers
+Fair (order.Disconnect p) = p .0 < peers
+Fair (order.Create p i s) = (p .0 < peers) × (s < nodes)
+Fair (order.Destroy p s) = p .0 < peers
+Fair (order.Release p s) = (p .0 < peers) × (s < nodes)
+Fair (order.Transfer q s) = (q .0 < peers) × (s < nodes)
+Fair (order.Send p z) = (p .0 < peers) × (z .nd ≤ mostIds)
+Fair (order.Receive p) = p .0 < peers
+Fair (order.Quota p u) = p .0 < peers
+Fair (order.Holders s) = s < nodes
 
 -- The answer to a refusal or a question; to any other order that shows neither an ID nor a message it is 00 alone.
 unfoldable pub replyTo : List ℕ → List ℕ → Order → Answer

@@ -25,6 +25,7 @@ use Rattle.view.specs.View.{Bus, Shape}
 use Rattle.bus.specs.Command.{sizedOk, freshBus, freshOf, freshNumber}
 use Rattle.bus.specs.Code.{all-but-pool, sized-shape}
 use Rattle.bus.specs.Ran.{Exchange, answerIn, callsOf, Ran, AsModel, ran-modelled}
+use Rattle.ids.specs.Sizes.{poolSize}
 
 -- The answers of a run are the model's.
 as-answers : (st : State) (xs : List Exchange) → AsModel st xs → map answerIn xs ≡ answersFrom st (callsOf xs)
@@ -50,8 +51,8 @@ finish-large b out v h =
 abbrev framesOf : List Call → List (List ℕ)
 framesOf cs = map (λ c. c .frame) cs
 
-zeros-large : (f : List ℕ) → Large (record { frame = f; buffer = replicate 591 0 })
-zeros-large f = let e : length (replicate {A = ℕ} 591 0) ≡ 591 = length-replicate {A = ℕ} 591 0 in omega (arith, e)
+zeros-large : (f : List ℕ) → Large (record { frame = f; buffer = replicate answerSize 0 })
+zeros-large f = let e : length (replicate {A = ℕ} answerSize 0) ≡ answerSize = length-replicate {A = ℕ} answerSize 0 in omega (arith, e)
 
 step-large : (b : State) (c : Call) → Large c → (d : Call) → Large d → c .frame ≡ d .frame → (answerOf (step b c) ≡ answerOf (step b d)) × (step b c .state ≡ step b d .state)
 unfolding step
@@ -65,7 +66,7 @@ answers-large : (cs : List Call) (b : State) → All Large cs → answersFrom b 
 unfolding answersFrom
 answers-large [] b a = refl
 answers-large (c ∷ cs) b a =
-    let x = step-large b c (a .0) (record { frame = c .frame; buffer = replicate 591 0 }) (zeros-large (c .frame)) refl in
+    let x = step-large b c (a .0) (record { frame = c .frame; buffer = replicate answerSize 0 }) (zeros-large (c .frame)) refl in
     ap₂ (λ (y : List ℕ) (ys : List (List ℕ)). y ∷ ys) (x .0) (answers-large cs (step b c .state) (a .1) ∙ ap (λ (z : State). answersFrom z (calls (framesOf cs))) (x .1))
 
 -- What a row says of the commands.
@@ -145,7 +146,7 @@ pub record Made (b : Bus) (n : ℕ) (after : Bus) : Type 0 where
 shape-sized : (b : Bus) → Shape b → sizedOk b ≡ true
 shape-sized b s =
     sym (all-but-pool b (s .peers) (s .nodes) (s .handles) (s .charges) (s .ends) (s .rows .entries) (s .rows .carried) (s .rows .numbers))
-    ∙ eq-eqb (length (b .pool)) 32768 (s .pool)
+    ∙ eq-eqb (length (b .pool)) poolSize (s .pool)
 
 pub fresh-made-as : (b : Bus) → Made b (freshNumber b) (freshOf b)
 unfolding freshNumber freshOf

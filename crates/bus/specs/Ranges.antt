@@ -12,6 +12,8 @@ use lib.Dec.{eqb, ltb, leb}
 use borrow.Author.Tests.{lt-ltb, le-ltb, ltb-true, leb-true}
 use Rattle.laws.specs.Tests.{pick-all, clash, Seen, Seen.is-true, Seen.is-false, look}
 use Rattle.ids.specs.Refusals.{EIO}
+use Rattle.ids.specs.Sizes.{peers, ringSize, endFields, acceptedEnd, givenEnd}
+use Rattle.tables.specs.Peers.{peerRow}
 use Rattle.frames.specs.declared.Command.{Command}
 use Rattle.frames.specs.declared.Command.the-variants.{Open, Disconnect, Create, Destroy, Release, Transfer, Send, Receive, Quota, Holders}
 use Rattle.frames.specs.declared.Parsed.{Parsed}
@@ -103,31 +105,31 @@ unfolding peerOk
 peer-in b p h =
     let ps = b .peers in
     let ends = b .rings .ends in
-    let len = leb (getD ends (p * 2 + 1) 0) 512 in
-    let head = both (ltb (getD ends (p * 2) 0) 512) len in
-    let given = both (ltb (getD ps (1 + 3 * p + 2) 0) 17592186044416) head in
-    let user = both (leb (getD ps (1 + 3 * p + 1) 0) 3) given in
-    let h0 = both-true (leb (getD ps (1 + 3 * p) 0) 2) user h in
-    let h1 = both-true (leb (getD ps (1 + 3 * p + 1) 0) 3) given (h0 .1) in
-    let h2 = both-true (ltb (getD ps (1 + 3 * p + 2) 0) 17592186044416) head (h1 .1) in
-    let h3 = both-true (ltb (getD ends (p * 2) 0) 512) len (h2 .1) in
+    let len = leb (getD ends (p * endFields + 1) 0) ringSize in
+    let head = both (ltb (getD ends (p * endFields) 0) ringSize) len in
+    let given = both (ltb (getD ps (peerRow p + 2) 0) givenEnd) head in
+    let user = both (leb (getD ps (peerRow p + 1) 0) 3) given in
+    let h0 = both-true (leb (getD ps (peerRow p) 0) 2) user h in
+    let h1 = both-true (leb (getD ps (peerRow p + 1) 0) 3) given (h0 .1) in
+    let h2 = both-true (ltb (getD ps (peerRow p + 2) 0) givenEnd) head (h1 .1) in
+    let h3 = both-true (ltb (getD ends (p * endFields) 0) ringSize) len (h2 .1) in
     record {
-      state = leb-true (getD ps (1 + 3 * p) 0) 2 (h0 .0);
-      user = leb-true (getD ps (1 + 3 * p + 1) 0) 3 (h1 .0);
-      given = ltb-true (getD ps (1 + 3 * p + 2) 0) 17592186044416 (h2 .0);
-      head = ltb-true (getD ends (p * 2) 0) 512 (h3 .0);
-      short = leb-true (getD ends (p * 2 + 1) 0) 512 (h3 .1);
+      state = leb-true (getD ps (peerRow p) 0) 2 (h0 .0);
+      user = leb-true (getD ps (peerRow p + 1) 0) 3 (h1 .0);
+      given = ltb-true (getD ps (peerRow p + 2) 0) givenEnd (h2 .0);
+      head = ltb-true (getD ends (p * endFields) 0) ringSize (h3 .0);
+      short = leb-true (getD ends (p * endFields + 1) 0) ringSize (h3 .1);
     }
 
 pub in-range : (b : Bus) → soundOk b ≡ true → InRange b
 unfolding soundOk rangesOk
 in-range b h =
-    let s = both-true (sizedOk b) (both (peersOk (b .peers) (b .rings .ends) 8) (ltb (getD (b .peers) 0 0) 1099511627776)) h in
-    let r = both-true (peersOk (b .peers) (b .rings .ends) 8) (ltb (getD (b .peers) 0 0) 1099511627776) (s .1) in
-    let one : (p : ℕ) → p ≤ 7 → PeerInRange b p = λ p l. peer-in b p (each-peer (b .peers) (b .rings .ends) 8 (r .0) p (omega arith)) in
+    let s = both-true (sizedOk b) (both (peersOk (b .peers) (b .rings .ends) peers) (ltb (getD (b .peers) 0 0) acceptedEnd)) h in
+    let r = both-true (peersOk (b .peers) (b .rings .ends) peers) (ltb (getD (b .peers) 0 0) acceptedEnd) (s .1) in
+    let one : (p : ℕ) → p ≤ 7 → PeerInRange b p = λ p l. peer-in b p (each-peer (b .peers) (b .rings .ends) peers (r .0) p (omega arith)) in
     record {
       lengths = sized-lengths b (s .0);
-      accepted = ltb-true (getD (b .peers) 0 0) 1099511627776 (r .1);
+      accepted = ltb-true (getD (b .peers) 0 0) acceptedEnd (r .1);
       state = λ p l. one p l .state;
       user = λ p l. one p l .user;
       given = λ p l. one p l .given;
@@ -138,14 +140,14 @@ in-range b h =
 pub in-range-back : (b : Bus) → InRange b → soundOk b ≡ true
 unfolding soundOk rangesOk
 in-range-back b r =
-    let one : (p : ℕ) → p < 8 → PeerInRange b p =
+    let one : (p : ℕ) → p < peers → PeerInRange b p =
     λ p l.
     let m : p ≤ 7 = omega arith in
     record { state = r .state p m; user = r .user p m; given = r .given p m; head = omega (arith, r .head p m); short = r .len p m } in
     rw (
       lengths-sized b (r .lengths),
-      peers-true b one 8 (omega arith),
-      lt-ltb (getD (b .peers) 0 0) 1099511627776 (r .accepted),
+      peers-true b one peers (omega arith),
+      lt-ltb (getD (b .peers) 0 0) acceptedEnd (r .accepted),
     )
 
 -- On a bus in range no answer is 5: an order that is carried out is answered 0, and no refusal has that number.

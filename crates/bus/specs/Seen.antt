@@ -16,6 +16,7 @@ use Rattle.frames.specs.declared.Command.{Command}
 use Rattle.frames.specs.declared.Command.the-variants.{Open, Disconnect, Create, Destroy, Release, Transfer, Send, Receive, Quota, Holders}
 use Rattle.frames.specs.Legal.{Legal}
 use Rattle.quota.specs.declared.Charges.{Charges}
+use Rattle.laws.specs.Sums.{sumTo}
 use Rattle.quota.specs.Charges.{users, nothing}
 use Rattle.tables.specs.NodesView.{live-is}
 use Rattle.tables.specs.Handles.{findAt, holdersAt}
@@ -57,8 +58,8 @@ none-carried (m ∷ ms) f h =
     let z : length (m .carried) + queuedBy handles (m .user) ms ≡ 0 = rw t at e in
     (no-length (m .carried) (omega arith), none-carried ms (f .1) (λ u l. omega (arith, h u l)))
 
-attached-none : (c : Charges) → attachedOf c ≡ 0 → (u : ℕ) → u < 4 → getD (c .by) u nothing .handles ≡ 0
-unfolding attachedOf
+attached-none : (c : Charges) → attachedOf c ≡ 0 → (u : ℕ) → u < users → getD (c .by) u nothing .handles ≡ 0
+unfolding attachedOf sumTo
 attached-none c e zero l = omega arith
 attached-none c e (suc zero) l = omega arith
 attached-none c e (suc (suc zero)) l = omega arith
@@ -78,10 +79,10 @@ module _ (b : Bus) (shape : Shape b) (g : Good (stateOf b)) (lists : AllListed (
   abbrev part : Sight
   part = sight (b .peers) (b .nodes) (b .handles) (b .charges) (b .rings)
 
-  find-same : (p : ℕ) → p < 8 → findAt (b .handles) p ≡ slot (stateOf b) p
+  find-same : (p : ℕ) → p < peers → findAt (b .handles) p ≡ slot (stateOf b) p
   find-same p l = fun-ext (λ i. find-is (b .handles) p (stateOf b .given p) l (g .ids p) (lists p l) i)
 
-  quiet : (s q : ℕ) → q < 8 → heldByAny (handleV (b .handles)) s ≡ false → eqb (attachedOf (chargesAt (b .charges) q)) 0 ≡ true → any (names s) (messagesIn (queueV (b .rings) (b .pool) q)) ≡ false
+  quiet : (s q : ℕ) → q < peers → heldByAny (handleV (b .handles)) s ≡ false → eqb (attachedOf (chargesAt (b .charges) q)) 0 ≡ true → any (names s) (messagesIn (queueV (b .rings) (b .pool) q)) ≡ false
   unfolding heldByAny
   quiet s q l u e =
       let z : attachedOf (chargesV (b .charges) q) ≡ 0 = rw (charges-is (b .charges) q l) (eqb-true (attachedOf (chargesAt (b .charges) q)) 0 e) in
@@ -89,7 +90,7 @@ module _ (b : Bus) (shape : Shape b) (g : Good (stateOf b)) (lists : AllListed (
       nobody-names (handleV (b .handles)) (stateOf b .life) q s (stateOf b .queue q) (g .noted .stands q) (any-below (λ p. held (handleV (b .handles) p s)) peers q l u)
       (none-carried (messagesIn (stateOf b .queue q)) (w .fine) (λ v m. sym (w .sums handles v m) ∙ attached-none (chargesV (b .charges) q) z v m))
 
-  counts-same : (s : ℕ) → s < 128 → countsAt (b .nodes) (b .handles) (b .charges) (b .rings) s ≡ counts (stateOf b) s
+  counts-same : (s : ℕ) → s < nodes → countsAt (b .nodes) (b .handles) (b .charges) (b .rings) s ≡ counts (stateOf b) s
   unfolding countsAt counts
   counts-same s l = rw (live-is (b .nodes) s l, ← holders-any (b .handles) s l) (go (look (heldByAny (handleV (b .handles)) s)))
     where
@@ -101,13 +102,13 @@ module _ (b : Bus) (shape : Shape b) (g : Good (stateOf b)) (lists : AllListed (
           ap (λ (x : Bool). either (isLive (stateOf b .life s)) (either (heldByAny (handleV (b .handles)) s) x))
           (named-view (b .charges) (b .rings) (b .pool) s (λ q l n. quiet s q l e n))
 
-  free-same : (p : ℕ) → p < 8 → freeAt (b .nodes) (b .handles) (b .charges) (b .rings) p ≡ freePlace (stateOf b) p
+  free-same : (p : ℕ) → p < peers → freeAt (b .nodes) (b .handles) (b .charges) (b .rings) p ≡ freePlace (stateOf b) p
   unfolding freeAt freePlace
   free-same p l =
       first-ext (λ k. not (countsAt (b .nodes) (b .handles) (b .charges) (b .rings) (p * slots + k))) (λ k. not (counts (stateOf b) (p * slots + k))) slots
       (λ k m. ap not (counts-same (p * slots + k) (omega arith)))
 
-  takeable-same : (p room : ℕ) → p < 8 → takeable room (queueV (b .rings) [] p) ≡ takeable room (queueV (b .rings) (b .pool) p)
+  takeable-same : (p room : ℕ) → p < peers → takeable room (queueV (b .rings) [] p) ≡ takeable room (queueV (b .rings) (b .pool) p)
   takeable-same p room l = takeable-view (b .rings) [] p room (shape .ends) l ∙ sym (takeable-view (b .rings) (b .pool) p room (shape .ends) l)
 
   refusal-same : (f : List ℕ) (c : Command) → Legal f c → refusalBy (part .find) (part .free) (part .state) f c ≡ refusal (stateOf b) f c

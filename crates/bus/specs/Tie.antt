@@ -36,6 +36,9 @@ use Rattle.effects.specs.Ranges.{Raw, InRange, ranges-ok, ranges-accepted, raw-
 use Rattle.bus.specs.Command.{sizedOk, peerOk, peersOk, rangesOk, soundOk, Done, refusedBy, carriedOut, obeyed, commandOf, freshBus}
 use Rattle.bus.specs.Seen.{ruled, ruling-same}
 use Rattle.bus.specs.Carried.{Seen-as, carried-seen}
+use Rattle.ids.specs.Sizes.{peers, endFields}
+use Rattle.ids.specs.Sizes.{peersSize, nodesSize, handlesSize, endsSize, entriesSize, carriedSize, numbersSize, poolSize}
+use Rattle.tables.specs.Charges.{chargesSize}
 
 -- A bus that stands for a state.
 pub record Tied (b : Bus) (st : State) : Type 0 where
@@ -55,29 +58,29 @@ pub sized-true : (b : Bus) → Shape b → sizedOk b ≡ true
 unfolding sizedOk
 sized-true b s =
     rw (
-      eq-eqb (length (b .peers)) 25 (s .peers),
-      eq-eqb (length (b .nodes)) 256 (s .nodes),
-      eq-eqb (length (b .handles)) 4112 (s .handles),
-      eq-eqb (length (b .charges)) 96 (s .charges),
-      eq-eqb (length (b .rings .ends)) 16 (s .ends),
-      eq-eqb (length (b .rings .rows .entries)) 20480 (s .rows .entries),
-      eq-eqb (length (b .rings .rows .carried)) 32768 (s .rows .carried),
-      eq-eqb (length (b .rings .rows .numbers)) 4096 (s .rows .numbers),
-      eq-eqb (length (b .pool)) 32768 (s .pool),
+      eq-eqb (length (b .peers)) peersSize (s .peers),
+      eq-eqb (length (b .nodes)) nodesSize (s .nodes),
+      eq-eqb (length (b .handles)) handlesSize (s .handles),
+      eq-eqb (length (b .charges)) chargesSize (s .charges),
+      eq-eqb (length (b .rings .ends)) endsSize (s .ends),
+      eq-eqb (length (b .rings .rows .entries)) entriesSize (s .rows .entries),
+      eq-eqb (length (b .rings .rows .carried)) carriedSize (s .rows .carried),
+      eq-eqb (length (b .rings .rows .numbers)) numbersSize (s .rows .numbers),
+      eq-eqb (length (b .pool)) poolSize (s .pool),
     )
 
 peer-true : (b : Bus) (p : ℕ) → InRange b p → peerOk (b .peers) (b .rings .ends) p ≡ true
 unfolding peerOk
 peer-true b p r = rw (le-leb _ _ (r .state), le-leb _ _ (r .user), lt-ltb _ _ (r .given), lt-ltb _ _ (r .head), le-leb _ _ (r .short))
 
-pub peers-true : (b : Bus) → ((p : ℕ) → p < 8 → InRange b p) → (n : ℕ) → n ≤ 8 → peersOk (b .peers) (b .rings .ends) n ≡ true
+pub peers-true : (b : Bus) → ((p : ℕ) → p < peers → InRange b p) → (n : ℕ) → n ≤ peers → peersOk (b .peers) (b .rings .ends) n ≡ true
 unfolding peersOk
 peers-true b r zero l = refl
 peers-true b r (suc n) l = rw (peers-true b r n (omega arith), peer-true b n (r n (omega arith)))
 
 pub sound-true : (b : Bus) → Shape b → Raw b → Good (stateOf b) → soundOk b ≡ true
 unfolding soundOk rangesOk
-sound-true b s r g = rw (sized-true b s, peers-true b (ranges-ok b r g) 8 (omega arith), lt-ltb _ _ (ranges-accepted b r g))
+sound-true b s r g = rw (sized-true b s, peers-true b (ranges-ok b r g) peers (omega arith), lt-ltb _ _ (ranges-accepted b r g))
 
 module _ (b : Bus) (shape : Shape b) (raw : Raw b) (g : Good (stateOf b)) (lists : AllListed (b .handles)) where
   -- A refusal.
@@ -117,8 +120,8 @@ module _ (b : Bus) (shape : Shape b) (raw : Raw b) (g : Good (stateOf b)) (lists
 queue-fresh : (n m : ℕ) (e c s t : List ℕ) → queueV (ringsOf (replicate n 0) e c s) t ≡ (λ p. [])
 unfolding queueV rowsV paired
 queue-fresh n m e c s t =
-    upto-ext 8 [] (λ p. map entryV (rowsV (ringsOf (replicate n 0) e c s) t p)) (λ p. []) (λ p l. rw (queue-empty (ringsOf (replicate n 0) e c s) p (zeros-at n (p * 2 + 1))))
-    ∙ upto-const 8 []
+    upto-ext peers [] (λ p. map entryV (rowsV (ringsOf (replicate n 0) e c s) t p)) (λ p. []) (λ p l. rw (queue-empty (ringsOf (replicate n 0) e c s) p (zeros-at n (p * endFields + 1))))
+    ∙ upto-const peers []
 
 pub fresh-tied : Tied freshBus start
 unfolding freshBus start
@@ -126,25 +129,25 @@ fresh-tied =
     record {
       shape =
           record {
-            peers = length-replicate {A = ℕ} 25 0;
-            nodes = length-replicate {A = ℕ} 256 0;
-            handles = length-replicate {A = ℕ} 4112 0;
-            charges = length-replicate {A = ℕ} 96 0;
-            ends = length-replicate {A = ℕ} 16 0;
-            rows = record { entries = length-replicate {A = ℕ} 20480 0; carried = length-replicate {A = ℕ} 32768 0; numbers = length-replicate {A = ℕ} 4096 0 };
-            pool = length-replicate {A = ℕ} 32768 0;
+            peers = length-replicate {A = ℕ} peersSize 0;
+            nodes = length-replicate {A = ℕ} nodesSize 0;
+            handles = length-replicate {A = ℕ} handlesSize 0;
+            charges = length-replicate {A = ℕ} chargesSize 0;
+            ends = length-replicate {A = ℕ} endsSize 0;
+            rows = record { entries = length-replicate {A = ℕ} entriesSize 0; carried = length-replicate {A = ℕ} carriedSize 0; numbers = length-replicate {A = ℕ} numbersSize 0 };
+            pool = length-replicate {A = ℕ} poolSize 0;
           };
-      raw = raw-fresh freshBus 25 16 refl refl;
-      listed = listed-fresh 4112;
+      raw = raw-fresh freshBus peersSize endsSize refl refl;
+      listed = listed-fresh handlesSize;
       view =
           rw (
-            status-fresh 25,
-            user-fresh 25,
-            given-fresh 25,
-            handle-fresh 4112,
-            queue-fresh 16 0 (replicate 20480 0) (replicate 32768 0) (replicate 4096 0) (replicate 32768 0),
-            charges-fresh 96,
-            life-fresh 256,
-            accepted-fresh 25,
+            status-fresh peersSize,
+            user-fresh peersSize,
+            given-fresh peersSize,
+            handle-fresh handlesSize,
+            queue-fresh endsSize 0 (replicate entriesSize 0) (replicate carriedSize 0) (replicate numbersSize 0) (replicate poolSize 0),
+            charges-fresh chargesSize,
+            life-fresh nodesSize,
+            accepted-fresh peersSize,
           );
     }

@@ -8,17 +8,37 @@ ghost use Rattle.view.specs.View.{busOf, Shape};
 ghost use Rattle.queues.specs.Queues.{Short};
 ghost use Rattle.judges.specs.Orders.{sight, rulingOf};
 ghost use Rattle.rings.specs.Rings.{ringsOf};
+ghost use Rattle.ids.specs.Sizes.{peers as peerCount, peersSize, endsSize};
 ghost use Rattle.tables.specs.Handles.{handlesSize};
+ghost use Rattle.tables.specs.Charges.{chargesSize};
 ghost use Rattle.bus.specs.Command.{sizedOk, peerOk, rangesOk, soundOk, doneOf, replyTo, altered, changedOf, changed, carriedOut, commandOf, freshOf, freshNumber, Fair};
 use answers::Answer;
 use answers::Outcome;
 use frames::Command;
 use frames::Parsed;
+use ids::ACCEPTED_END;
 use ids::ANSWER_SIZE;
+use ids::CARRIED_SIZE;
+use ids::CHARGES_SIZE;
 use ids::EINVAL;
 use ids::EIO;
+use ids::END_FIELDS;
+use ids::ENDS_SIZE;
+use ids::ENTRIES_SIZE;
+use ids::GIVEN_END;
+use ids::HANDLES_SIZE;
+use ids::NODES_SIZE;
+use ids::NUMBERS_SIZE;
+use ids::PEER_FIELDS;
+use ids::PEERS;
+use ids::PEERS_SIZE;
+use ids::POOL_SIZE;
+use ids::RING;
 use judges::Order;
 use judges::Ruling;
+
+// The rows of a ring as a number of the table of heads and lengths.
+const RING_ROWS: u16 = RING as u16;
 
 // Have the bus buffers their lengths?
 fn sized(
@@ -34,67 +54,67 @@ fn sized(
 ) -> bool
     ensures { λ r. ⌜ r ≡ sizedOk (busOf (now (peers .entry)) (now (nodes .entry)) (now (handles .entry)) (now (charges .entry)) (now (ends .entry)) (now (entries .entry)) (now (carried .entry)) (now (numbers .entry)) (now (pool .entry))) ⌝ }
 {
-    if peers.len() != 25 {
+    if peers.len() != PEERS_SIZE {
         return false;
     }
-    if nodes.len() != 256 {
+    if nodes.len() != NODES_SIZE {
         return false;
     }
-    if handles.len() != 4112 {
+    if handles.len() != HANDLES_SIZE {
         return false;
     }
-    if charges.len() != 96 {
+    if charges.len() != CHARGES_SIZE {
         return false;
     }
-    if ends.len() != 16 {
+    if ends.len() != ENDS_SIZE {
         return false;
     }
-    if entries.len() != 20480 {
+    if entries.len() != ENTRIES_SIZE {
         return false;
     }
-    if carried.len() != 32768 {
+    if carried.len() != CARRIED_SIZE {
         return false;
     }
-    if numbers.len() != 4096 {
+    if numbers.len() != NUMBERS_SIZE {
         return false;
     }
-    pool.len() == 32768
+    pool.len() == POOL_SIZE
 }
 
 // Are the numbers of a peer in their ranges?
 fn peer_in_range(peers: &[u64], ends: &[u16], p: usize) -> bool
-    requires { ⌜ (length (now peers) ≡ 25) × (length (now ends) ≡ 16) × (p < 8) ⌝ }
+    requires { ⌜ (length (now peers) ≡ peersSize) × (length (now ends) ≡ endsSize) × (p < peerCount) ⌝ }
     ensures { λ r. ⌜ r ≡ peerOk (now (peers .entry)) (now (ends .entry)) p ⌝ }
 {
-    let at = 1 + 3 * p;
+    let at = 1 + PEER_FIELDS * p;
     if 2 < peers[at] {
         return false;
     }
     if 3 < peers[at + 1] {
         return false;
     }
-    if 17592186044416 <= peers[at + 2] {
+    if GIVEN_END <= peers[at + 2] {
         return false;
     }
-    if 512 <= ends[p * 2] {
+    if RING_ROWS <= ends[p * END_FIELDS] {
         return false;
     }
-    ends[p * 2 + 1] <= 512
+    ends[p * END_FIELDS + 1] <= RING_ROWS
 }
 
 // Are the numbers that steer everything in their ranges?
 fn in_range(peers: &[u64], ends: &[u16]) -> bool
-    requires { ⌜ (length (now peers) ≡ 25) × (length (now ends) ≡ 16) ⌝ }
+    requires { ⌜ (length (now peers) ≡ peersSize) × (length (now ends) ≡ endsSize) ⌝ }
     ensures { λ r. ⌜ r ≡ rangesOk (now (peers .entry)) (now (ends .entry)) ⌝ }
 {
     let mut p = 0;
-    while p < 8 {
+    while p < PEERS {
         if !peer_in_range(peers, ends, p) {
             return false;
         }
         p += 1;
     }
-    peers[0] < 1099511627776
+    peers[0] < ACCEPTED_END
 }
 
 // Have the buffers their lengths and their numbers their ranges?
@@ -132,7 +152,7 @@ pub fn is_sound(
 
 // The answer to a refusal or a question; to any other order that shows neither an ID nor a message it is 00 alone.
 fn reply(hs: &[u64], cs: &[u16], order: Order) -> Answer
-    requires { ⌜ (length (now hs) ≡ handlesSize) × (length (now cs) ≡ 96) × Fair order ⌝ }
+    requires { ⌜ (length (now hs) ≡ handlesSize) × (length (now cs) ≡ chargesSize) × Fair order ⌝ }
     ensures { λ a. ⌜ a ≡ replyTo (now (hs .entry)) (now (cs .entry)) order ⌝ }
 {
     match order {

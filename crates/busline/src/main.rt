@@ -6,10 +6,19 @@ ghost use mathlib.Core.Bool.{true, false};
 ghost use Prim.Native.Nat.{_+_, _<_, _≤_};
 ghost use mathlib.Core.List.{_++_};
 ghost use lib.ListN.{length, take, drop};
-ghost use Rattle.lines.specs.Line.{carriedOf};
+ghost use Rattle.lines.specs.Line.{mostCarried, carriedOf};
 ghost use Rattle.view.specs.View.{busOf};
-ghost use Rattle.session.specs.Session.{Chunk, Underway};
+ghost use Rattle.session.specs.Session.{longest, Chunk, Underway};
 ghost use Rattle.bus.specs.Command.{freshBus};
+use ids::CARRIED_SIZE;
+use ids::CHARGES_SIZE;
+use ids::ENDS_SIZE;
+use ids::ENTRIES_SIZE;
+use ids::HANDLES_SIZE;
+use ids::NODES_SIZE;
+use ids::NUMBERS_SIZE;
+use ids::PEERS_SIZE;
+use ids::POOL_SIZE;
 use libc::EAGAIN;
 use libc::EINTR;
 use libc::STDERR_FILENO;
@@ -155,7 +164,7 @@ fn answer_chunk(
     s: &[u8],
     text: &mut [u8],
 ) -> Sent
-    requires { ⌜ 1183 ≤ length (now text) ⌝ }
+    requires { ⌜ longest ≤ length (now text) ⌝ }
     ensures { λ r. ⌜ Chunk (busOf (now (peers .entry)) (now (nodes .entry)) (now (handles .entry)) (now (charges .entry)) (now (ends .entry)) (now (entries .entry)) (now (carried .entry)) (now (numbers .entry)) (now (pool .entry))) (now (s .entry)) (busOf (now (peers .exit)) (now (nodes .exit)) (now (handles .exit)) (now (charges .exit)) (now (ends .exit)) (now (entries .exit)) (now (carried .exit)) (now (numbers .exit)) (now (pool .exit))) (r .from) (r .whole) ⌝ }
 {
     let mut p = beginning();
@@ -233,7 +242,7 @@ fn ended() -> Turn
 
 // The piece of a chunk carried over, or where an answer is not written the end.
 fn carry(buf: &mut [u8], sent: Sent, end: usize) -> Turn
-    ensures { λ r. ⌜ (r .held ≤ 1293) × (r .more ≡ true → (sent .whole ≡ true) × (r .held ≡ length (carriedOf (now (buf .entry)) (sent .from) end)) × (now (buf .exit) ≡ carriedOf (now (buf .entry)) (sent .from) end ++ drop (length (carriedOf (now (buf .entry)) (sent .from) end)) (now (buf .entry)))) ⌝ }
+    ensures { λ r. ⌜ (r .held ≤ mostCarried) × (r .more ≡ true → (sent .whole ≡ true) × (r .held ≡ length (carriedOf (now (buf .entry)) (sent .from) end)) × (now (buf .exit) ≡ carriedOf (now (buf .entry)) (sent .from) end ++ drop (length (carriedOf (now (buf .entry)) (sent .from) end)) (now (buf .entry)))) ⌝ }
 {
     if !sent.whole {
         say_not_written();
@@ -262,8 +271,8 @@ fn take_turn(
     held: usize,
     text: &mut [u8],
 ) -> Turn
-    requires { ⌜ (held ≤ 1293) × (length (now buf) ≡ 65536) × (1183 ≤ length (now text)) × Underway (busOf (now peers) (now nodes) (now handles) (now charges) (now ends) (now entries) (now carried) (now numbers) (now pool)) (take held (now buf)) ⌝ }
-    ensures { λ r. ⌜ (r .held ≤ 1293) × (r .more ≡ true → Underway (busOf (now (peers .exit)) (now (nodes .exit)) (now (handles .exit)) (now (charges .exit)) (now (ends .exit)) (now (entries .exit)) (now (carried .exit)) (now (numbers .exit)) (now (pool .exit))) (take (r .held) (now (buf .exit)))) ⌝ }
+    requires { ⌜ (held ≤ mostCarried) × (length (now buf) ≡ 65536) × (longest ≤ length (now text)) × Underway (busOf (now peers) (now nodes) (now handles) (now charges) (now ends) (now entries) (now carried) (now numbers) (now pool)) (take held (now buf)) ⌝ }
+    ensures { λ r. ⌜ (r .held ≤ mostCarried) × (r .more ≡ true → Underway (busOf (now (peers .exit)) (now (nodes .exit)) (now (handles .exit)) (now (charges .exit)) (now (ends .exit)) (now (entries .exit)) (now (carried .exit)) (now (numbers .exit)) (now (pool .exit))) (take (r .held) (now (buf .exit)))) ⌝ }
 {
     let got = next_chunk(buf, held);
     if got == 0 {
@@ -300,7 +309,7 @@ fn run(
     buf: &mut [u8],
     text: &mut [u8],
 )
-    requires { ⌜ (length (now buf) ≡ 65536) × (1183 ≤ length (now text)) × (busOf (now peers) (now nodes) (now handles) (now charges) (now ends) (now entries) (now carried) (now numbers) (now pool) ≡ freshBus) ⌝ }
+    requires { ⌜ (length (now buf) ≡ 65536) × (longest ≤ length (now text)) × (busOf (now peers) (now nodes) (now handles) (now charges) (now ends) (now entries) (now carried) (now numbers) (now pool) ≡ freshBus) ⌝ }
 {
     let mut held = 0;
     let mut turns = u64::MAX;
@@ -328,15 +337,15 @@ fn run(
 }
 
 fn main() {
-    let mut peers = [0u64; 25];
-    let mut nodes = [0u64; 256];
-    let mut handles = [0u64; 4112];
-    let mut charges = [0u16; 96];
-    let mut ends = [0u16; 16];
-    let mut entries = [0u16; 20480];
-    let mut carried = [0u8; 32768];
-    let mut numbers = [0u64; 4096];
-    let mut pool = [0u8; 32768];
+    let mut peers = [0u64; PEERS_SIZE];
+    let mut nodes = [0u64; NODES_SIZE];
+    let mut handles = [0u64; HANDLES_SIZE];
+    let mut charges = [0u16; CHARGES_SIZE];
+    let mut ends = [0u16; ENDS_SIZE];
+    let mut entries = [0u16; ENTRIES_SIZE];
+    let mut carried = [0u8; CARRIED_SIZE];
+    let mut numbers = [0u64; NUMBERS_SIZE];
+    let mut pool = [0u8; POOL_SIZE];
     let mut buf = io::large_buffer();
     let mut text = io::large_buffer();
     bus::fresh(

@@ -9,7 +9,7 @@ use borrow.Author.Tests.{eq-eqb, ne-eqb}
 use Rattle.ids.specs.declared.HandleId.{HandleId}
 use Rattle.rings.specs.declared.Entry.{Entry}
 use Rattle.rings.specs.declared.Match.{Match}
-use Rattle.rings.specs.Rings.{Rings, rowsOf, Sized, oneSlot}
+use Rattle.rings.specs.Rings.{kindReleased, releasedBit, noticeBits, allBits, Rings, rowsOf, Sized, oneSlot}
 use Rattle.tables.specs.Peers.{acceptedAt, countCommand, setOpen}
 use Rattle.tables.specs.Nodes.{liveAt, setLive}
 use Rattle.tables.specs.Handles.{countAt, totalAt, putHandle, reduced}
@@ -17,6 +17,7 @@ use Rattle.queues.specs.Queues.{Queues, entered, removedFrom, queuesOf}
 use Rattle.notices.specs.Notices.{noticeOf, destroyedOf, destroyedSet}
 use Rattle.grants.specs.Grants.{givenOf, givenTo}
 use Rattle.effects.specs.Effects.{countedOf, counted, openedPeers, createdOf, created, destroysOf, destroys, droppedOf, dropped, forgotten, notified, releasesOf, leftBehind, releases, transfers}
+use Rattle.ids.specs.Sizes.{slots}
 
 -- next_number, open_peer, create, transfer
 module _ (ps : List ℕ) {ps′ : List ℕ} (ep : ps′ ≡ countCommand ps) where
@@ -39,19 +40,19 @@ module _ (ps : List ℕ) {ps′ : List ℕ} (ep : ps′ ≡ countCommand ps) whe
 
 -- destroy
 pub destroy-done : (ps ns hs : List ℕ) (r : Rings) (p s : ℕ) {n : ℕ} {ps′ : List ℕ} → countedOf n ps′ ≡ counted ps →
-    {ns′ : List ℕ} {r′ : Rings} → destroyedOf ns′ r′ ≡ destroyedSet ns hs r p (oneSlot 4 s .mask) n → destroysOf ps′ ns′ r′ ≡ destroys ps ns hs r p s
+    {ns′ : List ℕ} {r′ : Rings} → destroyedOf ns′ r′ ≡ destroyedSet ns hs r p (oneSlot releasedBit s .mask) n → destroysOf ps′ ns′ r′ ≡ destroys ps ns hs r p s
 unfolding destroys
 destroy-done ps ns hs r p s ec ed = rw (← ec, ← ed)
 
 -- forget
 module _ (q : Queues) (p s : ℕ) {k : ℕ} {m : Match} (em : m ≡ oneSlot k s) {q′ : Queues} (eq : q′ ≡ removedFrom q p m) where
-  pub forget-own : s / 16 ≡ p → k ≡ 7 → q′ ≡ forgotten q p s
+  pub forget-own : s / slots ≡ p → k ≡ allBits → q′ ≡ forgotten q p s
   unfolding forgotten
-  forget-own h ek = rw (eq-eqb (s / 16) p h, ← ek, ← em) eq
+  forget-own h ek = rw (eq-eqb (s / slots) p h, ← ek, ← em) eq
 
-  pub forget-other : (s / 16 ≡ p → ⊥) → k ≡ 6 → q′ ≡ forgotten q p s
+  pub forget-other : (s / slots ≡ p → ⊥) → k ≡ noticeBits → q′ ≡ forgotten q p s
   unfolding forgotten
-  forget-other h ek = rw (ne-eqb (s / 16) p h, ← ek, ← em) eq
+  forget-other h ek = rw (ne-eqb (s / slots) p h, ← ek, ← em) eq
 
 -- drop_reference
 pub drop-done : (hs : List ℕ) (p s : ℕ) {l : ℕ} {hs′ : List ℕ} → (l ≡ countAt hs p s - 1) × (hs′ ≡ reduced hs p s) → droppedOf l hs′ ≡ dropped hs p s
@@ -65,7 +66,7 @@ module _ (ns hs : List ℕ) (r : Rings) (s n : ℕ) {l : Bool} (el : l ≡ liveA
   notify-dead h = rw (← el, h)
 
   module _ (live : l ≡ true) {t : ℕ} (et : t ≡ totalAt hs s) where
-    pub notify-one : t ≡ 1 → {e : Entry} → e ≡ noticeOf 2 s n → {r′ : Rings} → r′ ≡ entered r (s / 16) e → r′ ≡ notified ns hs r s n
+    pub notify-one : t ≡ 1 → {e : Entry} → e ≡ noticeOf kindReleased s n → {r′ : Rings} → r′ ≡ entered r (s / slots) e → r′ ≡ notified ns hs r s n
     unfolding notified
     notify-one h ee er = rw (← el, live, ← et, eq-eqb t 1 h, ← ee) er
 

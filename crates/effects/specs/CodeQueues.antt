@@ -16,17 +16,19 @@ use Rattle.answers.specs.declared.Received.the-variants.{Message, Destroyed, Re
 use Rattle.answers.specs.declared.Outcome.{Outcome}
 use Rattle.answers.specs.Answer.{answerAfter, outcomeOf}
 use Rattle.rings.specs.declared.Entry.{Entry}
-use Rattle.rings.specs.Rings.{Rings, popped, firstOf, cleared}
+use Rattle.rings.specs.Rings.{kindDestroyed, Rings, popped, firstOf, cleared}
 use Rattle.pool.specs.Pool.{pieceOf}
 use Rattle.tables.specs.Peers.{userAt, countCommand, setDisconnected}
 use Rattle.tables.specs.Handles.{clearPeer}
 use Rattle.tables.specs.Charges.{chargesAt}
-use Rattle.queues.specs.Queues.{Queues, queuesOf, usedOf, isMessage, enqueued, settledCharges, settledPool, emptiedCharges, followsIn}
+use Rattle.queues.specs.Queues.{Queues, queuesOf, usedOf, isMessage, enqueued, settledCharges, settledPool, emptiedCharges, followsIn, setQueued}
 use Rattle.judges.specs.declared.Places.{Places}
 use Rattle.notices.specs.declared.Asked.the-variants.{Living}
 use Rattle.notices.specs.Notices.{setOf, destroyedOf, destroyedSet, toldOwners}
 use Rattle.grants.specs.Grants.{givesOf, givesTo, idOrInvalid}
 use Rattle.effects.specs.Effects.{countedOf, counted, messageTo, sentTo, sendsOf, sends, disconnectsOf, disconnects, ringsAfter, messageAnswer, shownIds, shownBytes, receivedOf, receivedMessage, noticeTakenOf, noticeTaken, noticeAnswer, received}
+use Rattle.ids.specs.Sizes.{peers, slots, mostIds}
+use Rattle.model.specs.Numbers.{nodes}
 
 -- deliver: what the first k destinations made of the tables, whose lengths stay.
 pub record Delivering (cs es xs ks vs ts : List ℕ) (u nh : ℕ) (w : Places) (bytes : List ℕ) (n nd : ℕ) (cs′ es′ xs′ ks′ vs′ ts′ : List ℕ) (k : ℕ) : Type 0 where
@@ -46,8 +48,8 @@ delivering-start cs es xs ks vs ts u nh w bytes n nd =
     record { within = omega arith; charges = refl; ends = refl; entries = refl; carried = refl; numbers = refl; pool = refl; made = refl }
 
 pub sent-next : (q : Queues) (u nh : ℕ) (w : Places) (bytes : List ℕ) (n k : ℕ) {q₁ : Queues} → q₁ ≡ sentTo q u nh w bytes n k →
-    {e : Entry} → e ≡ messageTo (getD (w .to) k 0 % 128) u (length bytes) nh (w .carried) n →
-    {q₂ : Queues} → q₂ ≡ enqueued q₁ (getD (w .to) k 0 % 128 / 16) e bytes → q₂ ≡ sentTo q u nh w bytes n (k + 1)
+    {e : Entry} → e ≡ messageTo (getD (w .to) k 0 % nodes) u (length bytes) nh (w .carried) n →
+    {q₂ : Queues} → q₂ ≡ enqueued q₁ (getD (w .to) k 0 % nodes / slots) e bytes → q₂ ≡ sentTo q u nh w bytes n (k + 1)
 unfolding sentTo
 sent-next q u nh w bytes n k e₁ ee e₂ =
     let one : k + 1 ≡ suc k = omega arith in
@@ -65,14 +67,14 @@ send-done ps q p z w bytes en eu eq = rw (eq, eu, ← en)
 -- disconnect
 pub disconnect-done : (ps ns hs cs : List ℕ) (r : Rings) (p : ℕ) {n : ℕ} {ps₁ : List ℕ} → countedOf n ps₁ ≡ counted ps → {set : ℕ} → set ≡ setOf ns hs p Living →
     {ns′ : List ℕ} {r₁ : Rings} → destroyedOf ns′ r₁ ≡ destroyedSet ns hs r p set n → {cs′ es′ : List ℕ} → cs′ ≡ emptiedCharges cs p → es′ ≡ cleared (r₁ .ends) p →
-    {r₂ : Rings} → r₂ ≡ toldOwners ns′ hs p n (ringsAfter r₁ es′) 8 → {hs′ : List ℕ} → hs′ ≡ clearPeer hs p → {ps′ : List ℕ} → ps′ ≡ setDisconnected ps₁ p →
+    {r₂ : Rings} → r₂ ≡ toldOwners ns′ hs p n (ringsAfter r₁ es′) peers → {hs′ : List ℕ} → hs′ ≡ clearPeer hs p → {ps′ : List ℕ} → ps′ ≡ setDisconnected ps₁ p →
     disconnectsOf ps′ ns′ hs′ cs′ r₂ ≡ disconnects ps ns hs cs r p
 unfolding disconnects
 disconnect-done ps ns hs cs r p en es ed ec ee et eh ep = rw (ep, eh, et, ec, ee, ← en, ← es, ← ed)
 
 -- write_message
 pub write-done : (cs pool : List ℕ) (p : ℕ) (to : HandleId) (flag : Bool) (e : Entry) (ids out : List ℕ) {c : Charges} → c ≡ chargesAt cs p → {all : ℕ} → all ≡ usedOf c →
-    {x : ℕ} → x ≡ e .nb → {nb : ℕ} → nb ≡ min x all → {y : ℕ} → y ≡ e .nh → {nh : ℕ} → nh ≡ min y 8 → {v : ℕ} → v ≡ e .user →
+    {x : ℕ} → x ≡ e .nb → {nb : ℕ} → nb ≡ min x all → {y : ℕ} → y ≡ e .nh → {nh : ℕ} → nh ≡ min y mostIds → {v : ℕ} → v ≡ e .user →
     {is bs : List ℕ} → is ≡ take nh ids → bs ≡ pieceOf pool p 0 nb → {o : Outcome} {out′ : List ℕ} →
     (o ≡ outcomeOf (isReceived (Message (record { to = to; user = record { 0 = v }; flag = flag; nb = nb; nh = nh }))) is bs out)
     × (out′ ≡ answerAfter (isReceived (Message (record { to = to; user = record { 0 = v }; flag = flag; nb = nb; nh = nh }))) is bs out) →
@@ -84,8 +86,8 @@ write-done cs pool p to flag e ids out ec ea ex eb ey eh ev ei es z =
 
 -- receive_message
 pub take-message : (ps ns hs : List ℕ) (q : Queues) (p : ℕ) (e : Entry) (out : List ℕ) {flag : Bool} → flag ≡ followsIn (q .rings) p (e .number) →
-    {x : ℕ} → x ≡ e .slot → {to : HandleId} → to ≡ record { 0 = idOrInvalid hs p (x % 128) } → {es : List ℕ} → es ≡ popped (q .rings .ends) p →
-    {y : ℕ} → y ≡ e .nh → {nh : ℕ} → nh ≡ min y 8 → {is ps′ hs′ : List ℕ} {r : Rings} → givesOf is ps′ hs′ r ≡ givesTo ns ps hs (ringsAfter (q .rings) es) p (e .carried) nh →
+    {x : ℕ} → x ≡ e .slot → {to : HandleId} → to ≡ record { 0 = idOrInvalid hs p (x % nodes) } → {es : List ℕ} → es ≡ popped (q .rings .ends) p →
+    {y : ℕ} → y ≡ e .nh → {nh : ℕ} → nh ≡ min y mostIds → {is ps′ hs′ : List ℕ} {r : Rings} → givesOf is ps′ hs′ r ≡ givesTo ns ps hs (ringsAfter (q .rings) es) p (e .carried) nh →
     {o : Outcome} {out′ : List ℕ} →
     (o ≡ outcomeOf (messageAnswer (q .charges) p to flag e) (shownIds e is) (shownBytes (q .charges) (q .pool) p e) out)
     × (out′ ≡ answerAfter (messageAnswer (q .charges) p to flag e) (shownIds e is) (shownBytes (q .charges) (q .pool) p e) out) →
@@ -95,23 +97,23 @@ unfolding receivedMessage
 take-message ps ns hs q p e out ef ex et ep ey eh eg z s = rw (z .0, z .1, s .0, s .1, ← ef, ← ex, ← et, ← ep, ← ey, ← eh, ← eg)
 
 -- receive_notice
-module _ (hs ends : List ℕ) (p : ℕ) (e : Entry) (out : List ℕ) {x : ℕ} (ex : x ≡ e .slot) {id : HandleId} (ei : id ≡ record { 0 = idOrInvalid hs p (x % 128) })
+module _ (hs ends : List ℕ) (p : ℕ) (e : Entry) (out : List ℕ) {x : ℕ} (ex : x ≡ e .slot) {id : HandleId} (ei : id ≡ record { 0 = idOrInvalid hs p (x % nodes) })
     {es : List ℕ} (ep : es ≡ popped ends p) {o : Outcome} {out′ : List ℕ} where
-  pub notice-destroyed : e .kind ≡ 1 →
+  pub notice-destroyed : e .kind ≡ kindDestroyed →
       (o ≡ outcomeOf (isReceived (Destroyed id)) [] [] out) × (out′ ≡ answerAfter (isReceived (Destroyed id)) [] [] out) → noticeTakenOf o out′ es ≡ noticeTaken hs ends p e out
   unfolding noticeTaken noticeAnswer
-  notice-destroyed k z = rw (z .0, z .1, ep, ei, ex, eq-eqb (e .kind) 1 k)
+  notice-destroyed k z = rw (z .0, z .1, ep, ei, ex, eq-eqb (e .kind) kindDestroyed k)
 
-  pub notice-released : (e .kind ≡ 1 → ⊥) →
+  pub notice-released : (e .kind ≡ kindDestroyed → ⊥) →
       (o ≡ outcomeOf (isReceived (Released id)) [] [] out) × (out′ ≡ answerAfter (isReceived (Released id)) [] [] out) → noticeTakenOf o out′ es ≡ noticeTaken hs ends p e out
   unfolding noticeTaken noticeAnswer
-  notice-released k z = rw (z .0, z .1, ep, ei, ex, ne-eqb (e .kind) 1 k)
+  notice-released k z = rw (z .0, z .1, ep, ei, ex, ne-eqb (e .kind) kindDestroyed k)
 
 -- receive
 module _ (ps ns hs : List ℕ) (q : Queues) (p : ℕ) (out : List ℕ) {ps₁ : List ℕ} (en : ps₁ ≡ countCommand ps) {e : Entry} (ee : e ≡ firstOf (q .rings) p) {b : Bool}
     (eb : b ≡ isMessage e) {o : Outcome} {out′ : List ℕ} where
   pub receive-notice : b ≡ false → {es : List ℕ} → noticeTakenOf o out′ es ≡ noticeTaken hs (q .rings .ends) p e out →
-      receivedOf o out′ ps₁ hs (record { charges = q .charges; rings = ringsAfter (q .rings) es; pool = q .pool }) ≡ received ps ns hs q p out
+      receivedOf o out′ ps₁ hs (setQueued q (ringsAfter (q .rings) es)) ≡ received ps ns hs q p out
   unfolding received
   receive-notice f x = rw (← ee, ← eb, f, ← x, en)
 

@@ -6,26 +6,16 @@ use native.Mathlib.Omega.{arith}
 use Rattle.tables.specs.Peers.{modulus, acceptedAt, countCommand}
 use Rattle.tables.specs.PeersView.{acceptedV, status-counted, user-counted, given-counted, accepted-counted, counted-length}
 use Rattle.model.specs.Tables.{accept}
-use Rattle.view.specs.View.{Bus, Shape, stateOf}
+use Rattle.view.specs.View.{Bus, setPeers, Shape, shape-peers, stateOf}
 use Rattle.effects.specs.Effects.{counted}
 use Rattle.effects.specs.Good.{Good}
 
 -- The bus with the command counted.
 abbrev pub counting : Bus → Bus
-counting b =
-    record { peers = countCommand (b .peers); nodes = b .nodes; handles = b .handles; charges = b .charges; rings = b .rings; pool = b .pool }
+counting b = setPeers b (countCommand (b .peers))
 
 pub shape-counted : (b : Bus) → Shape b → Shape (counting b)
-shape-counted b s =
-    record {
-      peers = counted-length (b .peers) ∙ s .peers;
-      nodes = s .nodes;
-      handles = s .handles;
-      charges = s .charges;
-      ends = s .ends;
-      rows = s .rows;
-      pool = s .pool;
-    }
+shape-counted b s = shape-peers s (counted-length (b .peers) ∙ s .peers)
 
 module _ (b : Bus) (s : Shape b) (g : Good (stateOf b)) where
   pub countable-more : suc (stateOf b .accepted) < modulus

@@ -11,7 +11,7 @@ use borrow.Author.Tests.{eqb-true}
 use Rattle.laws.specs.Tests.{Same, Same.same, Same.other, same?}
 use Rattle.laws.specs.Tables.{upd}
 use Rattle.quota.specs.Charges.{freshCharges}
-use Rattle.rings.specs.Rings.{slots, ringSize, endCount, Rings, lengthOf, bitAt, oneSlot, cleared}
+use Rattle.rings.specs.Rings.{releasedBit, slots, ringSize, endsSize, Rings, lengthOf, bitAt, oneSlot, cleared}
 use Rattle.rings.specs.Laws.{clear-ends, clear-length, clear-lengths}
 use Rattle.tables.specs.Peers.{countCommand, setDisconnected}
 use Rattle.tables.specs.PeersView.{statusV, acceptedV, status-counted, counted-length, disconnected-length, status-disconnected, user-disconnected, given-disconnected, accepted-disconnected, accepted-is}
@@ -20,14 +20,14 @@ use Rattle.tables.specs.Handles.{clearPeer}
 use Rattle.tables.specs.HandlesView.{handleV, handle-clear}
 use Rattle.tables.specs.HandlesView.{clear-length as handles-cleared}
 use Rattle.tables.specs.ChargesView.{chargesV, charges-length}
-use Rattle.queues.specs.Queues.{Queues, emptied, emptiedCharges}
+use Rattle.queues.specs.Queues.{Queues, queuesIn, setQueued, emptied, emptiedCharges}
 use Rattle.queues.specs.Entering.{empty-view, empty-charges, all-discharged}
 use Rattle.model.specs.Numbers.{owner}
 use Rattle.model.specs.State.{Status, Status.unopened, Status.opened, Status.disconnected, isLive, Handle.none, held, Entry.released, messagesIn, State, byOwnerId}
 use Rattle.model.specs.Tables.{accept, withStatus, withHandles, withQueues, withCharges}
 use Rattle.model.specs.Changes.{dischargedAll, takeOut, pushAll, fell, releaseNotices, notifyAll, destroyAll}
 use Rattle.model.specs.Effects as model
-use Rattle.view.specs.View.{Bus, Shape, queueV, stateOf}
+use Rattle.view.specs.View.{Bus, Shape, queueV, stateOf, setPeers, setHandles, setCharges, setRings, shape-peers, shape-handles, shape-charges, shape-rings}
 use Rattle.view.specs.Rows.{queue-count}
 use Rattle.notices.specs.declared.Asked.the-variants.{Living}
 use Rattle.notices.specs.Rising.{Apart}
@@ -37,37 +37,38 @@ use Rattle.effects.specs.Effects.{counted, destroys, ringsAfter, disconn
 use Rattle.effects.specs.After.{afterDestroy, afterDisconnect}
 use Rattle.effects.specs.Good.{Good}
 use Rattle.effects.specs.Counting.{counting, shape-counted, counted-view}
+use Rattle.ids.specs.Sizes.{peers, peersSize}
 
 -- A set of p's nodes that live, destroyed by the command that is counted.
-module _ (b : Bus) (shape : Shape b) (g : Good (stateOf b)) (p : ℕ) (l : p < 8) where
-  short : (o : ℕ) → o < 8 → lengthOf (b .rings .ends) o ≤ 188
+module _ (b : Bus) (shape : Shape b) (g : Good (stateOf b)) (p : ℕ) (l : p < peers) where
+  short : (o : ℕ) → o < peers → lengthOf (b .rings .ends) o ≤ 188
   short o m = omega (arith, queue-count (b .rings) (b .pool) o m, g .short o)
 
   -- A live node is held by its owner.
-  owner-holds : (q k : ℕ) → q < 8 → k < 16 → isLive (lifeV (b .nodes) (q * slots + k)) ≡ true → held (handleV (b .handles) q (q * slots + k)) ≡ true
+  owner-holds : (q k : ℕ) → q < peers → k < slots → isLive (lifeV (b .nodes) (q * slots + k)) ≡ true → held (handleV (b .handles) q (q * slots + k)) ≡ true
   owner-holds q k m i h =
       let s = q * slots + k in
       let e : owner s ≡ q = omega arith in
       ap (λ (x : ℕ). held (handleV (b .handles) x s)) (sym e) ∙ g .noted .owned s h
 
-  module _ (set : ℕ) (test : ℕ → Bool) (agree : (k : ℕ) → k < 16 → test (p * slots + k) ≡ bitAt set k)
-      (alive : (k : ℕ) → k < 16 → bitAt set k ≡ true → isLive (lifeV (b .nodes) (p * slots + k)) ≡ true) where
+  module _ (set : ℕ) (test : ℕ → Bool) (agree : (k : ℕ) → k < slots → test (p * slots + k) ≡ bitAt set k)
+      (alive : (k : ℕ) → k < slots → bitAt set k ≡ true → isLive (lifeV (b .nodes) (p * slots + k)) ≡ true) where
     abbrev after : Destroyed
     after = destroyedSet (b .nodes) (b .handles) (b .rings) p set (counted (b .peers) .number)
 
-    holds : (k : ℕ) → k < 16 → bitAt set k ≡ true → held (handleV (b .handles) p (p * slots + k)) ≡ true
+    holds : (k : ℕ) → k < slots → bitAt set k ≡ true → held (handleV (b .handles) p (p * slots + k)) ≡ true
     holds k i h = owner-holds p k l i (alive k i h)
 
-    apart : Apart (bitAt set) (keyAt (b .handles) p) 16
+    apart : Apart (bitAt set) (keyAt (b .handles) p) slots
     apart = apart-held (b .handles) p (stateOf b .given p) set l (g .ids p) holds
 
-    fits : (o : ℕ) → o < 8 → lengthOf (b .rings .ends) o + 16 ≤ ringSize
+    fits : (o : ℕ) → o < peers → lengthOf (b .rings .ends) o + slots ≤ ringSize
     fits o m = omega (arith, short o m)
 
     set-shape : Shape (withDestroyed (counting b) after)
     set-shape = destroyed-shape (counting b) p set (counted (b .peers) .number) test (shape-counted b shape) l fits agree holds apart
 
-    set-lengths : (o : ℕ) → o < 8 → lengthOf (after .rings .ends) o ≤ 204
+    set-lengths : (o : ℕ) → o < peers → lengthOf (after .rings .ends) o ≤ 204
     set-lengths o m =
         omega (arith, short o m, destroyed-lengths (counting b) p set (counted (b .peers) .number) test (shape-counted b shape) l fits agree holds apart o m)
 
@@ -81,20 +82,20 @@ module _ (b : Bus) (shape : Shape b) (g : Good (stateOf b)) (p : ℕ) (l : p < 8
         (own-stands (handleV (b .handles)) (lifeV (b .nodes)) p (queueV (b .rings) (b .pool) p) (g .noted .stands p))
 
 -- Destroy.
-module _ (b : Bus) (shape : Shape b) (g : Good (stateOf b)) (p s : ℕ) (l : p < 8) (own : s / 16 ≡ p) (live : isLive (stateOf b .life s) ≡ true) where
-  one-alive : (k : ℕ) → k < 16 → bitAt (oneSlot 4 s .mask) k ≡ true → isLive (lifeV (b .nodes) (p * slots + k)) ≡ true
+module _ (b : Bus) (shape : Shape b) (g : Good (stateOf b)) (p s : ℕ) (l : p < peers) (own : s / slots ≡ p) (live : isLive (stateOf b .life s) ≡ true) where
+  one-alive : (k : ℕ) → k < slots → bitAt (oneSlot releasedBit s .mask) k ≡ true → isLive (lifeV (b .nodes) (p * slots + k)) ≡ true
   one-alive k i h =
-      let e : s ≡ p * slots + k = eqb-true s (p * slots + k) (one-set 4 s p k own i ∙ h) in
+      let e : s ≡ p * slots + k = eqb-true s (p * slots + k) (one-set releasedBit s p k own i ∙ h) in
       ap (λ (x : ℕ). isLive (lifeV (b .nodes) x)) (sym e) ∙ live
 
   pub shape-destroy : Shape (afterDestroy b p s)
   unfolding destroys counted
-  shape-destroy = set-shape b shape g p l (oneSlot 4 s .mask) (eqb s) (λ k i. one-set 4 s p k own i) one-alive
+  shape-destroy = set-shape b shape g p l (oneSlot releasedBit s .mask) (eqb s) (λ k i. one-set releasedBit s p k own i) one-alive
 
   pub destroy-view : stateOf (afterDestroy b p s) ≡ model.destroys (accept (stateOf b)) p s
   unfolding destroys counted model.destroys
   destroy-view =
-      set-view b shape g p l (oneSlot 4 s .mask) (eqb s) (λ k i. one-set 4 s p k own i) one-alive
+      set-view b shape g p l (oneSlot releasedBit s .mask) (eqb s) (λ k i. one-set releasedBit s p k own i) one-alive
       ∙ ap (λ (x : State). destroyAll x p (eqb s)) (counted-view b shape g)
 
 -- An open peer was opened.
@@ -109,17 +110,17 @@ unfolding model.disconnects
 model-disconnects a p = refl
 
 -- Disconnect: the peer's live nodes destroyed; its queue emptied; its handles gone and its status changed; the owners told.
-module _ (b : Bus) (shape : Shape b) (g : Good (stateOf b)) (p : ℕ) (l : p < 8) where
+module _ (b : Bus) (shape : Shape b) (g : Good (stateOf b)) (p : ℕ) (l : p < peers) where
   abbrev living : ℕ
   living = setOf (b .nodes) (b .handles) p Living
 
   abbrev lives : ℕ → Bool
   lives s = isLive (lifeV (b .nodes) s)
 
-  agrees : (k : ℕ) → k < 16 → lives (p * slots + k) ≡ bitAt living k
+  agrees : (k : ℕ) → k < slots → lives (p * slots + k) ≡ bitAt living k
   agrees k i = living-set (b .nodes) (b .handles) p k l i
 
-  all-alive : (k : ℕ) → k < 16 → bitAt living k ≡ true → lives (p * slots + k) ≡ true
+  all-alive : (k : ℕ) → k < slots → bitAt living k ≡ true → lives (p * slots + k) ≡ true
   all-alive k i h = agrees k i ∙ h
 
   abbrev died : Destroyed
@@ -130,25 +131,16 @@ module _ (b : Bus) (shape : Shape b) (g : Good (stateOf b)) (p : ℕ) (l : p < 8
   destroyedBus = withDestroyed (counting b) died
 
   abbrev diedQueues : Queues
-  diedQueues = record { charges = b .charges; rings = died .rings; pool = b .pool }
+  diedQueues = setQueued (queuesIn b) (died .rings)
 
   abbrev emptyRings : Rings
   emptyRings = ringsAfter (died .rings) (cleared (died .rings .ends) p)
 
   abbrev emptyBus : Bus
-  emptyBus =
-      record { peers = countCommand (b .peers); nodes = died .nodes; handles = b .handles; charges = emptiedCharges (b .charges) p; rings = emptyRings; pool = b .pool }
+  emptyBus = setRings (setCharges destroyedBus (emptiedCharges (b .charges) p)) emptyRings
 
   abbrev leftBus : Bus
-  leftBus =
-      record {
-        peers = setDisconnected (countCommand (b .peers)) p;
-        nodes = died .nodes;
-        handles = clearPeer (b .handles) p;
-        charges = emptiedCharges (b .charges) p;
-        rings = emptyRings;
-        pool = b .pool;
-      }
+  leftBus = setHandles (setPeers emptyBus (setDisconnected (countCommand (b .peers)) p)) (clearPeer (b .handles) p)
 
   died-shape : Shape destroyedBus
   died-shape = set-shape b shape g p l living lives agrees all-alive
@@ -177,7 +169,7 @@ module _ (b : Bus) (shape : Shape b) (g : Good (stateOf b)) (p : ℕ) (l : p < 8
   unfolding withStatus withHandles
   left-view was =
       let ps = countCommand (b .peers) in
-      let size : length ps ≡ 25 = counted-length (b .peers) ∙ shape .peers in
+      let size : length ps ≡ peersSize = counted-length (b .peers) ∙ shape .peers in
       rw (
         status-disconnected ps size p l,
         user-disconnected ps size p l (λ e. was (sym (ap (λ (f : ℕ → Status). f p) (status-counted (b .peers))) ∙ e)),
@@ -188,28 +180,28 @@ module _ (b : Bus) (shape : Shape b) (g : Good (stateOf b)) (p : ℕ) (l : p < 8
 
   -- The owners are told.
   abbrev toldRings : Rings
-  toldRings = toldOwners (died .nodes) (b .handles) p (counted (b .peers) .number) emptyRings 8
+  toldRings = toldOwners (died .nodes) (b .handles) p (counted (b .peers) .number) emptyRings peers
 
-  died-nodes : died .nodes ≡ deadAll (b .nodes) p living (counted (b .peers) .number) 16
+  died-nodes : died .nodes ≡ deadAll (b .nodes) p living (counted (b .peers) .number) slots
   died-nodes = destroyed-nodes (b .nodes) (b .handles) (b .rings) p living (counted (b .peers) .number)
 
-  none-left : (k : ℕ) → k < 16 → isLive (lifeV (died .nodes) (p * slots + k)) ≡ false
+  none-left : (k : ℕ) → k < slots → isLive (lifeV (died .nodes) (p * slots + k)) ≡ false
   none-left k i = rw died-nodes (none-lives (b .nodes) (b .handles) p (counted (b .peers) .number) (shape .nodes) l k i)
 
-  still-held : (q k : ℕ) → q < 8 → k < 16 → isLive (lifeV (died .nodes) (q * slots + k)) ≡ true → held (handleV (b .handles) q (q * slots + k)) ≡ true
+  still-held : (q k : ℕ) → q < peers → k < slots → isLive (lifeV (died .nodes) (q * slots + k)) ≡ true → held (handleV (b .handles) q (q * slots + k)) ≡ true
   still-held q k m i h =
       let s = q * slots + k in
       owner-holds b shape g p l q k m i
       (lived-before (b .nodes) (b .handles) p (counted (b .peers) .number) (shape .nodes) l s
       (ap (λ (x : List ℕ). isLive (lifeV x s)) (sym died-nodes) ∙ h))
 
-  empty-ended : length (emptyRings .ends) ≡ endCount
+  empty-ended : length (emptyRings .ends) ≡ endsSize
   empty-ended = clear-ends (died .rings) p ∙ died-shape .ends
 
-  empty-room : (o : ℕ) → o < 8 → lengthOf (emptyRings .ends) o + 16 ≤ ringSize
+  empty-room : (o : ℕ) → o < peers → lengthOf (emptyRings .ends) o + slots ≤ ringSize
   empty-room o m = go (same? p o)
     where
-      go : Same p o → lengthOf (cleared (died .rings .ends) p) o + 16 ≤ ringSize
+      go : Same p o → lengthOf (cleared (died .rings .ends) p) o + slots ≤ ringSize
       go (same e) = rw (← e, clear-length (died .rings) p (died-shape .ends) l) (omega arith)
       go (other d) = rw (clear-lengths (died .rings) p o d) (omega (arith, set-lengths b shape g p l living lives agrees all-alive o m))
 
@@ -246,12 +238,9 @@ module _ (b : Bus) (shape : Shape b) (g : Good (stateOf b)) (p : ℕ) (l : p < 8
   pub shape-disconnect : Shape (afterDisconnect b p)
   unfolding disconnects counted emptiedCharges
   shape-disconnect =
-      record {
-        peers = disconnected-length (countCommand (b .peers)) p ∙ counted-length (b .peers) ∙ shape .peers;
-        nodes = died-shape .nodes;
-        handles = handles-cleared (b .handles) p ∙ shape .handles;
-        charges = charges-length (b .charges) p freshCharges ∙ shape .charges;
-        ends = told-more .ends;
-        rows = told-more .sized;
-        pool = shape .pool;
-      }
+      shape-rings
+      (shape-charges
+      (shape-handles (shape-peers died-shape (disconnected-length (countCommand (b .peers)) p ∙ counted-length (b .peers) ∙ shape .peers))
+      (handles-cleared (b .handles) p ∙ shape .handles))
+      (charges-length (b .charges) p freshCharges ∙ shape .charges))
+      (told-more .ends) (told-more .sized)

@@ -14,17 +14,20 @@ use Rattle.answers.specs.declared.Received.the-variants.{Message, Destroyed, Re
 use Rattle.answers.specs.declared.Outcome.{Outcome}
 use Rattle.answers.specs.Answer.{answerAfter, outcomeOf}
 use Rattle.rings.specs.declared.Entry.{Entry}
-use Rattle.rings.specs.Rings.{slots, Rings, popped, firstOf, cleared, oneSlot}
+use Rattle.rings.specs.Rings.{kindMessage, kindDestroyed, kindReleased, releasedBit, noticeBits, allBits, slots, Rings, setEnds, popped, firstOf, cleared, oneSlot}
 use Rattle.pool.specs.Pool.{pieceOf}
 use Rattle.tables.specs.Peers.{acceptedAt, userAt, countCommand, setOpen, setDisconnected}
 use Rattle.tables.specs.Nodes.{liveAt, setLive}
 use Rattle.tables.specs.Handles.{countAt, totalAt, putHandle, reduced, clearPeer}
 use Rattle.tables.specs.Charges.{chargesAt}
-use Rattle.queues.specs.Queues.{Queues, usedOf, isMessage, entered, enqueued, settledCharges, settledPool, removedFrom, emptiedCharges, followsIn}
+use Rattle.quota.specs.Charges.{users}
+use Rattle.queues.specs.Queues.{Queues, usedOf, isMessage, entered, enqueued, settledCharges, settledPool, removedFrom, emptiedCharges, followsIn, setQueued}
 use Rattle.judges.specs.declared.Places.{Places}
 use Rattle.notices.specs.declared.Asked.the-variants.{Living}
 use Rattle.notices.specs.Notices.{noticeOf, setOf, destroyedSet, toldOwners}
 use Rattle.grants.specs.Grants.{Given, givenTo, givesTo, idOrInvalid}
+use Rattle.ids.specs.Sizes.{peers, mostIds}
+use Rattle.model.specs.Numbers.{nodes}
 
 -- A command is counted: its number, and the table of peers.
 pub record Counted : Type 0 where
@@ -64,7 +67,7 @@ destroysOf ps ns r = record { peers = ps; nodes = ns; rings = r }
 
 unfoldable pub destroys : List ℕ → List ℕ → List ℕ → Rings → ℕ → ℕ → Destroys
 destroys ps ns hs r p s =
-    let d = destroyedSet ns hs r p (oneSlot 4 s .mask) (counted ps .number) in
+    let d = destroyedSet ns hs r p (oneSlot releasedBit s .mask) (counted ps .number) in
     destroysOf (counted ps .peers) (d .nodes) (d .rings)
 
 -- Release: one reference less; at 0 the handle's notices go, and the owner's messages; then the notice at the owner.
@@ -79,10 +82,10 @@ unfoldable pub dropped : List ℕ → ℕ → ℕ → Dropped
 dropped hs p s = droppedOf (countAt hs p s - 1) (reduced hs p s)
 
 unfoldable pub forgotten : Queues → ℕ → ℕ → Queues
-forgotten q p s = removedFrom q p (oneSlot (pick (eqb (s / slots) p) 7 6) s)
+forgotten q p s = removedFrom q p (oneSlot (pick (eqb (s / slots) p) allBits noticeBits) s)
 
 unfoldable pub notified : List ℕ → List ℕ → Rings → ℕ → ℕ → Rings
-notified ns hs r s n = pick (liveAt ns s) (pick (eqb (totalAt hs s) 1) (entered r (s / slots) (noticeOf 2 s n)) r) r
+notified ns hs r s n = pick (liveAt ns s) (pick (eqb (totalAt hs s) 1) (entered r (s / slots) (noticeOf kindReleased s n)) r) r
 
 pub record Releases : Type 0 where
   pub peers : List ℕ
@@ -101,7 +104,7 @@ releases ps ns hs q p s =
     let d = dropped hs p s in
     let a = leftBehind hs q p s in
     releasesOf (counted ps .peers) (d .handles)
-    (record { charges = a .charges; rings = notified ns (d .handles) (a .rings) s (counted ps .number); pool = a .pool })
+    (setQueued a (notified ns (d .handles) (a .rings) s (counted ps .number)))
 
 -- Transfer.
 unfoldable pub transfers : List ℕ → List ℕ → List ℕ → Rings → ℕ → ℕ → Given
@@ -109,12 +112,12 @@ transfers ps ns hs r q s = givenTo ns (countCommand ps) hs r q s
 
 -- Send: a message for each of the first k destinations.
 unfoldable pub messageTo : ℕ → ℕ → ℕ → ℕ → List ℕ → ℕ → Entry
-messageTo s u nb nh carried n = record { kind = 0; slot = s; user = u % 4; nb = nb % 65536; nh = nh % 65536; carried = carried; number = n }
+messageTo s u nb nh carried n = record { kind = kindMessage; slot = s; user = u % users; nb = nb % 65536; nh = nh % 65536; carried = carried; number = n }
 
 unfoldable pub sentTo : Queues → ℕ → ℕ → Places → List ℕ → ℕ → ℕ → Queues
 sentTo q u nh w bytes n zero = q
 sentTo q u nh w bytes n (suc k) =
-    let s = getD (w .to) k 0 % 128 in
+    let s = getD (w .to) k 0 % nodes in
     enqueued (sentTo q u nh w bytes n k) (s / slots) (messageTo s u (length bytes) nh (w .carried) n) bytes
 
 pub record Sends : Type 0 where
@@ -139,23 +142,23 @@ abbrev pub disconnectsOf : List ℕ → List ℕ → List ℕ → List ℕ → R
 disconnectsOf ps ns hs cs r = record { peers = ps; nodes = ns; handles = hs; charges = cs; rings = r }
 
 abbrev pub ringsAfter : Rings → List ℕ → Rings
-ringsAfter r ends = record { ends = ends; rows = r .rows }
+ringsAfter r ends = setEnds r ends
 
 unfoldable pub disconnects : List ℕ → List ℕ → List ℕ → List ℕ → Rings → ℕ → Disconnects
 disconnects ps ns hs cs r p =
     let n = counted ps .number in
     let d = destroyedSet ns hs r p (setOf ns hs p Living) n in
     disconnectsOf (setDisconnected (counted ps .peers) p) (d .nodes) (clearPeer hs p) (emptiedCharges cs p)
-    (toldOwners (d .nodes) hs p n (ringsAfter (d .rings) (cleared (d .rings .ends) p)) 8)
+    (toldOwners (d .nodes) hs p n (ringsAfter (d .rings) (cleared (d .rings .ends) p)) peers)
 
 -- Receive: the answer that shows a message, with its IDs and its payload.
 unfoldable pub messageAnswer : List ℕ → ℕ → HandleId → Bool → Entry → Answer
 messageAnswer cs p to flag e =
     isReceived
-    (Message (record { to = to; user = record { 0 = e .user }; flag = flag; nb = min (e .nb) (usedOf (chargesAt cs p)); nh = min (e .nh) 8 }))
+    (Message (record { to = to; user = record { 0 = e .user }; flag = flag; nb = min (e .nb) (usedOf (chargesAt cs p)); nh = min (e .nh) mostIds }))
 
 unfoldable pub shownIds : Entry → List ℕ → List ℕ
-shownIds e ids = take (min (e .nh) 8) ids
+shownIds e ids = take (min (e .nh) mostIds) ids
 
 unfoldable pub shownBytes : List ℕ → List ℕ → ℕ → Entry → List ℕ
 shownBytes cs pool p e = pieceOf pool p 0 (min (e .nb) (usedOf (chargesAt cs p)))
@@ -173,8 +176,8 @@ receivedOf o out ps hs q = record { outcome = o; out = out; peers = ps; handles 
 -- A message is taken out, and what it carries is given.
 unfoldable pub receivedMessage : List ℕ → List ℕ → List ℕ → Queues → ℕ → Entry → List ℕ → Taken
 receivedMessage ps ns hs q p e out =
-    let g = givesTo ns ps hs (ringsAfter (q .rings) (popped (q .rings .ends) p)) p (e .carried) (min (e .nh) 8) in
-    let a = messageAnswer (q .charges) p (record { 0 = idOrInvalid hs p (e .slot % 128) }) (followsIn (q .rings) p (e .number)) e in
+    let g = givesTo ns ps hs (ringsAfter (q .rings) (popped (q .rings .ends) p)) p (e .carried) (min (e .nh) peers) in
+    let a = messageAnswer (q .charges) p (record { 0 = idOrInvalid hs p (e .slot % nodes) }) (followsIn (q .rings) p (e .number)) e in
     let bytes = shownBytes (q .charges) (q .pool) p e in
     receivedOf (outcomeOf a (shownIds e (g .ids)) bytes out) (answerAfter a (shownIds e (g .ids)) bytes out) (g .peers) (g .handles)
     (record { charges = settledCharges (q .charges) p e; rings = g .rings; pool = settledPool (q .charges) (q .pool) p e })
@@ -190,7 +193,7 @@ noticeTakenOf o out ends = record { outcome = o; out = out; ends = ends }
 
 unfoldable pub noticeAnswer : List ℕ → ℕ → Entry → Answer
 noticeAnswer hs p e =
-    isReceived (pick (eqb (e .kind) 1) (Destroyed (record { 0 = idOrInvalid hs p (e .slot % 128) })) (Released (record { 0 = idOrInvalid hs p (e .slot % 128) })))
+    isReceived (pick (eqb (e .kind) kindDestroyed) (Destroyed (record { 0 = idOrInvalid hs p (e .slot % nodes) })) (Released (record { 0 = idOrInvalid hs p (e .slot % nodes) })))
 
 unfoldable pub noticeTaken : List ℕ → List ℕ → ℕ → Entry → List ℕ → NoticeTaken
 noticeTaken hs ends p e out = noticeTakenOf (outcomeOf (noticeAnswer hs p e) [] [] out) (answerAfter (noticeAnswer hs p e) [] [] out) (popped ends p)
@@ -202,4 +205,4 @@ received ps ns hs q p out =
     let x = noticeTaken hs (q .rings .ends) p e out in
     pick (isMessage e)
     (receivedMessage (countCommand ps) ns hs q p e out)
-    (receivedOf (x .outcome) (x .out) (countCommand ps) hs (record { charges = q .charges; rings = ringsAfter (q .rings) (x .ends); pool = q .pool }))
+    (receivedOf (x .outcome) (x .out) (countCommand ps) hs (setQueued q (ringsAfter (q .rings) (x .ends))))

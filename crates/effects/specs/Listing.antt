@@ -24,7 +24,7 @@ use Rattle.effects.specs.Counting.{counting, shape-counted}
 use Rattle.effects.specs.Receiving.{few}
 
 -- A free place is held by nobody.
-free-unheld : (b : State) (p : ℕ) → p < 8 → freePlace b p < slots → held (b .handle p (p * slots + freePlace b p)) ≡ false
+free-unheld : (b : State) (p : ℕ) → p < peers → freePlace b p < slots → held (b .handle p (p * slots + freePlace b p)) ≡ false
 unfolding freePlace counts heldByAny
 free-unheld b p lp l =
     let k = freePlace b p in
@@ -44,22 +44,22 @@ unheld-none none e = refl
 unheld-none (some i c) e = clash e
 
 module _ (b : Bus) (h : Shape b) (g : Good (stateOf b)) (a : AllListed (b .handles)) where
-  pub listed-create : (p i : ℕ) → p < 8 → i % 4 ≡ 0 → freePlace (stateOf b) p < slots → AllListed (afterCreate b p i (p * slots + freePlace (stateOf b) p) .handles)
+  pub listed-create : (p i : ℕ) → p < peers → i % 4 ≡ 0 → freePlace (stateOf b) p < slots → AllListed (afterCreate b p i (p * slots + freePlace (stateOf b) p) .handles)
   unfolding created
   listed-create p i lp e l =
       listed-made (b .handles) (h .handles) p (p * slots + freePlace (stateOf b) p) lp (omega arith) a i
       (unheld-none (handleV (b .handles) p (p * slots + freePlace (stateOf b) p)) (free-unheld (stateOf b) p lp l)) e
 
-  pub listed-release : (p s i c : ℕ) → p < 8 → s < 128 → stateOf b .handle p s ≡ some i c → AllListed (afterRelease b p s .handles)
+  pub listed-release : (p s i c : ℕ) → p < peers → s < nodes → stateOf b .handle p s ≡ some i c → AllListed (afterRelease b p s .handles)
   unfolding releases dropped
   listed-release p s i c lp ls e =
       listed-reduced (b .handles) (h .handles) p s lp ls a (omega (arith, count-is (b .handles) p s lp ls, ap count e, g .ids p .counted s i c e))
 
-  pub listed-transfer : (q s : ℕ) → q < 8 → s < 128 → AllListed (afterTransfer b q s .handles)
+  pub listed-transfer : (q s : ℕ) → q < peers → s < nodes → AllListed (afterTransfer b q s .handles)
   unfolding transfers
   listed-transfer q s lq ls =
       listed-given (counting b) (shape-counted b h) q s lq ls (rw (given-counted (b .peers)) (g .ids q)) (few b q s h g lq ls) a
 
-  pub listed-disconnect : (p : ℕ) → p < 8 → AllListed (afterDisconnect b p .handles)
+  pub listed-disconnect : (p : ℕ) → p < peers → AllListed (afterDisconnect b p .handles)
   unfolding disconnects
   listed-disconnect p lp = listed-cleared (b .handles) (h .handles) p lp a

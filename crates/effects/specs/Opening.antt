@@ -10,32 +10,24 @@ use Rattle.tables.specs.Nodes.{setLive}
 use Rattle.tables.specs.NodesView.{life-live, live-length}
 use Rattle.tables.specs.Handles.{putHandle}
 use Rattle.tables.specs.HandlesView.{handle-put, put-length}
-use Rattle.model.specs.Numbers.{slots}
+use Rattle.model.specs.Numbers.{slots, nodes}
 use Rattle.model.specs.State.{Life.live, handleOf, State, counts, freePlace}
 use Rattle.model.specs.Tables.{accept, withStatus, withUser, withHandles, withHandle, withLives}
 use Rattle.model.specs.Effects.{opens, creates}
-use Rattle.view.specs.View.{Bus, Shape, stateOf}
+use Rattle.view.specs.View.{Bus, setPeers, setNodes, setHandles, Shape, shape-peers, shape-nodes, shape-handles, stateOf}
 use Rattle.effects.specs.Effects.{openedPeers, created}
 use Rattle.effects.specs.After.{afterOpen, afterCreate}
 use Rattle.effects.specs.Good.{Good}
 use Rattle.effects.specs.Counting.{counting, shape-counted, counted-view}
+use Rattle.ids.specs.Sizes.{peers}
 
 pub shape-open : (b : Bus) (p u : ℕ) → Shape b → Shape (afterOpen b p u)
 unfolding openedPeers
-shape-open b p u s =
-    record {
-      peers = open-length (countCommand (b .peers)) p u ∙ counted-length (b .peers) ∙ s .peers;
-      nodes = s .nodes;
-      handles = s .handles;
-      charges = s .charges;
-      ends = s .ends;
-      rows = s .rows;
-      pool = s .pool;
-    }
+shape-open b p u s = shape-peers s (open-length (countCommand (b .peers)) p u ∙ counted-length (b .peers) ∙ s .peers)
 
 -- A peer opened, whatever the table.
-opened-view : (b : Bus) → Shape b → (p u : ℕ) → p < 8 →
-    stateOf (record { peers = setOpen (b .peers) p u; nodes = b .nodes; handles = b .handles; charges = b .charges; rings = b .rings; pool = b .pool }) ≡ opens (stateOf b) p u
+opened-view : (b : Bus) → Shape b → (p u : ℕ) → p < peers →
+    stateOf (setPeers b (setOpen (b .peers) p u)) ≡ opens (stateOf b) p u
 unfolding opens withStatus withUser
 opened-view b s p u l =
     rw (
@@ -45,7 +37,7 @@ opened-view b s p u l =
       accepted-open (b .peers) (s .peers) p l u,
     )
 
-pub open-view : (b : Bus) → Shape b → Good (stateOf b) → (p u : ℕ) → p < 8 → stateOf (afterOpen b p u) ≡ opens (accept (stateOf b)) p u
+pub open-view : (b : Bus) → Shape b → Good (stateOf b) → (p u : ℕ) → p < peers → stateOf (afterOpen b p u) ≡ opens (accept (stateOf b)) p u
 unfolding openedPeers
 open-view b s g p u l = opened-view (counting b) (shape-counted b s) p u l ∙ ap (λ (x : State). opens x p u) (counted-view b s g)
 
@@ -57,24 +49,16 @@ same-place b p = refl
 pub shape-create : (b : Bus) (p i n : ℕ) → Shape b → Shape (afterCreate b p i n)
 unfolding created
 shape-create b p i n s =
-    record {
-      peers = counted-length (b .peers) ∙ s .peers;
-      nodes = live-length (b .nodes) n ∙ s .nodes;
-      handles = put-length (b .handles) p n i 1 ∙ s .handles;
-      charges = s .charges;
-      ends = s .ends;
-      rows = s .rows;
-      pool = s .pool;
-    }
+    shape-handles (shape-nodes (shape-peers s (counted-length (b .peers) ∙ s .peers)) (live-length (b .nodes) n ∙ s .nodes)) (put-length (b .handles) p n i 1 ∙ s .handles)
 
 -- A node made, whatever its slot.
-made-view : (b : Bus) → Shape b → (p i n : ℕ) → p < 8 → n < 128 →
-    stateOf (record { peers = b .peers; nodes = setLive (b .nodes) n; handles = putHandle (b .handles) p n i 1; charges = b .charges; rings = b .rings; pool = b .pool })
+made-view : (b : Bus) → Shape b → (p i n : ℕ) → p < peers → n < nodes →
+    stateOf (setHandles (setNodes b (setLive (b .nodes) n)) (putHandle (b .handles) p n i 1))
     ≡ withHandle (withLives (stateOf b) (upd (stateOf b .life) n live)) p n (handleOf i 1)
 unfolding withHandles withLives
 made-view b s p i n l m = rw (life-live (b .nodes) (s .nodes) n m, handle-put (b .handles) (s .handles) p n i 1 l m (omega arith))
 
-pub create-view : (b : Bus) → Shape b → Good (stateOf b) → (p i : ℕ) → p < 8 → freePlace (stateOf b) p < slots →
+pub create-view : (b : Bus) → Shape b → Good (stateOf b) → (p i : ℕ) → p < peers → freePlace (stateOf b) p < slots →
     stateOf (afterCreate b p i (p * slots + freePlace (stateOf b) p)) ≡ creates (accept (stateOf b)) p i
 unfolding created creates
 create-view b s g p i l free =

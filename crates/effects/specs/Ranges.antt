@@ -15,7 +15,7 @@ use Rattle.laws.specs.Bits.{bits}
 use Rattle.frames.specs.declared.Sizes.{Sizes}
 use Rattle.rings.specs.declared.Entry.{Entry as Row}
 use Rattle.rings.specs.declared.Match.{Match}
-use Rattle.rings.specs.Rings.{slots, ringSize, endCount, Rings, headOf, lengthOf, popped, cleared, removed, oneSlot, firstOf}
+use Rattle.rings.specs.Rings.{kindDestroyed, kindReleased, releasedBit, noticeBits, allBits, slots, ringSize, endsSize, Rings, headOf, lengthOf, popped, cleared, removed, oneSlot, firstOf}
 use Rattle.rings.specs.Laws.{pop-heads, pop-head, clear-heads, remove-heads}
 use Rattle.tables.specs.declared.Found.{Found}
 use Rattle.tables.specs.declared.Found.the-variants.{At, Nothing}
@@ -26,7 +26,7 @@ use Rattle.tables.specs.Handles.{countAt, idAt, totalAt}
 use Rattle.queues.specs.Queues.{Queues, isMessage, entered, enqueued, withdrawn, removedFrom}
 use Rattle.queues.specs.Entering.{enter-heads}
 use Rattle.queues.specs.Leaving.{afterRemoval}
-use Rattle.model.specs.Numbers.{mostCommands}
+use Rattle.model.specs.Numbers.{nodes, mostCommands}
 use Rattle.view.specs.View.{Bus, Shape, stateOf}
 use Rattle.view.specs.Rows.{queue-count}
 use Rattle.judges.specs.declared.Places.{Places}
@@ -36,23 +36,24 @@ use Rattle.grants.specs.Grants.{Given, Numbered, numbered, numberedOf, shownTo,
 use Rattle.effects.specs.Effects.{Taken, counted, openedPeers, created, destroys, releases, transfers, sends, disconnects, received, dropped, forgotten, notified, leftBehind, messageTo, sentTo, ringsAfter, receivedMessage, noticeTaken}
 use Rattle.effects.specs.After.{queuesIn, afterOpen, afterCreate, afterDestroy, afterRelease, afterTransfer, afterSend, afterReceive, afterDisconnect}
 use Rattle.effects.specs.Good.{Good}
+use Rattle.ids.specs.Sizes.{peers, mostIds, acceptedEnd, givenEnd}
 
 pub record Raw (b : Bus) : Type 0 where
-  pub states : (p : ℕ) → p < 8 → stateAt (b .peers) p ≤ 2
-  pub users : (p : ℕ) → p < 8 → userAt (b .peers) p ≤ 3
-  pub given : (p : ℕ) → p < 8 → getD (b .peers) (peerRow p + 2) 0 < modulus
+  pub states : (p : ℕ) → p < peers → stateAt (b .peers) p ≤ 2
+  pub users : (p : ℕ) → p < peers → userAt (b .peers) p ≤ 3
+  pub given : (p : ℕ) → p < peers → getD (b .peers) (peerRow p + 2) 0 < modulus
   pub accepted : getD (b .peers) 0 0 < modulus
-  pub heads : (p : ℕ) → p < 8 → headOf (b .rings .ends) p < ringSize
+  pub heads : (p : ℕ) → p < peers → headOf (b .rings .ends) p < ringSize
 
 -- The part that the table of peers has, and that the ends have.
 pub record RawPeers (ps : List ℕ) : Type 0 where
-  pub states : (p : ℕ) → p < 8 → stateAt ps p ≤ 2
-  pub users : (p : ℕ) → p < 8 → userAt ps p ≤ 3
-  pub given : (p : ℕ) → p < 8 → getD ps (peerRow p + 2) 0 < modulus
+  pub states : (p : ℕ) → p < peers → stateAt ps p ≤ 2
+  pub users : (p : ℕ) → p < peers → userAt ps p ≤ 3
+  pub given : (p : ℕ) → p < peers → getD ps (peerRow p + 2) 0 < modulus
   pub accepted : getD ps 0 0 < modulus
 
 abbrev pub RawHeads : List ℕ → Type 0
-RawHeads ends = (p : ℕ) → p < 8 → headOf ends p < ringSize
+RawHeads ends = (p : ℕ) → p < peers → headOf ends p < ringSize
 
 pub raw-parts : (b : Bus) → RawPeers (b .peers) → RawHeads (b .rings .ends) → Raw b
 raw-parts b r h = record { states = r .states; users = r .users; given = r .given; accepted = r .accepted; heads = h }
@@ -74,36 +75,36 @@ module _ (ps : List ℕ) (r : RawPeers ps) where
   unfolding countCommand
   peers-counted h =
       record {
-        states = λ p l. rw (getD-set-other ps 0 (1 + 3 * p) (nextNumber ps) 0 (λ x. absurd (omega arith))) (r .states p l);
-        users = λ p l. rw (getD-set-other ps 0 (1 + 3 * p + 1) (nextNumber ps) 0 (λ x. absurd (omega arith))) (r .users p l);
-        given = λ p l. rw (getD-set-other ps 0 (1 + 3 * p + 2) (nextNumber ps) 0 (λ x. absurd (omega arith))) (r .given p l);
+        states = λ p l. rw (getD-set-other ps 0 (peerRow p) (nextNumber ps) 0 (λ x. absurd (omega arith))) (r .states p l);
+        users = λ p l. rw (getD-set-other ps 0 (peerRow p + 1) (nextNumber ps) 0 (λ x. absurd (omega arith))) (r .users p l);
+        given = λ p l. rw (getD-set-other ps 0 (peerRow p + 2) (nextNumber ps) 0 (λ x. absurd (omega arith))) (r .given p l);
         accepted = under-set ps 0 (nextNumber ps) 0 modulus h (r .accepted);
       }
 
   pub peers-open : (p u : ℕ) → u ≤ 3 → RawPeers (setOpen ps p u)
   unfolding setOpen
   peers-open p u h =
-      let one = set ps (1 + 3 * p) 1 in
+      let one = set ps (peerRow p) 1 in
       record {
         states =
             λ q l.
-            rw (getD-set-other one (1 + 3 * p + 1) (1 + 3 * q) u 0 (λ x. absurd (omega arith)))
-            (omega (arith, under-set ps (1 + 3 * p) 1 (1 + 3 * q) 3 (omega arith) (omega (arith, r .states q l))));
+            rw (getD-set-other one (peerRow p + 1) (peerRow q) u 0 (λ x. absurd (omega arith)))
+            (omega (arith, under-set ps (peerRow p) 1 (peerRow q) 3 (omega arith) (omega (arith, r .states q l))));
         users =
             λ q l.
-            let was : getD one (1 + 3 * q + 1) 0 ≡ getD ps (1 + 3 * q + 1) 0 = getD-set-other ps (1 + 3 * p) (1 + 3 * q + 1) 1 0 (λ x. absurd (omega arith)) in
-            omega (arith, under-set one (1 + 3 * p + 1) u (1 + 3 * q + 1) 4 (omega arith) (omega (arith, was, r .users q l)));
+            let was : getD one (peerRow q + 1) 0 ≡ getD ps (peerRow q + 1) 0 = getD-set-other ps (peerRow p) (peerRow q + 1) 1 0 (λ x. absurd (omega arith)) in
+            omega (arith, under-set one (peerRow p + 1) u (peerRow q + 1) 4 (omega arith) (omega (arith, was, r .users q l)));
         given =
             λ q l.
             rw (
-              getD-set-other one (1 + 3 * p + 1) (1 + 3 * q + 2) u 0 (λ x. absurd (omega arith)),
-              getD-set-other ps (1 + 3 * p) (1 + 3 * q + 2) 1 0 (λ x. absurd (omega arith)),
+              getD-set-other one (peerRow p + 1) (peerRow q + 2) u 0 (λ x. absurd (omega arith)),
+              getD-set-other ps (peerRow p) (peerRow q + 2) 1 0 (λ x. absurd (omega arith)),
             )
             (r .given q l);
         accepted =
             rw (
-              getD-set-other one (1 + 3 * p + 1) 0 u 0 (λ x. absurd (omega arith)),
-              getD-set-other ps (1 + 3 * p) 0 1 0 (λ x. absurd (omega arith)),
+              getD-set-other one (peerRow p + 1) 0 u 0 (λ x. absurd (omega arith)),
+              getD-set-other ps (peerRow p) 0 1 0 (λ x. absurd (omega arith)),
             )
             (r .accepted);
       }
@@ -112,20 +113,20 @@ module _ (ps : List ℕ) (r : RawPeers ps) where
   unfolding setDisconnected
   peers-disconnected p =
       record {
-        states = λ q l. omega (arith, under-set ps (1 + 3 * p) 2 (1 + 3 * q) 3 (omega arith) (omega (arith, r .states q l)));
-        users = λ q l. rw (getD-set-other ps (1 + 3 * p) (1 + 3 * q + 1) 2 0 (λ x. absurd (omega arith))) (r .users q l);
-        given = λ q l. rw (getD-set-other ps (1 + 3 * p) (1 + 3 * q + 2) 2 0 (λ x. absurd (omega arith))) (r .given q l);
-        accepted = rw (getD-set-other ps (1 + 3 * p) 0 2 0 (λ x. absurd (omega arith))) (r .accepted);
+        states = λ q l. omega (arith, under-set ps (peerRow p) 2 (peerRow q) 3 (omega arith) (omega (arith, r .states q l)));
+        users = λ q l. rw (getD-set-other ps (peerRow p) (peerRow q + 1) 2 0 (λ x. absurd (omega arith))) (r .users q l);
+        given = λ q l. rw (getD-set-other ps (peerRow p) (peerRow q + 2) 2 0 (λ x. absurd (omega arith))) (r .given q l);
+        accepted = rw (getD-set-other ps (peerRow p) 0 2 0 (λ x. absurd (omega arith))) (r .accepted);
       }
 
   pub peers-given : (p n : ℕ) → n < modulus → RawPeers (setGiven ps p n)
   unfolding setGiven
   peers-given p n h =
       record {
-        states = λ q l. rw (getD-set-other ps (1 + 3 * p + 2) (1 + 3 * q) n 0 (λ x. absurd (omega arith))) (r .states q l);
-        users = λ q l. rw (getD-set-other ps (1 + 3 * p + 2) (1 + 3 * q + 1) n 0 (λ x. absurd (omega arith))) (r .users q l);
-        given = λ q l. under-set ps (1 + 3 * p + 2) n (1 + 3 * q + 2) modulus h (r .given q l);
-        accepted = rw (getD-set-other ps (1 + 3 * p + 2) 0 n 0 (λ x. absurd (omega arith))) (r .accepted);
+        states = λ q l. rw (getD-set-other ps (peerRow p + 2) (peerRow q) n 0 (λ x. absurd (omega arith))) (r .states q l);
+        users = λ q l. rw (getD-set-other ps (peerRow p + 2) (peerRow q + 1) n 0 (λ x. absurd (omega arith))) (r .users q l);
+        given = λ q l. under-set ps (peerRow p + 2) n (peerRow q + 2) modulus h (r .given q l);
+        accepted = rw (getD-set-other ps (peerRow p + 2) 0 n 0 (λ x. absurd (omega arith))) (r .accepted);
       }
 
 -- A peer's given IDs are at most n, and the numbers are in their ranges.
@@ -138,14 +139,14 @@ fits-more p n m ps l f = (f .0, omega (arith, f .1))
 -- A new ID raises them by one.
 numbered-raw : (p n : ℕ) (ps : List ℕ) → n + 1 < modulus → Fits p n ps → Fits p (n + 1) (numbered ps p .peers)
 unfolding numbered setGiven
-numbered-raw p n ps h f = (raw, go (look (ltb (1 + 3 * p + 2) (length ps))))
+numbered-raw p n ps h f = (raw, go (look (ltb (peerRow p + 2) (length ps))))
   where
     raw : RawPeers (setGiven ps p (givenAt ps p + 1))
     raw = peers-given ps (f .0) p (givenAt ps p + 1) (omega (arith, f .1))
 
-    go : Seen (ltb (1 + 3 * p + 2) (length ps)) → getD (set ps (1 + 3 * p + 2) (givenAt ps p + 1)) (1 + 3 * p + 2) 0 % modulus ≤ n + 1
-    go (is-true e) = rw (getD-set-same ps (1 + 3 * p + 2) (givenAt ps p + 1) 0 (ltb-true (1 + 3 * p + 2) (length ps) e)) (omega (arith, f .1))
-    go (is-false e) = rw (set-out ps (1 + 3 * p + 2) (givenAt ps p + 1) (ltb-false (1 + 3 * p + 2) (length ps) e)) (omega (arith, f .1))
+    go : Seen (ltb (peerRow p + 2) (length ps)) → getD (set ps (peerRow p + 2) (givenAt ps p + 1)) (peerRow p + 2) 0 % modulus ≤ n + 1
+    go (is-true e) = rw (getD-set-same ps (peerRow p + 2) (givenAt ps p + 1) 0 (ltb-true (peerRow p + 2) (length ps) e)) (omega (arith, f .1))
+    go (is-false e) = rw (set-out ps (peerRow p + 2) (givenAt ps p + 1) (ltb-false (peerRow p + 2) (length ps) e)) (omega (arith, f .1))
 
 given-raw : (ns ps hs : List ℕ) (r : Rings) (p s n : ℕ) → n + 1 < modulus → Fits p n ps → Fits p (n + 1) (givenTo ns ps hs r p s .peers)
 unfolding givenTo referenced shownTo
@@ -162,7 +163,7 @@ gives-raw ns ps hs r p n ss zero h f = fits-more p n (n + zero) ps (omega arith)
 gives-raw ns ps hs r p n ss (suc k) h f =
     let g = givesTo ns ps hs r p ss k in
     fits-more p (n + k + 1) (n + suc k) _ (omega arith)
-    (given-raw ns (g .peers) (g .handles) (g .rings) p (getD ss k 0 % 128) (n + k) (omega arith) (gives-raw ns ps hs r p n ss k (omega arith) f))
+    (given-raw ns (g .peers) (g .handles) (g .rings) p (getD ss k 0 % nodes) (n + k) (omega arith) (gives-raw ns ps hs r p n ss k (omega arith) f))
 
 -- Rings with the heads of others.
 abbrev pub SameHeads : Rings → Rings → Type 0
@@ -193,42 +194,42 @@ pub posted-heads : (f set : ℕ) (r : Rings) (e : Row) → SameHeads r (postedTo
 unfolding postedTo
 posted-heads zero set r e o = refl
 posted-heads (suc f) set r e o =
-    let q = trailingZeros 8 set % 8 in
+    let q = trailingZeros 8 set % peers in
     pick-all (λ (x : Rings). headOf (x .ends) o ≡ headOf (r .ends) o) (eqb set 0) r (postedTo (entered r q e) e (set - 2 ^ q) f) refl
     (posted-heads f (set - 2 ^ q) (entered r q e) e o ∙ enter-heads r q e o)
 
 pub told-heads : (f set : ℕ) (hs : List ℕ) (q kind n : ℕ) (r : Rings) → SameHeads r (told hs q kind n r set f)
 unfolding told
 told-heads zero set hs q kind n r o = refl
-told-heads (suc f) set hs q kind n r o = go (leastAt hs q set 16) (λ g r. told-heads f g hs q kind n r o)
+told-heads (suc f) set hs q kind n r o = go (leastAt hs q set slots) (λ g r. told-heads f g hs q kind n r o)
   where
     more : ℕ → Rings
-    more j = told hs q kind n (postedTo r (noticeOf kind (q * slots + j % slots) n) (addressees hs kind (q * slots + j % slots)) 8) (bits (aboveAt hs q set j) slots) f
+    more j = told hs q kind n (postedTo r (noticeOf kind (q * slots + j % slots) n) (addressees hs kind (q * slots + j % slots)) peers) (bits (aboveAt hs q set j) slots) f
 
     go : (x : Found) → ((g : ℕ) (r : Rings) → headOf (told hs q kind n r g f .ends) o ≡ headOf (r .ends) o) →
         headOf (following x more r .ends) o ≡ headOf (r .ends) o
     go Nothing ih = refl
     go (At j) ih =
         let s = q * slots + j % slots in
-        ih (bits (aboveAt hs q set j) slots) (postedTo r (noticeOf kind s n) (addressees hs kind s) 8) ∙ posted-heads 8 (addressees hs kind s) r (noticeOf kind s n) o
+        ih (bits (aboveAt hs q set j) slots) (postedTo r (noticeOf kind s n) (addressees hs kind s) peers) ∙ posted-heads peers (addressees hs kind s) r (noticeOf kind s n) o
 
 pub destroyed-heads : (ns hs : List ℕ) (r : Rings) (p set n : ℕ) → SameHeads r (destroyedSet ns hs r p set n .rings)
 unfolding destroyedSet
 destroyed-heads ns hs r p set n o =
-    told-heads 16 set hs p 1 n (withdrawn r p (releasedIn p set)) o ∙ withdraw-heads r p (releasedIn p set) o
+    told-heads slots set hs p kindDestroyed n (withdrawn r p (releasedIn p set)) o ∙ withdraw-heads r p (releasedIn p set) o
 
 pub owners-heads : (ns hs : List ℕ) (p n : ℕ) (r : Rings) (q : ℕ) → SameHeads r (toldOwners ns hs p n r q)
 unfolding toldOwners
 owners-heads ns hs p n r zero o = refl
 owners-heads ns hs p n r (suc q) o =
-    told-heads 16 (setOf ns hs q (Falling (record { 0 = p }))) hs q 2 n (toldOwners ns hs p n r q) o ∙ owners-heads ns hs p n r q o
+    told-heads slots (setOf ns hs q (Falling (record { 0 = p }))) hs q kindReleased n (toldOwners ns hs p n r q) o ∙ owners-heads ns hs p n r q o
 
 pub given-heads : (ns ps hs : List ℕ) (r : Rings) (p s : ℕ) → SameHeads r (givenTo ns ps hs r p s .rings)
 unfolding givenTo
 given-heads ns ps hs r p s o =
     pick-all (λ (x : Given). headOf (x .rings .ends) o ≡ headOf (r .ends) o) (liveAt ns s) _ _
-    (pick-all (λ (x : Rings). headOf (x .ends) o ≡ headOf (r .ends) o) (eqb (totalAt hs s) 1) (withdrawn r (s / slots) (oneSlot 4 s)) r
-    (withdraw-heads r (s / slots) (oneSlot 4 s) o) refl)
+    (pick-all (λ (x : Rings). headOf (x .ends) o ≡ headOf (r .ends) o) (eqb (totalAt hs s) 1) (withdrawn r (s / slots) (oneSlot releasedBit s)) r
+    (withdraw-heads r (s / slots) (oneSlot releasedBit s) o) refl)
     refl
 
 pub gives-heads : (ns ps hs : List ℕ) (r : Rings) (p : ℕ) (ss : List ℕ) (k : ℕ) → SameHeads r (givesTo ns ps hs r p ss k .rings)
@@ -236,31 +237,31 @@ unfolding givesTo
 gives-heads ns ps hs r p ss zero o = refl
 gives-heads ns ps hs r p ss (suc k) o =
     let g = givesTo ns ps hs r p ss k in
-    given-heads ns (g .peers) (g .handles) (g .rings) p (getD ss k 0 % 128) o ∙ gives-heads ns ps hs r p ss k o
+    given-heads ns (g .peers) (g .handles) (g .rings) p (getD ss k 0 % nodes) o ∙ gives-heads ns ps hs r p ss k o
 
 pub sent-heads : (q : Queues) (u nh : ℕ) (w : Places) (bytes : List ℕ) (n k : ℕ) → SameHeads (q .rings) (sentTo q u nh w bytes n k .rings)
 unfolding sentTo
 sent-heads q u nh w bytes n zero o = refl
 sent-heads q u nh w bytes n (suc k) o =
-    let s = getD (w .to) k 0 % 128 in
+    let s = getD (w .to) k 0 % nodes in
     enqueue-heads (sentTo q u nh w bytes n k) (s / slots) (messageTo s u (length bytes) nh (w .carried) n) bytes o ∙ sent-heads q u nh w bytes n k o
 
 pub notified-heads : (ns hs : List ℕ) (r : Rings) (s n : ℕ) → SameHeads r (notified ns hs r s n)
 unfolding notified
 notified-heads ns hs r s n o =
     pick-all (λ (x : Rings). headOf (x .ends) o ≡ headOf (r .ends) o) (liveAt ns s) _ _
-    (pick-all (λ (x : Rings). headOf (x .ends) o ≡ headOf (r .ends) o) (eqb (totalAt hs s) 1) (entered r (s / slots) (noticeOf 2 s n)) r
-    (enter-heads r (s / slots) (noticeOf 2 s n) o) refl)
+    (pick-all (λ (x : Rings). headOf (x .ends) o ≡ headOf (r .ends) o) (eqb (totalAt hs s) 1) (entered r (s / slots) (noticeOf kindReleased s n)) r
+    (enter-heads r (s / slots) (noticeOf kindReleased s n) o) refl)
     refl
 
 pub left-heads : (hs : List ℕ) (q : Queues) (p s : ℕ) → SameHeads (q .rings) (leftBehind hs q p s .rings)
 unfolding leftBehind forgotten
 left-heads hs q p s o =
-    let m = oneSlot (pick (eqb (s / slots) p) 7 6) s in
+    let m = oneSlot (pick (eqb (s / slots) p) allBits noticeBits) s in
     pick-all (λ (x : Queues). headOf (x .rings .ends) o ≡ headOf (q .rings .ends) o) (eqb (dropped hs p s .left) 0) (removedFrom q p m) q (removed-heads q p m o) refl
 
 -- The oldest entry taken out: the peer's head goes on, within its ring.
-pub popped-raw : (r : Rings) (p : ℕ) → length (r .ends) ≡ endCount → p < 8 → RawHeads (r .ends) → RawHeads (popped (r .ends) p)
+pub popped-raw : (r : Rings) (p : ℕ) → length (r .ends) ≡ endsSize → p < peers → RawHeads (r .ends) → RawHeads (popped (r .ends) p)
 popped-raw r p n l h q m = go (same? p q)
   where
     go : Same p q → headOf (popped (r .ends) p) q < ringSize
@@ -271,13 +272,13 @@ popped-raw r p n l h q m = go (same? p q)
 abbrev RawTaken : Taken → Type 0
 RawTaken x = RawPeers (x .peers) × RawHeads (x .queues .rings .ends)
 
-module _ (ps : List ℕ) (p : ℕ) (f : Fits p (8 * mostCommands) ps) where
+module _ (ps : List ℕ) (p : ℕ) (f : Fits p (mostIds * mostCommands) ps) where
   message-raw : (ns hs : List ℕ) (q : Queues) (e : Row) (out : List ℕ) → RawHeads (popped (q .rings .ends) p) → RawTaken (receivedMessage ps ns hs q p e out)
   unfolding receivedMessage
   message-raw ns hs q e out h =
       let after = ringsAfter (q .rings) (popped (q .rings .ends) p) in (
-        gives-raw ns ps hs after p (8 * mostCommands) (e .carried) (min (e .nh) 8) (omega arith) f .0,
-        heads-raw after (givesTo ns ps hs after p (e .carried) (min (e .nh) 8) .rings) (gives-heads ns ps hs after p (e .carried) (min (e .nh) 8)) h,
+        gives-raw ns ps hs after p (mostIds * mostCommands) (e .carried) (min (e .nh) mostIds) (omega arith) f .0,
+        heads-raw after (givesTo ns ps hs after p (e .carried) (min (e .nh) mostIds) .rings) (gives-heads ns ps hs after p (e .carried) (min (e .nh) mostIds)) h,
       )
 
   received-raw : (old ns hs : List ℕ) (q : Queues) (out : List ℕ) → countCommand old ≡ ps → RawHeads (popped (q .rings .ends) p) → RawTaken (received old ns hs q p out)
@@ -310,7 +311,7 @@ module _ (b : Bus) (r : Raw b) (g : Good (stateOf b)) where
   raw-destroy p s =
       raw-parts (afterDestroy b p s) number-raw
       (heads-raw (b .rings) (afterDestroy b p s .rings)
-      (destroyed-heads (b .nodes) (b .handles) (b .rings) p (oneSlot 4 s .mask) (counted (b .peers) .number)) (r .heads))
+      (destroyed-heads (b .nodes) (b .handles) (b .rings) p (oneSlot releasedBit s .mask) (counted (b .peers) .number)) (r .heads))
 
   pub raw-release : (p s : ℕ) → Raw (afterRelease b p s)
   unfolding releases
@@ -334,7 +335,7 @@ module _ (b : Bus) (r : Raw b) (g : Good (stateOf b)) where
       raw-parts (afterDisconnect b p) (peers-disconnected (counted (b .peers) .peers) number-raw p)
       (heads-raw (b .rings) (afterDisconnect b p .rings)
       (λ o.
-      owners-heads (d .nodes) (b .handles) p (counted (b .peers) .number) (ringsAfter (d .rings) (cleared (d .rings .ends) p)) 8 o
+      owners-heads (d .nodes) (b .handles) p (counted (b .peers) .number) (ringsAfter (d .rings) (cleared (d .rings .ends) p)) peers o
       ∙ clear-heads (d .rings) p o
       ∙ destroyed-heads (b .nodes) (b .handles) (b .rings) p (setOf (b .nodes) (b .handles) p Living) (counted (b .peers) .number) o)
       (r .heads))
@@ -343,22 +344,22 @@ module _ (b : Bus) (r : Raw b) (g : Good (stateOf b)) where
       d = destroyedSet (b .nodes) (b .handles) (b .rings) p (setOf (b .nodes) (b .handles) p Living) (counted (b .peers) .number)
 
   -- Of the receiver's given IDs.
-  given-few : (p : ℕ) → p < 8 → Fits p (8 * mostCommands) (countCommand (b .peers))
+  given-few : (p : ℕ) → p < peers → Fits p (mostIds * mostCommands) (countCommand (b .peers))
   unfolding countCommand
   given-few p l = (
     counted-raw,
-    let e : getD (set (b .peers) 0 (nextNumber (b .peers))) (1 + 3 * p + 2) 0 ≡ getD (b .peers) (1 + 3 * p + 2) 0 =
-        getD-set-other (b .peers) 0 (1 + 3 * p + 2) (nextNumber (b .peers)) 0 (λ x. absurd (omega arith)) in
+    let e : getD (set (b .peers) 0 (nextNumber (b .peers))) (peerRow p + 2) 0 ≡ getD (b .peers) (peerRow p + 2) 0 =
+        getD-set-other (b .peers) 0 (peerRow p + 2) (nextNumber (b .peers)) 0 (λ x. absurd (omega arith)) in
         omega (arith, e, given-is (b .peers) p l, g .bounded .given p, g .bounded .few),
   )
 
-  pub raw-transfer : (q s : ℕ) → q < 8 → Raw (afterTransfer b q s)
+  pub raw-transfer : (q s : ℕ) → q < peers → Raw (afterTransfer b q s)
   unfolding transfers
   raw-transfer q s l =
-      raw-parts (afterTransfer b q s) (given-raw (b .nodes) (countCommand (b .peers)) (b .handles) (b .rings) q s (8 * mostCommands) (omega arith) (given-few q l) .0)
+      raw-parts (afterTransfer b q s) (given-raw (b .nodes) (countCommand (b .peers)) (b .handles) (b .rings) q s (mostIds * mostCommands) (omega arith) (given-few q l) .0)
       (heads-raw (b .rings) (afterTransfer b q s .rings) (given-heads (b .nodes) (countCommand (b .peers)) (b .handles) (b .rings) q s) (r .heads))
 
-  pub raw-receive : (p : ℕ) (out : List ℕ) → Shape b → p < 8 → Raw (afterReceive b p out)
+  pub raw-receive : (p : ℕ) (out : List ℕ) → Shape b → p < peers → Raw (afterReceive b p out)
   raw-receive p out s l =
       let t = received-raw (countCommand (b .peers)) p (given-few p l) (b .peers) (b .nodes) (b .handles) (queuesIn b) out refl
       (popped-raw (b .rings) p (s .ends) l (r .heads)) in
@@ -368,15 +369,15 @@ module _ (b : Bus) (r : Raw b) (g : Good (stateOf b)) where
 pub record InRange (b : Bus) (p : ℕ) : Type 0 where
   pub state : stateAt (b .peers) p ≤ 2
   pub user : userAt (b .peers) p ≤ 3
-  pub given : getD (b .peers) (peerRow p + 2) 0 < 17592186044416
-  pub head : headOf (b .rings .ends) p < 512
-  pub short : lengthOf (b .rings .ends) p ≤ 512
+  pub given : getD (b .peers) (peerRow p + 2) 0 < givenEnd
+  pub head : headOf (b .rings .ends) p < ringSize
+  pub short : lengthOf (b .rings .ends) p ≤ ringSize
 
 module _ (b : Bus) (r : Raw b) (g : Good (stateOf b)) where
-  pub ranges-accepted : getD (b .peers) 0 0 < 1099511627776
+  pub ranges-accepted : getD (b .peers) 0 0 < acceptedEnd
   ranges-accepted = omega (arith, r .accepted, g .bounded .few, accepted-is (b .peers))
 
-  pub ranges-ok : (p : ℕ) → p < 8 → InRange b p
+  pub ranges-ok : (p : ℕ) → p < peers → InRange b p
   ranges-ok p l =
       record {
         state = r .states p l;

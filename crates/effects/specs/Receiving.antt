@@ -16,7 +16,7 @@ use Rattle.laws.specs.Weights.{All, all-at}
 use Rattle.answers.specs.declared.Answer.{Answer}
 use Rattle.answers.specs.Answer.{answerAfter, outcomeOf}
 use Rattle.rings.specs.declared.Entry.{Entry as Row}
-use Rattle.rings.specs.Rings.{ringSize, lengthOf, queueOf, firstOf, popped, kindBit}
+use Rattle.rings.specs.Rings.{kindDestroyed, kindReleased, ringSize, lengthOf, queueOf, firstOf, popped, kindBit, kindCount}
 use Rattle.rings.specs.Laws.{afterPop, pop-own}
 use Rattle.pool.specs.Pool.{areaSize, bytesIn, Pair, sumOf}
 use Rattle.tables.specs.Charges.{chargesAt}
@@ -37,9 +37,9 @@ use Rattle.model.specs.Notices.{Stands}
 use Rattle.model.specs.Counts.{total-one}
 use Rattle.model.specs.IdsLaws.{Holding}
 use Rattle.model.specs.IdsProof.{holding-out}
-use Rattle.view.specs.View.{Bus, Shape, entryV, queueV, stateOf}
+use Rattle.view.specs.View.{Bus, Shape, entryV, queueV, stateOf, setPeers, setHandles}
 use Rattle.view.specs.Rows.{area-length}
-use Rattle.queues.specs.Queues.{Queues, Short, usedOf, isMessage, takenOut, followsIn}
+use Rattle.queues.specs.Queues.{Queues, Short, usedOf, isMessage, takenOut, followsIn, setQueues, shape-queues, setQueued}
 use Rattle.queues.specs.Asking.{messageV, Kind, Kind.is-message, Kind.is-destroyed, Kind.is-released, kind, frontV, front-view, front-whole, follows-view, area-piece}
 use Rattle.queues.specs.Entering.{Filled}
 use Rattle.queues.specs.Leaving.{taken-view, taken-discharged, taken-same, taken-message, taken-notice, taken-rows, taken-ends, taken-pool, taken-charged, taken-short}
@@ -50,25 +50,19 @@ use Rattle.effects.specs.Effects.{ringsAfter, messageAnswer, shownIds, s
 use Rattle.effects.specs.After.{queuesIn, afterTransfer, afterReceive}
 use Rattle.effects.specs.Good.{Good}
 use Rattle.effects.specs.Counting.{counting, shape-counted, counted-view}
-use Rattle.effects.specs.Releasing.{queueing, good-filled, good-short}
+use Rattle.effects.specs.Releasing.{good-filled, good-short}
+use Rattle.ids.specs.Sizes.{peers, slots, mostIds, carriedFields}
 
 -- The oldest entry taken out of a queue.
-module _ (b : Bus) (p : ℕ) (h : Shape b) (l : p < 8) (some : 0 < lengthOf (b .rings .ends) p) (filled : Filled (queuesIn b)) where
+module _ (b : Bus) (p : ℕ) (h : Shape b) (l : p < peers) (some : 0 < lengthOf (b .rings .ends) p) (filled : Filled (queuesIn b)) where
   abbrev pub taking : Bus
-  taking = queueing b (takenOut (queuesIn b) p (firstOf (b .rings) p))
+  taking = setQueues b (takenOut (queuesIn b) p (firstOf (b .rings) p))
 
   pub shape-taken : Shape taking
   shape-taken =
       let e = firstOf (b .rings) p in
-      record {
-        peers = h .peers;
-        nodes = h .nodes;
-        handles = h .handles;
-        charges = taken-charged (queuesIn b) p e ∙ h .charges;
-        ends = taken-ends (queuesIn b) p e ∙ h .ends;
-        rows = taken-rows (queuesIn b) p e (h .rows);
-        pool = taken-pool (queuesIn b) p e ∙ h .pool;
-      }
+      shape-queues h (taken-charged (queuesIn b) p e ∙ h .charges) (taken-ends (queuesIn b) p e ∙ h .ends) (taken-rows (queuesIn b) p e (h .rows))
+      (taken-pool (queuesIn b) p e ∙ h .pool)
 
   taken-queues : queueV (taking .rings) (taking .pool) ≡ upd (queueV (b .rings) (b .pool)) p (drop 1 (queueV (b .rings) (b .pool) p))
   taken-queues = taken-view (queuesIn b) p (firstOf (b .rings) p) (h .ends) (h .pool) l some (filled .within) (filled .used p l) refl
@@ -88,9 +82,9 @@ module _ (b : Bus) (p : ℕ) (h : Shape b) (l : p < 8) (some : 0 < lengthOf (b .
       )
 
 -- The ID that an answer shows.
-pub shown-id : (hs : List ℕ) (p s : ℕ) → p < 8 → s < 128 → idOrInvalid hs p (s % 128) ≡ idOr invalid (handleV hs p s)
+pub shown-id : (hs : List ℕ) (p s : ℕ) → p < peers → s < nodes → idOrInvalid hs p (s % nodes) ≡ idOr invalid (handleV hs p s)
 unfolding idOrInvalid
-shown-id hs p s l m = let e : s % 128 ≡ s = omega arith in rw e (sym (id-is hs p s l m invalid))
+shown-id hs p s l m = let e : s % nodes ≡ s = omega arith in rw e (sym (id-is hs p s l m invalid))
 
 -- What is shown does not depend on how many commands were accepted.
 give-accepted : (x : State) (p s : ℕ) → give (accept x) p s ≡ accept (give x p s)
@@ -110,23 +104,23 @@ take-accepted : (x : State) (p : ℕ) (ms : List Message) (rest : List Entry) �
 unfolding takeOut withCharges withQueues accept
 take-accepted x p ms rest = refl
 
-past-handles : (hs : List ℕ) (q s : ℕ) → ltb q 8 ≡ false → handleV hs q s ≡ none
+past-handles : (hs : List ℕ) (q s : ℕ) → ltb q peers ≡ false → handleV hs q s ≡ none
 unfolding handleV upto
 past-handles hs q s e = rw e
 
 -- How far counts and given IDs of a state are from the end of what is read of them.
-few-counts : (b : Bus) → Good (stateOf b) → (q s : ℕ) → count (stateOf b .handle q s) ≤ 8 * stateOf b .accepted
-few-counts b g q s = go (look (ltb q 8))
+few-counts : (b : Bus) → Good (stateOf b) → (q s : ℕ) → count (stateOf b .handle q s) ≤ mostIds * stateOf b .accepted
+few-counts b g q s = go (look (ltb q peers))
   where
-    go : Seen (ltb q 8) → count (handleV (b .handles) q s) ≤ 8 * stateOf b .accepted
-    go (is-true e) = omega (arith, total-one (handleV (b .handles)) s q (ltb-true q 8 e), g .bounded .sums s)
+    go : Seen (ltb q peers) → count (handleV (b .handles) q s) ≤ mostIds * stateOf b .accepted
+    go (is-true e) = omega (arith, total-one (handleV (b .handles)) s q (ltb-true q peers e), g .bounded .sums s)
     go (is-false e) = rw (past-handles (b .handles) q s e) (omega arith)
 
 good-lone : (b : Bus) → Good (stateOf b) → Lone (handleV (b .handles)) (queueV (b .rings) (b .pool))
 good-lone b g = lone-stands (stateOf b .handle) (stateOf b .life) (stateOf b .queue) (g .noted .stands)
 
 -- A transfer.
-module _ (b : Bus) (q s : ℕ) (h : Shape b) (g : Good (stateOf b)) (l : q < 8) (m : s < 128) where
+module _ (b : Bus) (q s : ℕ) (h : Shape b) (g : Good (stateOf b)) (l : q < peers) (m : s < nodes) where
   transferred-is : afterTransfer b q s ≡ givenBus (counting b) (givenOn (counting b) q s)
   unfolding transfers
   transferred-is = refl
@@ -138,8 +132,8 @@ module _ (b : Bus) (q s : ℕ) (h : Shape b) (g : Good (stateOf b)) (l : q < 8) 
   numbered =
       omega (arith, given-is (countCommand (b .peers)) q l, ap (λ (f : ℕ → ℕ). f q) (given-counted (b .peers)), g .bounded .given q, g .bounded .few)
 
-  near : lengthOf (b .rings .ends) (s / 16) ≤ ringSize
-  near = let k : s / 16 < 8 = omega arith in omega (arith, good-short b g (s / 16) k)
+  near : lengthOf (b .rings .ends) (s / slots) ≤ ringSize
+  near = let k : s / slots < peers = omega arith in omega (arith, good-short b g (s / slots) k)
 
   pub transfer-view : stateOf (afterTransfer b q s) ≡ give (accept (stateOf b)) q s
   transfer-view =
@@ -173,18 +167,18 @@ answers-same : (a c : Answer) (is js bs ds out : List ℕ) → a ≡ c → is �
 answers-same a c is js bs ds out e f g = rw (e, f, g) (refl, refl)
 
 kind-bit : (k j : ℕ) → kindBit k ≡ suc j → k ≡ suc j
-kind-bit k j e = go (look (ltb k 3))
+kind-bit k j e = go (look (ltb k kindCount))
   where
-    go : Seen (ltb k 3) → k ≡ suc j
+    go : Seen (ltb k kindCount) → k ≡ suc j
     go (is-true s) = rw s at e
     go (is-false s) = let z : 0 ≡ suc j = rw s at e in absurd (omega arith)
 
 -- The bus after a receive, of what the receive leaves.
 abbrev takenBus : Bus → Taken → Bus
-takenBus b x = record { peers = x .peers; nodes = b .nodes; handles = x .handles; charges = x .queues .charges; rings = x .queues .rings; pool = x .queues .pool }
+takenBus b x = setQueues (setHandles (setPeers b (x .peers)) (x .handles)) (x .queues)
 
 -- A receive of a queue that is not empty.
-module _ (b : Bus) (p : ℕ) (out : List ℕ) (h : Shape b) (g : Good (stateOf b)) (l : p < 8) (some : 0 < lengthOf (b .rings .ends) p) where
+module _ (b : Bus) (p : ℕ) (out : List ℕ) (h : Shape b) (g : Good (stateOf b)) (l : p < peers) (some : 0 < lengthOf (b .rings .ends) p) where
   abbrev entry : Row
   entry = firstOf (b .rings) p
 
@@ -216,13 +210,13 @@ module _ (b : Bus) (p : ℕ) (out : List ℕ) (h : Shape b) (g : Good (stateOf b
   -- A notice.
   module _ (k : isMessage entry ≡ false) where
     left-notice : made ≡ (let x = noticeTaken (b .handles) (b .rings .ends) p entry out in
-        receivedOf (x .outcome) (x .out) (countCommand (b .peers)) (b .handles) (record { charges = b .charges; rings = ringsAfter (b .rings) (x .ends); pool = b .pool }))
+        receivedOf (x .outcome) (x .out) (countCommand (b .peers)) (b .handles) (setQueued (queuesIn b) (ringsAfter (b .rings) (x .ends))))
     unfolding received
     left-notice = rw k
 
     bus-notice : takenBus b made ≡ took
     unfolding noticeTaken
-    bus-notice = ap (takenBus b) left-notice ∙ sym (ap (queueing (counting b)) (taken-notice (queuesIn b) p entry k))
+    bus-notice = ap (takenBus b) left-notice ∙ sym (ap (setQueues (counting b)) (taken-notice (queuesIn b) p entry k))
 
     view-notice : stateOf (afterReceive b p out) ≡ takeOut (accept (stateOf b)) p [] rest
     view-notice = ap stateOf bus-notice ∙ take-notice (counting b) p (shape-counted b h) l some (good-filled b g) k ∙ ap (λ (x : State). takeOut x p [] rest) (counted-view b h g)
@@ -232,22 +226,22 @@ module _ (b : Bus) (p : ℕ) (out : List ℕ) (h : Shape b) (g : Good (stateOf b
     answer-notice r e = rw (left-notice, e) (refl, refl)
 
   -- Of each kind: the slot is one of a node, and the answer the model's.
-  destroyed-slot : Stands (stateOf b .handle) (stateOf b .life) p (destroyed (entry .number) (entry .slot)) → entry .slot < 128
+  destroyed-slot : Stands (stateOf b .handle) (stateOf b .life) p (destroyed (entry .number) (entry .slot)) → entry .slot < nodes
   destroyed-slot z = g .noted .holders p (entry .slot) (z .1) .1
 
-  released-slot : Stands (stateOf b .handle) (stateOf b .life) p (released (entry .number) (entry .slot)) → entry .slot < 128
+  released-slot : Stands (stateOf b .handle) (stateOf b .life) p (released (entry .number) (entry .slot)) → entry .slot < nodes
   released-slot z = g .noted .holders (owner (entry .slot)) (entry .slot) (g .noted .owned (entry .slot) (z .0)) .1
 
-  message-slot : Stands (stateOf b .handle) (stateOf b .life) p (message (entry .number) (messageV front)) → entry .slot < 128
+  message-slot : Stands (stateOf b .handle) (stateOf b .life) p (message (entry .number) (messageV front)) → entry .slot < nodes
   message-slot z = g .noted .holders p (entry .slot) (z .1) .1
 
-  shows-destroyed : kindBit (entry .kind) ≡ 1 → entryV front ≡ destroyed (entry .number) (entry .slot) → rep ≡ plain (noticeAnswer (b .handles) p entry)
+  shows-destroyed : kindBit (entry .kind) ≡ kindDestroyed → entryV front ≡ destroyed (entry .number) (entry .slot) → rep ≡ plain (noticeAnswer (b .handles) p entry)
   unfolding noticeAnswer
   shows-destroyed k f =
       ap (shows (stateOf b) p) (whole ∙ ap (λ (x : Entry). x ∷ rest) f)
       ∙ rw (kind-bit (entry .kind) 0 k, shown-id (b .handles) p (entry .slot) l (destroyed-slot (rw f at standing)))
 
-  shows-released : kindBit (entry .kind) ≡ 2 → entryV front ≡ released (entry .number) (entry .slot) → rep ≡ plain (noticeAnswer (b .handles) p entry)
+  shows-released : kindBit (entry .kind) ≡ kindReleased → entryV front ≡ released (entry .number) (entry .slot) → rep ≡ plain (noticeAnswer (b .handles) p entry)
   unfolding noticeAnswer
   shows-released k f =
       ap (shows (stateOf b) p) (whole ∙ ap (λ (x : Entry). x ∷ rest) f)
@@ -271,17 +265,17 @@ module _ (b : Bus) (p : ℕ) (out : List ℕ) (h : Shape b) (g : Good (stateOf b
     unfolding shownBytes
     piece = rw bytes-used (sym (area-piece (b .pool) p (bytesIn entry) (omega (arith, h .pool, bytes-fit))))
 
-    eight : length (entry .carried) ≡ 8
+    eight : length (entry .carried) ≡ carriedFields
     eight = front-whole (b .rings) (b .pool) p (h .ends) l some .eight
 
-    handles : length (take (entry .nh) (entry .carried)) ≡ min (entry .nh) 8
+    handles : length (take (entry .nh) (entry .carried)) ≡ min (entry .nh) mostIds
     handles = length-take (entry .nh) (entry .carried) ∙ ap (min (entry .nh)) eight
 
     follows : followsIn (b .rings) p (entry .number) ≡ any (ofSend (entry .number)) rest
     follows = follows-view (b .rings) (b .pool) p (entry .number) (h .ends) l some (g .ordered p .in-order) refl
 
     abbrev header : Answer
-    header = messageAnswer (b .charges) p (record { 0 = idOrInvalid (b .handles) p (entry .slot % 128) }) (followsIn (b .rings) p (entry .number)) entry
+    header = messageAnswer (b .charges) p (record { 0 = idOrInvalid (b .handles) p (entry .slot % nodes) }) (followsIn (b .rings) p (entry .number)) entry
 
     answer-header : header ≡ showsMessage (stateOf b) p (entry .number) (messageV front) rest .answer
     unfolding messageAnswer showsMessage
@@ -289,12 +283,12 @@ module _ (b : Bus) (p : ℕ) (out : List ℕ) (h : Shape b) (g : Good (stateOf b
         rw (bytes-used, shown-id (b .handles) p (entry .slot) l (message-slot stands), follows, handles, area-length (b .pool) p (bytesIn entry))
 
     abbrev many : ℕ
-    many = min (entry .nh) 8
+    many = min (entry .nh) mostIds
 
     carried-same : take many (entry .carried) ≡ messageV front .carried
     carried-same = ap (λ (k : ℕ). take (min (entry .nh) k) (entry .carried)) (sym eight) ∙ take-most (entry .nh) (entry .carried)
 
-    carried-low : All (λ s. s < 128) (take many (entry .carried))
+    carried-low : All (λ s. s < nodes) (take many (entry .carried))
     carried-low = rw carried-same (stands .2 .1)
 
     -- The bus that gives what the message carries.
@@ -306,7 +300,7 @@ module _ (b : Bus) (p : ℕ) (out : List ℕ) (h : Shape b) (g : Good (stateOf b
     unfolding receivedMessage
     bus-message =
         ap (takenBus b) left-message
-        ∙ sym (ap (λ (q : Queues). givesBus (queueing (counting b) q) (givesOn (queueing (counting b) q) p (entry .carried) many)) (taken-message (queuesIn b) p entry k))
+        ∙ sym (ap (λ (q : Queues). givesBus (setQueues (counting b) q) (givesOn (setQueues (counting b) q) p (entry .carried) many)) (taken-message (queuesIn b) p entry k))
 
     lone : Lone (handleV (took .handles)) (queueV (took .rings) (took .pool))
     lone =
@@ -339,9 +333,9 @@ module _ (b : Bus) (p : ℕ) (out : List ℕ) (h : Shape b) (g : Good (stateOf b
         (λ j lj. low-at j lj)
         (λ q s. omega (arith, few-counts b g q s, g .bounded .few)) given-few)
       where
-        low-at : (j : ℕ) → j < many → getD (entry .carried) j 0 < 128
+        low-at : (j : ℕ) → j < many → getD (entry .carried) j 0 < nodes
         low-at j lj =
-            rw (getD-take many (entry .carried) j 0 lj) at (all-at (λ s. s < 128) (take many (entry .carried)) j 0 carried-low (omega (arith, length-take-le many (entry .carried) (omega (arith, eight)))))
+            rw (getD-take many (entry .carried) j 0 lj) at (all-at (λ s. s < nodes) (take many (entry .carried)) j 0 carried-low (omega (arith, length-take-le many (entry .carried) (omega (arith, eight)))))
 
     view-message : stateOf (afterReceive b p out) ≡ giveAll (takeOut (accept (stateOf b)) p (messageV front ∷ []) rest) p (messageV front .carried)
     view-message =
@@ -357,7 +351,7 @@ module _ (b : Bus) (p : ℕ) (out : List ℕ) (h : Shape b) (g : Good (stateOf b
         ≡ showsMessage (stateOf b) p (entry .number) (messageV front) rest .ids
     unfolding shownIds showsMessage
     ids-left =
-        ap (λ (q : Queues). take many (givesOn (queueing (counting b) q) p (entry .carried) many .ids)) (sym (taken-message (queuesIn b) p entry k)) ∙ ids-message
+        ap (λ (q : Queues). take many (givesOn (setQueues (counting b) q) p (entry .carried) many .ids)) (sym (taken-message (queuesIn b) p entry k)) ∙ ids-message
 
     answer-message : Answers (showsMessage (stateOf b) p (entry .number) (messageV front) rest)
     unfolding receivedMessage

@@ -11,7 +11,7 @@ use Rattle.laws.specs.Tests.{pick, pick-all, Seen, Seen.is-true, Seen.is-false,
 use Rattle.laws.specs.Tables.{upd, upd-same, upd-other}
 use Rattle.laws.specs.Sums.{sum-at}
 use Rattle.rings.specs.declared.Match.{Match}
-use Rattle.rings.specs.Rings.{slots, ringSize, Rings, lengthOf, matches, oneSlot}
+use Rattle.rings.specs.Rings.{kindReleased, noticeBits, allBits, slots, ringSize, Rings, lengthOf, matches, oneSlot}
 use Rattle.pool.specs.Pool.{Pair}
 use Rattle.tables.specs.Handles.{idAt, countAt, totalAt, reduced}
 use Rattle.tables.specs.HandlesView.{handleV, handle-is, handle-reduced, count-is, total-is, reduced-length}
@@ -19,15 +19,15 @@ use Rattle.tables.specs.Nodes.{liveAt}
 use Rattle.tables.specs.NodesView.{live-is}
 use Rattle.tables.specs.Peers.{modulus}
 use Rattle.tables.specs.PeersView.{acceptedV}
-use Rattle.model.specs.Numbers.{peers, owner}
+use Rattle.model.specs.Numbers.{nodes, peers, owner}
 use Rattle.model.specs.State.{Handle, Handle.some, handleOf, count, idOr, Entry, Entry.released, State, total, isLive}
 use Rattle.model.specs.Tables.{accept, withHandle, withHandles, withQueues, withCharges}
 use Rattle.model.specs.Changes.{takeOut, forget, remains, dropped, push, fell, notify}
 use Rattle.model.specs.Effects as model
 use Rattle.model.specs.Counts.{put, count-handle}
-use Rattle.view.specs.View.{Bus, Shape, entryV, queueV, stateOf}
+use Rattle.view.specs.View.{Bus, Shape, entryV, queueV, stateOf, setHandles, setRings, shape-handles, shape-rings}
 use Rattle.view.specs.Rows.{queue-count}
-use Rattle.queues.specs.Queues.{Queues, isMessage, entered, removedFrom}
+use Rattle.queues.specs.Queues.{Queues, isMessage, entered, removedFrom, setQueues, shape-queues}
 use Rattle.queues.specs.Asking.{messageV}
 use Rattle.queues.specs.Entering.{Filled, filled-view, enter-view, enter-sized, enter-ends, entry-released, notice-bytes}
 use Rattle.queues.specs.Leaving.{remove-view, remove-charges, remove-rows, remove-ended, remove-less, remove-others, remove-pool, remove-charged, remains-own, dropped-own, remains-other, dropped-other}
@@ -37,46 +37,27 @@ use Rattle.effects.specs.After.{queuesIn, afterRelease}
 use Rattle.effects.specs.Good.{Good}
 use Rattle.effects.specs.Counting.{counting, shape-counted, counted-view}
 
--- A bus with other handles, with other queues, with other rings.
-abbrev pub handling : Bus → List ℕ → Bus
-handling b hs = record { peers = b .peers; nodes = b .nodes; handles = hs; charges = b .charges; rings = b .rings; pool = b .pool }
-
-abbrev pub queueing : Bus → Queues → Bus
-queueing b q = record { peers = b .peers; nodes = b .nodes; handles = b .handles; charges = q .charges; rings = q .rings; pool = q .pool }
-
-abbrev pub ringing : Bus → Rings → Bus
-ringing b r = record { peers = b .peers; nodes = b .nodes; handles = b .handles; charges = b .charges; rings = r; pool = b .pool }
-
 -- What is known of a state, of its tables: no queue is near the end of its ring, and the areas are filled by their queues.
 pub good-filled : (b : Bus) → Good (stateOf b) → Filled (queuesIn b)
 good-filled b g = filled-view (queuesIn b) (λ o l. g .charged .at o)
 
-pub good-short : (b : Bus) → Good (stateOf b) → (o : ℕ) → o < 8 → lengthOf (b .rings .ends) o ≤ 188
+pub good-short : (b : Bus) → Good (stateOf b) → (o : ℕ) → o < peers → lengthOf (b .rings .ends) o ≤ 188
 good-short b g o l = omega (arith, queue-count (b .rings) (b .pool) o l, g .short o)
 
 -- A handle written.
-pub reduce-view : (b : Bus) (p s : ℕ) → Shape b → p < 8 → s < 128 →
-    stateOf (handling b (reduced (b .handles) p s)) ≡ withHandle (stateOf b) p s (handleOf (idAt (b .handles) p s) (countAt (b .handles) p s - 1))
+pub reduce-view : (b : Bus) (p s : ℕ) → Shape b → p < peers → s < nodes →
+    stateOf (setHandles b (reduced (b .handles) p s)) ≡ withHandle (stateOf b) p s (handleOf (idAt (b .handles) p s) (countAt (b .handles) p s - 1))
 unfolding withHandles
 reduce-view b p s h l m = rw (handle-reduced (b .handles) (h .handles) p s l m)
 
-pub shape-reduce : (b : Bus) (p s : ℕ) → Shape b → Shape (handling b (reduced (b .handles) p s))
-shape-reduce b p s h =
-    record {
-      peers = h .peers;
-      nodes = h .nodes;
-      handles = reduced-length (b .handles) p s ∙ h .handles;
-      charges = h .charges;
-      ends = h .ends;
-      rows = h .rows;
-      pool = h .pool;
-    }
+pub shape-reduce : (b : Bus) (p s : ℕ) → Shape b → Shape (setHandles b (reduced (b .handles) p s))
+shape-reduce b p s h = shape-handles h (reduced-length (b .handles) p s ∙ h .handles)
 
 -- What goes with a handle.
-module _ (b : Bus) (p s : ℕ) (h : Shape b) (l : p < 8) (short : lengthOf (b .rings .ends) p ≤ ringSize) (filled : Filled (queuesIn b)) where
+module _ (b : Bus) (p s : ℕ) (h : Shape b) (l : p < peers) (short : lengthOf (b .rings .ends) p ≤ ringSize) (filled : Filled (queuesIn b)) where
   one-forgotten : (k : ℕ) → ((x : Pair) → remains p s (entryV x) ≡ not (matches (oneSlot k s) (x .entry))) →
       ((x : Pair) → isMessage (x .entry) ≡ true → matches (oneSlot k s) (x .entry) ≡ dropped p s (messageV x)) →
-      stateOf (queueing b (removedFrom (queuesIn b) p (oneSlot k s))) ≡ forget (stateOf b) p s
+      stateOf (setQueues b (removedFrom (queuesIn b) p (oneSlot k s))) ≡ forget (stateOf b) p s
   unfolding forget takeOut withCharges withQueues
   one-forgotten k stay go =
       rw (
@@ -84,34 +65,27 @@ module _ (b : Bus) (p s : ℕ) (h : Shape b) (l : p < 8) (short : lengthOf (b .r
         remove-charges (queuesIn b) p (oneSlot k s) (dropped p s) (h .charges) l short go,
       )
 
-  pub forget-view : stateOf (queueing b (forgotten (queuesIn b) p s)) ≡ forget (stateOf b) p s
+  pub forget-view : stateOf (setQueues b (forgotten (queuesIn b) p s)) ≡ forget (stateOf b) p s
   unfolding forgotten
   forget-view = go (same? (s / slots) p)
     where
-      go : Same (s / slots) p → stateOf (queueing b (removedFrom (queuesIn b) p (oneSlot (pick (eqb (s / slots) p) 7 6) s))) ≡ forget (stateOf b) p s
-      go (same e) = rw (eq-eqb (s / slots) p e) (one-forgotten 7 (remains-own p s e) (dropped-own p s e))
-      go (other d) = rw (ne-eqb (s / slots) p d) (one-forgotten 6 (remains-other p s d) (dropped-other p s d))
+      go : Same (s / slots) p → stateOf (setQueues b (removedFrom (queuesIn b) p (oneSlot (pick (eqb (s / slots) p) allBits noticeBits) s))) ≡ forget (stateOf b) p s
+      go (same e) = rw (eq-eqb (s / slots) p e) (one-forgotten allBits (remains-own p s e) (dropped-own p s e))
+      go (other d) = rw (ne-eqb (s / slots) p d) (one-forgotten noticeBits (remains-other p s d) (dropped-other p s d))
 
-  pub shape-forgotten : Shape (queueing b (forgotten (queuesIn b) p s))
+  pub shape-forgotten : Shape (setQueues b (forgotten (queuesIn b) p s))
   unfolding forgotten
   shape-forgotten =
-      let m = oneSlot (pick (eqb (s / slots) p) 7 6) s in
-      record {
-        peers = h .peers;
-        nodes = h .nodes;
-        handles = h .handles;
-        charges = remove-charged (queuesIn b) p m ∙ h .charges;
-        ends = remove-ended (queuesIn b) p m ∙ h .ends;
-        rows = remove-rows (queuesIn b) p m (h .rows);
-        pool = remove-pool (queuesIn b) p m (h .pool) l (filled .within p l) ∙ h .pool;
-      }
+      let m = oneSlot (pick (eqb (s / slots) p) allBits noticeBits) s in
+      shape-queues h (remove-charged (queuesIn b) p m ∙ h .charges) (remove-ended (queuesIn b) p m ∙ h .ends) (remove-rows (queuesIn b) p m (h .rows))
+      (remove-pool (queuesIn b) p m (h .pool) l (filled .within p l) ∙ h .pool)
 
   pub forgotten-less : (o : ℕ) → lengthOf (forgotten (queuesIn b) p s .rings .ends) o ≤ lengthOf (b .rings .ends) o
   unfolding forgotten
   forgotten-less o = go (same? p o)
     where
       m : Match
-      m = oneSlot (pick (eqb (s / slots) p) 7 6) s
+      m = oneSlot (pick (eqb (s / slots) p) allBits noticeBits) s
 
       go : Same p o → lengthOf (removedFrom (queuesIn b) p m .rings .ends) o ≤ lengthOf (b .rings .ends) o
       go (same e) = rw (← e) (remove-less (queuesIn b) p m (h .ends) l)
@@ -122,55 +96,46 @@ unchosen true y z = refl
 unchosen false y z = refl
 
 -- The notice at the owner, of a state a before the command whose sum of counts was above 1 where it is 1 now.
-module _ (a : State) (b : Bus) (s n : ℕ) (h : Shape b) (l : s < 128) (number : n ≡ stateOf b .accepted) (room : lengthOf (b .rings .ends) (s / slots) < ringSize)
+module _ (a : State) (b : Bus) (s n : ℕ) (h : Shape b) (l : s < nodes) (number : n ≡ stateOf b .accepted) (room : lengthOf (b .rings .ends) (s / slots) < ringSize)
     (above : total (handleV (b .handles)) s ≡ 1 → 1 < total (a .handle) s) where
-  owned : s / slots < 8
+  owned : s / slots < peers
   owned = omega arith
 
-  notice-entry : entryV (record { entry = noticeOf 2 s n; payload = [] }) ≡ released n s
+  notice-entry : entryV (record { entry = noticeOf kindReleased s n; payload = [] }) ≡ released n s
   unfolding noticeOf
-  notice-entry = entry-released (noticeOf 2 s n) [] refl
+  notice-entry = entry-released (noticeOf kindReleased s n) [] refl
 
-  noticed : queueV (entered (b .rings) (s / slots) (noticeOf 2 s n)) (b .pool)
+  noticed : queueV (entered (b .rings) (s / slots) (noticeOf kindReleased s n)) (b .pool)
       ≡ upd (queueV (b .rings) (b .pool)) (s / slots) (queueV (b .rings) (b .pool) (s / slots) ++ (released (stateOf b .accepted) s ∷ []))
   noticed =
-      enter-view (b .rings) (b .pool) (s / slots) (noticeOf 2 s n) (h .rows) (h .ends) owned room (unfold noticeOf isMessage in notice-bytes (noticeOf 2 s n) refl) (unfold noticeOf in refl)
+      enter-view (b .rings) (b .pool) (s / slots) (noticeOf kindReleased s n) (h .rows) (h .ends) owned room (unfold noticeOf isMessage in notice-bytes (noticeOf kindReleased s n) refl) (unfold noticeOf in refl)
       ∙ ap (λ (e : Entry). upd (queueV (b .rings) (b .pool)) (s / slots) (queueV (b .rings) (b .pool) (s / slots) ++ (e ∷ []))) (notice-entry ∙ ap (λ (k : ℕ). released k s) number)
 
-  pub notify-view : stateOf (ringing b (notified (b .nodes) (b .handles) (b .rings) s n)) ≡ notify a (stateOf b) s
+  pub notify-view : stateOf (setRings b (notified (b .nodes) (b .handles) (b .rings) s n)) ≡ notify a (stateOf b) s
   unfolding notified notify fell withQueues
   notify-view = rw (live-is (b .nodes) s l, total-is (b .handles) s l) (go (look (isLive (stateOf b .life s))) (same? (total (handleV (b .handles)) s) 1))
     where
       go : Seen (isLive (stateOf b .life s)) → Same (total (handleV (b .handles)) s) 1 →
-          stateOf (ringing b (pick (isLive (stateOf b .life s)) (pick (eqb (total (handleV (b .handles)) s) 1) (entered (b .rings) (s / slots) (noticeOf 2 s n)) (b .rings)) (b .rings)))
+          stateOf (setRings b (pick (isLive (stateOf b .life s)) (pick (eqb (total (handleV (b .handles)) s) 1) (entered (b .rings) (s / slots) (noticeOf kindReleased s n)) (b .rings)) (b .rings)))
           ≡ notify a (stateOf b) s
       go (is-true e) (same d) = rw (e, d, lt-ltb 1 (total (a .handle) s) (above d), noticed)
       go (is-true e) (other d) = rw (e, ne-eqb (total (handleV (b .handles)) s) 1 d) (sym (unchosen (ltb 1 (total (a .handle) s)) (push (stateOf b) (owner s) (released (stateOf b .accepted) s ∷ [])) (stateOf b)))
       go (is-false e) d = rw e
 
-  pub shape-notified : Shape (ringing b (notified (b .nodes) (b .handles) (b .rings) s n))
+  pub shape-notified : Shape (setRings b (notified (b .nodes) (b .handles) (b .rings) s n))
   unfolding notified
   shape-notified =
       pick-all Fit (liveAt (b .nodes) s) (pick (eqb (totalAt (b .handles) s) 1) told (b .rings)) (b .rings)
       (pick-all Fit (eqb (totalAt (b .handles) s) 1) told (b .rings) entered-fit h) h
     where
       told : Rings
-      told = entered (b .rings) (s / slots) (noticeOf 2 s n)
+      told = entered (b .rings) (s / slots) (noticeOf kindReleased s n)
 
       Fit : Rings → Type 0
-      Fit r = Shape (ringing b r)
+      Fit r = Shape (setRings b r)
 
       entered-fit : Fit told
-      entered-fit =
-          record {
-            peers = h .peers;
-            nodes = h .nodes;
-            handles = h .handles;
-            charges = h .charges;
-            ends = enter-ends (b .rings) (s / slots) (noticeOf 2 s n) ∙ h .ends;
-            rows = enter-sized (b .rings) (s / slots) (noticeOf 2 s n) (h .rows);
-            pool = h .pool;
-          }
+      entered-fit = shape-rings h (enter-ends (b .rings) (s / slots) (noticeOf kindReleased s n) ∙ h .ends) (enter-sized (b .rings) (s / slots) (noticeOf kindReleased s n) (h .rows))
 
 -- A count lowered by 1 lowers the sum by 1.
 pub total-put : (h : ℕ → ℕ → Handle) (p s : ℕ) (x : Handle) → p < peers → total (put h p s x) s + count (h p s) ≡ total h s + count x
@@ -180,17 +145,17 @@ total-put h p s x l =
     (sum-at (λ q. count (put h p s x q s)) (λ q. count (h q s)) p peers l (λ q m d. ap (λ (f : ℕ → Handle). count (f s)) (upd-other h p q (upd (h p) s x) d)))
 
 -- A release: the count lowered, what goes with the handle, the notice at the owner.
-module _ (b : Bus) (p s i c : ℕ) (h : Shape b) (g : Good (stateOf b)) (l : p < 8) (m : s < 128) (holds : stateOf b .handle p s ≡ some i c) where
+module _ (b : Bus) (p s i c : ℕ) (h : Shape b) (g : Good (stateOf b)) (l : p < peers) (m : s < nodes) (holds : stateOf b .handle p s ≡ some i c) where
   abbrev lessHandles : List ℕ
   lessHandles = reduced (b .handles) p s
 
   abbrev less : Bus
-  less = handling (counting b) lessHandles
+  less = setHandles (counting b) lessHandles
 
   abbrev after : Bus
-  after = queueing less (leftBehind (b .handles) (queuesIn b) p s)
+  after = setQueues less (leftBehind (b .handles) (queuesIn b) p s)
 
-  lowered-is : afterRelease b p s ≡ ringing after (notified (b .nodes) lessHandles (after .rings) s (counted (b .peers) .number))
+  lowered-is : afterRelease b p s ≡ setRings after (notified (b .nodes) lessHandles (after .rings) s (counted (b .peers) .number))
   unfolding releases lowered counted
   lowered-is = refl
 
@@ -235,20 +200,20 @@ module _ (b : Bus) (p s i c : ℕ) (h : Shape b) (g : Good (stateOf b)) (l : p <
       rw (e, ne-eqb (countAt (b .handles) p s - 1) 0 z)
 
   after-view : stateOf after ≡ pick (eqb c 1) (forget (stateOf less) p s) (stateOf less)
-  after-view = ap (λ (q : Queues). stateOf (queueing less q)) (left-is (look (eqb c 1))) ∙ go (look (eqb c 1))
+  after-view = ap (λ (q : Queues). stateOf (setQueues less q)) (left-is (look (eqb c 1))) ∙ go (look (eqb c 1))
     where
-      go : Seen (eqb c 1) → stateOf (queueing less (pick (eqb c 1) (forgotten (queuesIn b) p s) (queuesIn b))) ≡ pick (eqb c 1) (forget (stateOf less) p s) (stateOf less)
+      go : Seen (eqb c 1) → stateOf (setQueues less (pick (eqb c 1) (forgotten (queuesIn b) p s) (queuesIn b))) ≡ pick (eqb c 1) (forget (stateOf less) p s) (stateOf less)
       go (is-true e) = rw e (forget-view less p s shape-less l short filled)
       go (is-false e) = rw e
 
   shape-after : Shape after
   shape-after =
       rw (left-is (look (eqb c 1)))
-      (pick-all (λ (q : Queues). Shape (queueing less q)) (eqb c 1) (forgotten (queuesIn b) p s) (queuesIn b) (shape-forgotten less p s shape-less l short filled) shape-less)
+      (pick-all (λ (q : Queues). Shape (setQueues less q)) (eqb c 1) (forgotten (queuesIn b) p s) (queuesIn b) (shape-forgotten less p s shape-less l short filled) shape-less)
 
   room : lengthOf (after .rings .ends) (s / slots) < ringSize
   room =
-      let q : s / slots < 8 = omega arith in
+      let q : s / slots < peers = omega arith in
       let k : lengthOf (b .rings .ends) (s / slots) ≤ 188 = good-short b g (s / slots) q in
       rw (left-is (look (eqb c 1)))
       (pick-all (λ (q : Queues). lengthOf (q .rings .ends) (s / slots) < ringSize) (eqb c 1) (forgotten (queuesIn b) p s) (queuesIn b)

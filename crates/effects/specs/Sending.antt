@@ -27,7 +27,7 @@ use Rattle.frames.specs.Frame.{mostIds, mostBytes, sendId, payloadOf}
 use Rattle.frames.specs.Legal as legal
 use Rattle.frames.specs.Legal.{payload-length}
 use Rattle.rings.specs.declared.Entry.{Entry as Row}
-use Rattle.rings.specs.Rings.{ringSize, endCount, Sized, lengthOf, queueOf}
+use Rattle.rings.specs.Rings.{kindMessage, ringSize, endsSize, Sized, lengthOf, queueOf}
 use Rattle.pool.specs.Pool.{areaSize, poolSize, sumOf, bytesIn}
 use Rattle.tables.specs.Peers.{acceptedAt, userAt, countCommand}
 use Rattle.tables.specs.PeersView.{statusV, userV, status-counted, user-counted, user-is, counted-length}
@@ -49,15 +49,17 @@ use Rattle.model.specs.ChargedProof.{charged-deliver, known-open}
 use Rattle.model.specs.ChargedBounds.{queuedAll, sound-within}
 use Rattle.model.specs.Sending.{arriving-load}
 use Rattle.model.specs.Quiet.{messages-append}
-use Rattle.view.specs.View.{Bus, Shape, entryV, queueV, stateOf}
+use Rattle.view.specs.View.{Bus, Shape, entryV, queueV, stateOf, shape-peers}
 use Rattle.view.specs.Rows.{queue-count}
-use Rattle.queues.specs.Queues.{Queues, isMessage, enqueued, chargeIn}
+use Rattle.queues.specs.Queues.{Queues, isMessage, enqueued, chargeIn, setQueues, shape-queues}
 use Rattle.queues.specs.Entering.{entry-message, Filled, enqueue-sized, enqueue-ends, enqueue-pool, enqueue-size, enqueue-other, enqueue-length, enqueue-lengths, enqueue-charges, enqueue-sum, enqueue-view, filled-enqueued, filled-view, queue-bytes}
 use Rattle.judges.specs.declared.Places.{Places}
 use Rattle.effects.specs.Effects.{counted, messageTo, sentTo, sends}
 use Rattle.effects.specs.After.{queuesIn, afterSend}
 use Rattle.effects.specs.Good.{Good}
 use Rattle.effects.specs.Counting.{counting, counted-view, counted-number}
+use Rattle.ids.specs.Sizes.{peers, carriedFields}
+use Rattle.tables.specs.Charges.{chargesSize}
 
 -- Two charges of one user are one; a charge of nothing changes nothing where no number is over 65,535.
 plus-more : (o a b c : Charge) → c .messages ≡ a .messages + b .messages → c .bytes ≡ a .bytes + b .bytes → c .handles ≡ a .handles + b .handles →
@@ -127,17 +129,17 @@ module _ (n u : ℕ) (hs bytes : List ℕ) where
 -- The queues x are those of q with a message for each of the destinations xs.
 record Sent (q : Queues) (n u : ℕ) (hs bytes xs : List ℕ) (x : Queues) : Type 0 where
   sized : Sized (x .rings .rows)
-  ends : length (x .rings .ends) ≡ endCount
+  ends : length (x .rings .ends) ≡ endsSize
   pool : length (x .pool) ≡ poolSize
-  size : length (x .charges) ≡ 96
+  size : length (x .charges) ≡ chargesSize
   filled : Filled x
-  lengths : (o : ℕ) → o < 8 → lengthOf (x .rings .ends) o ≡ lengthOf (q .rings .ends) o + placesAt o xs
-  sums : (o : ℕ) → o < 8 → sumOf (queueOf (x .rings) o) ≡ sumOf (queueOf (q .rings) o) + placesAt o xs * length bytes
+  lengths : (o : ℕ) → o < peers → lengthOf (x .rings .ends) o ≡ lengthOf (q .rings .ends) o + placesAt o xs
+  sums : (o : ℕ) → o < peers → sumOf (queueOf (x .rings) o) ≡ sumOf (queueOf (q .rings) o) + placesAt o xs * length bytes
   queue : (o : ℕ) → queueV (x .rings) (x .pool) o ≡ queueV (q .rings) (q .pool) o ++ arrivals n u hs bytes xs o
   charges : (o : ℕ) → chargesV (x .charges) o ≡ charged (chargesV (q .charges) o) (record { 0 = u }) (adds o xs (length bytes) (length hs))
 
 -- At first.
-sent-none : (q : Queues) (n u : ℕ) (hs bytes : List ℕ) → Sized (q .rings .rows) → length (q .rings .ends) ≡ endCount → length (q .pool) ≡ poolSize → length (q .charges) ≡ 96 →
+sent-none : (q : Queues) (n u : ℕ) (hs bytes : List ℕ) → Sized (q .rings .rows) → length (q .rings .ends) ≡ endsSize → length (q .pool) ≡ poolSize → length (q .charges) ≡ chargesSize →
     Filled q → ((o : ℕ) → Small (own (chargesV (q .charges) o) (record { 0 = u }))) → Sent q n u hs bytes [] q
 unfolding placesAt arrivals
 sent-none q n u hs bytes s e p c f small =
@@ -155,7 +157,7 @@ sent-none q n u hs bytes s e p c f small =
 
 -- The row of a message.
 abbrev rowFor : ℕ → ℕ → ℕ → List ℕ → List ℕ → ℕ → Row
-rowFor n u nh c bytes d = record { kind = 0; slot = d; user = u; nb = length bytes; nh = nh; carried = c; number = n }
+rowFor n u nh c bytes d = record { kind = kindMessage; slot = d; user = u; nb = length bytes; nh = nh; carried = c; number = n }
 
 row-message : (n u nh : ℕ) (c bytes : List ℕ) (d : ℕ) → isMessage (rowFor n u nh c bytes d) ≡ true
 unfolding isMessage
@@ -167,7 +169,7 @@ row-bytes n u nh c bytes d = refl
 
 -- One message more.
 module _ (q : Queues) (n u : ℕ) (hs bytes xs : List ℕ) (x : Queues) (h : Sent q n u hs bytes xs x) (d : ℕ) (c : List ℕ) (ld : d < nodes) (lu : u < users)
-    (lc : length c ≡ 8) (lh : length hs ≤ 8) (front : take (length hs) c ≡ hs)
+    (lc : length c ≡ carriedFields) (lh : length hs ≤ mostIds) (front : take (length hs) c ≡ hs)
     (fit : sumOf (queueOf (q .rings) (owner d)) + placesAt (owner d) (xs ++ (d ∷ [])) * length bytes ≤ areaSize)
     (room : lengthOf (q .rings .ends) (owner d) + placesAt (owner d) (xs ++ (d ∷ [])) ≤ ringSize) where
   abbrev peer : ℕ
@@ -194,11 +196,11 @@ module _ (q : Queues) (n u : ℕ) (hs bytes xs : List ℕ) (x : Queues) (h : Sen
   bytes-row : bytesIn row ≡ length bytes
   bytes-row = row-bytes n u (length hs) c bytes d
 
-  lengths-after : (o : ℕ) → o < 8 → Same peer o → lengthOf (after .rings .ends) o ≡ lengthOf (q .rings .ends) o + placesAt o (xs ++ (d ∷ []))
+  lengths-after : (o : ℕ) → o < peers → Same peer o → lengthOf (after .rings .ends) o ≡ lengthOf (q .rings .ends) o + placesAt o (xs ++ (d ∷ []))
   lengths-after o l (same z) = rw (← z) (enqueue-length x peer row bytes (h .ends) lp room-x ∙ omega (arith, h .lengths peer lp, one))
   lengths-after o l (other z) = enqueue-lengths x peer row bytes o z ∙ omega (arith, h .lengths o l, places-there o d xs z)
 
-  sums-after : (o : ℕ) → o < 8 → Same peer o → sumOf (queueOf (after .rings) o) ≡ sumOf (queueOf (q .rings) o) + placesAt o (xs ++ (d ∷ [])) * length bytes
+  sums-after : (o : ℕ) → o < peers → Same peer o → sumOf (queueOf (after .rings) o) ≡ sumOf (queueOf (q .rings) o) + placesAt o (xs ++ (d ∷ [])) * length bytes
   sums-after o l (same z) =
       rw (← z) (enqueue-sum x peer row bytes (h .sized) (h .ends) (h .pool) lp (h .filled) bytes-row lc fits-x room-x ∙ rw one (omega (arith, h .sums peer lp)))
   sums-after o l (other z) = rw (places-there o d xs z) (ap sumOf (enqueue-other x peer row bytes o z) ∙ h .sums o l)
@@ -257,7 +259,7 @@ module _ (q : Queues) (n u : ℕ) (hs bytes xs : List ℕ) (x : Queues) (h : Sen
 row-is : (s d n u nh : ℕ) (c bytes : List ℕ) → s ≡ d → u < users → length bytes < 65536 → nh < 65536 → messageTo s u (length bytes) nh c n ≡ rowFor n u nh c bytes d
 unfolding messageTo
 row-is s d n u nh c bytes e lu lb lh =
-    let a : u % 4 ≡ u = omega arith in
+    let a : u % users ≡ u = omega arith in
     let b : length bytes % 65536 ≡ length bytes = omega arith in
     let f : nh % 65536 ≡ nh = omega arith in
     rw (e, a, b, f)
@@ -290,16 +292,16 @@ places-first o ds k l =
     rw (e, first-all ds) at (places-grow o ds k (length ds - k))
 
 -- A message for each of the first k destinations.
-module _ (q : Queues) (n u : ℕ) (ds hs bytes : List ℕ) (w : Places) (base : Sent q n u hs bytes [] q) (lu : u < users) (lw : length (w .carried) ≡ 8) (lh : length hs ≤ 8)
+module _ (q : Queues) (n u : ℕ) (ds hs bytes : List ℕ) (w : Places) (base : Sent q n u hs bytes [] q) (lu : u < users) (lw : length (w .carried) ≡ carriedFields) (lh : length hs ≤ mostIds)
     (lb : length bytes < 65536) (front : take (length hs) (w .carried) ≡ hs) (to : (k : ℕ) → k < length ds → getD (w .to) k 0 ≡ getD ds k 0)
-    (inside : All (λ d. d < nodes) ds) (fit : (o : ℕ) → o < 8 → sumOf (queueOf (q .rings) o) + placesAt o ds * length bytes ≤ areaSize)
-    (room : (o : ℕ) → o < 8 → lengthOf (q .rings .ends) o + placesAt o ds ≤ ringSize) where
+    (inside : All (λ d. d < nodes) ds) (fit : (o : ℕ) → o < peers → sumOf (queueOf (q .rings) o) + placesAt o ds * length bytes ≤ areaSize)
+    (room : (o : ℕ) → o < peers → lengthOf (q .rings .ends) o + placesAt o ds ≤ ringSize) where
   sent-step : (k : ℕ) → suc k ≤ length ds → Sent q n u hs bytes (firstOf ds k) (sentTo q u (length hs) w bytes n k) →
       Sent q n u hs bytes (firstOf ds (suc k)) (sentTo q u (length hs) w bytes n (suc k))
   unfolding sentTo
   sent-step k l h =
       let d = getD ds k 0 in
-      let s = getD (w .to) k 0 % 128 in
+      let s = getD (w .to) k 0 % nodes in
       let ld : d < nodes = all-at (λ d. d < nodes) ds k 0 inside l in
       let sd : s ≡ d = omega (arith, to k l) in
       let lo : owner d < 8 = omega arith in
@@ -320,19 +322,19 @@ module _ (q : Queues) (n u : ℕ) (ds hs bytes : List ℕ) (w : Places) (base : 
   sent-all = rw (first-all ds) at (sent-first (length ds) (omega arith))
 
 -- Some slots in an array of eight.
-eight-over : (ss : List ℕ) → length ss ≤ 8 → eight ss ≡ ss ++ drop (length ss) (replicate 8 0)
+eight-over : (ss : List ℕ) → length ss ≤ mostIds → eight ss ≡ ss ++ drop (length ss) (replicate mostIds 0)
 unfolding eight
-eight-over ss l = over ss (replicate 8 0) (omega (arith, length-replicate {A = ℕ} 8 0))
+eight-over ss l = over ss (replicate mostIds 0) (omega (arith, length-replicate {A = ℕ} mostIds 0))
 
-pub eight-length : (ss : List ℕ) → length (eight ss) ≡ 8
+pub eight-length : (ss : List ℕ) → length (eight ss) ≡ mostIds
 unfolding eight
-eight-length ss = length-sets (replicate 8 0) 0 ss ∙ length-replicate {A = ℕ} 8 0
+eight-length ss = length-sets (replicate mostIds 0) 0 ss ∙ length-replicate {A = ℕ} mostIds 0
 
-pub eight-at : (ss : List ℕ) → length ss ≤ 8 → (k : ℕ) → k < length ss → getD (eight ss) k 0 ≡ getD ss k 0
-eight-at ss l k h = ap (λ (x : List ℕ). getD x k 0) (eight-over ss l) ∙ List·getD-append ss (drop (length ss) (replicate 8 0)) 0 k h
+pub eight-at : (ss : List ℕ) → length ss ≤ mostIds → (k : ℕ) → k < length ss → getD (eight ss) k 0 ≡ getD ss k 0
+eight-at ss l k h = ap (λ (x : List ℕ). getD x k 0) (eight-over ss l) ∙ List·getD-append ss (drop (length ss) (replicate mostIds 0)) 0 k h
 
-pub eight-front : (ss : List ℕ) → length ss ≤ 8 → take (length ss) (eight ss) ≡ ss
-eight-front ss l = ap (take (length ss)) (eight-over ss l) ∙ take-append-seam ss (drop (length ss) (replicate 8 0))
+pub eight-front : (ss : List ℕ) → length ss ≤ mostIds → take (length ss) (eight ss) ≡ ss
+eight-front ss l = ap (take (length ss)) (eight-over ss l) ∙ take-append-seam ss (drop (length ss) (replicate mostIds 0))
 
 -- The bytes at each peer after a send that fits are within its limit.
 load-le : {A : Type 0} (p : A → Bool) (w : A → ℕ) (xs : List A) → load p w xs ≤ load (λ x. true) w xs
@@ -358,7 +360,7 @@ bytes-within b h u ds hs payload lu ld la lh lb ok q =
     omega (arith, all, both, mine, load-le (fromUser u) (weightOf ofBytes) new)
 
 -- The queues of a bus after a send that fits.
-module _ (b : Bus) (s : Shape b) (g : Good (stateOf b)) (n u : ℕ) (ds hs payload : List ℕ) (lu : u < users) (few : length ds ≤ 8) (lh : length hs ≤ 8) (lb : length payload ≤ mostBytes)
+module _ (b : Bus) (s : Shape b) (g : Good (stateOf b)) (n u : ℕ) (ds hs payload : List ℕ) (lu : u < users) (few : length ds ≤ mostIds) (lh : length hs ≤ mostIds) (lb : length payload ≤ mostBytes)
     (inside : All (λ d. d < nodes) ds) (held : All (λ d. d < nodes) hs) (ok : fits (stateOf b) u ds (length payload) (length hs) ≡ true) where
   small : (o : ℕ) → Small (own (chargesV (b .charges) o) (record { 0 = u }))
   small o =
@@ -366,10 +368,10 @@ module _ (b : Bus) (s : Shape b) (g : Good (stateOf b)) (n u : ℕ) (ds hs paylo
       let half : (r : Resource) → amount r (own c (record { 0 = u })) ≤ limit r / 2 = λ r. own-at-most-half (is-resource r) c (record { 0 = u }) (reached-at c (g .charged .at o .reached) r) in
       (omega (arith, half ofMessages), omega (arith, half ofBytes), omega (arith, half ofHandles))
 
-  fit-bus : (o : ℕ) → o < 8 → sumOf (queueOf (b .rings) o) + placesAt o ds * length payload ≤ areaSize
+  fit-bus : (o : ℕ) → o < peers → sumOf (queueOf (b .rings) o) + placesAt o ds * length payload ≤ areaSize
   fit-bus o l = omega (arith, bytes-within (stateOf b) (g .charged) u ds hs payload lu inside held lh lb ok o, queue-bytes (b .rings) (b .pool) o l)
 
-  room-bus : (o : ℕ) → o < 8 → lengthOf (b .rings .ends) o + placesAt o ds ≤ ringSize
+  room-bus : (o : ℕ) → o < peers → lengthOf (b .rings .ends) o + placesAt o ds ≤ ringSize
   unfolding placesAt
   room-bus o l = omega (arith, g .short o, queue-count (b .rings) (b .pool) o l, keep-le (λ d. eqb (owner d) o) ds)
 
@@ -406,15 +408,9 @@ unfolding sends counted
 shape-send b p z w bytes s =
     let u = userAt (countCommand (b .peers)) p in
     let n = acceptedAt (countCommand (b .peers)) in
-    record {
-      peers = counted-length (b .peers) ∙ s .peers;
-      nodes = s .nodes;
-      handles = s .handles;
-      charges = sent-charges (queuesIn b) u (z .nh) w bytes n (z .nd) ∙ s .charges;
-      ends = sent-ends (queuesIn b) u (z .nh) w bytes n (z .nd) ∙ s .ends;
-      rows = sent-sized (queuesIn b) u (z .nh) w bytes n (s .rows) (z .nd);
-      pool = sent-pool (queuesIn b) u (z .nh) w bytes n (z .nd) ∙ s .pool;
-    }
+    shape-queues (shape-peers s (counted-length (b .peers) ∙ s .peers)) (sent-charges (queuesIn b) u (z .nh) w bytes n (z .nd) ∙ s .charges)
+    (sent-ends (queuesIn b) u (z .nh) w bytes n (z .nd) ∙ s .ends) (sent-sized (queuesIn b) u (z .nh) w bytes n (s .rows) (z .nd))
+    (sent-pool (queuesIn b) u (z .nh) w bytes n (z .nd) ∙ s .pool)
 
 -- The user of a peer that is open, in the table with the command counted.
 abbrev isOpened : Status → Bool
@@ -422,14 +418,14 @@ isOpened unopened = false
 isOpened opened = true
 isOpened disconnected = false
 
-user-now : (ps : List ℕ) (p : ℕ) → p < 8 → statusV ps p ≡ opened → userAt (countCommand ps) p ≡ userV ps p
+user-now : (ps : List ℕ) (p : ℕ) → p < peers → statusV ps p ≡ opened → userAt (countCommand ps) p ≡ userV ps p
 user-now ps p l o =
     let same-status : statusV (countCommand ps) p ≡ opened = ap (λ (f : ℕ → Status). f p) (status-counted ps) ∙ o in
     sym (user-is (countCommand ps) p l (λ e. clash (ap isOpened (sym same-status ∙ e)))) ∙ ap (λ (f : ℕ → ℕ). f p) (user-counted ps)
 
 -- Queues and charges changed, the other tables as they were.
 with-queues : (b : Bus) (x : Queues) (f : ℕ → List Entry) (c : ℕ → Charges) → queueV (x .rings) (x .pool) ≡ f → chargesV (x .charges) ≡ c →
-    stateOf (record { peers = b .peers; nodes = b .nodes; handles = b .handles; charges = x .charges; rings = x .rings; pool = x .pool }) ≡ withCharges (withQueues (stateOf b) f) c
+    stateOf (setQueues b x) ≡ withCharges (withQueues (stateOf b) f) c
 unfolding withCharges withQueues
 with-queues b x f c e g = rw (e, g)
 
@@ -438,11 +434,10 @@ unfolding arrivals arriving
 arriving-is a u ds hs payload q = refl
 
 -- The queues of a bus after a send, as the model has them.
-deliver-view : (b : Bus) → Shape b → Good (stateOf b) → (u : ℕ) (ds hs payload : List ℕ) → u < users → length ds ≤ 8 → length hs ≤ 8 → length payload ≤ mostBytes →
+deliver-view : (b : Bus) → Shape b → Good (stateOf b) → (u : ℕ) (ds hs payload : List ℕ) → u < users → length ds ≤ mostIds → length hs ≤ mostIds → length payload ≤ mostBytes →
     All (λ d. d < nodes) ds → All (λ d. d < nodes) hs → fits (stateOf b) u ds (length payload) (length hs) ≡ true →
     (x : Queues) → x ≡ sentTo (queuesIn b) u (length hs) (record { to = eight ds; carried = eight hs }) payload (accept (stateOf b) .accepted) (length ds) →
-    stateOf (record { peers = countCommand (b .peers); nodes = b .nodes; handles = b .handles; charges = x .charges; rings = x .rings; pool = x .pool })
-    ≡ deliver (accept (stateOf b)) u ds hs payload
+    stateOf (setQueues (counting b) x) ≡ deliver (accept (stateOf b)) u ds hs payload
 unfolding deliver pushAll accept
 deliver-view b s g u ds hs payload lu few lh lb ind inh ok x e =
     let a = accept (stateOf b) in
@@ -454,7 +449,7 @@ deliver-view b s g u ds hs payload lu few lh lb ind inh ok x e =
     (λ (t : State). withCharges (withQueues t (λ q. a .queue q ++ arriving a u ds hs payload q)) (λ q. charged (a .charges q) (record { 0 = u }) (adds q ds (length payload) (length hs))))
     (counted-view b s g)
 
-pub send-view : (b : Bus) → Shape b → Good (stateOf b) → (p : ℕ) → p < 8 → (f : List ℕ) (z : Sizes) → legal.Sized f z →
+pub send-view : (b : Bus) → Shape b → Good (stateOf b) → (p : ℕ) → p < peers → (f : List ℕ) (z : Sizes) → legal.Sized f z →
     refusesSend (stateOf b) p (destinations f z) (attached f z) (length (payloadOf f)) ≡ 0 →
     stateOf (afterSend b p z (placesOf (slot (stateOf b) p) f z) (payloadOf f))
     ≡ deliver (accept (stateOf b)) (stateOf b .user p) (map (slot (stateOf b) p) (destinations f z)) (map (slot (stateOf b) p) (attached f z)) (payloadOf f)

@@ -2,7 +2,7 @@
 ghost use mathlib.Core.Path.{_≡_};
 ghost use Prim.Native.Nat.{_-_, _<_, _≤_};
 ghost use lib.ListN.{length};
-ghost use Rattle.rings.specs.Rings.{rowsOf, ringsOf, endCount, Sized, lengthOf, ringSize};
+ghost use Rattle.rings.specs.Rings.{ringsOf, endsSize, lengthOf, ringSize, QueueTables};
 ghost use Rattle.pool.specs.Pool.{poolSize};
 ghost use Rattle.answers.specs.Answer.{answerAfter, outcomeOf};
 ghost use Rattle.queues.specs.Queues.{queuesOf};
@@ -10,28 +10,29 @@ ghost use Rattle.view.specs.View.{busOf};
 ghost use Rattle.grants.specs.Grants.{givenOf};
 ghost use Rattle.tables.specs.Handles.{handlesSize};
 ghost use Rattle.effects.specs.Effects.{countedOf, counted, openedPeers, createdOf, created, destroysOf, destroys, dropped, droppedOf, forgotten, notified, releasesOf, releases, transfers, messageTo, sentTo, sends, sendsOf, disconnectsOf, disconnects, messageAnswer, shownIds, shownBytes, receivedMessage, noticeTaken, noticeTakenOf, received, receivedOf};
+ghost use Rattle.ids.specs.Sizes.{peers as peerCount, peersSize, nodesSize, mostIds};
+ghost use Rattle.model.specs.Numbers.{nodes as nodeCount};
+ghost use Rattle.tables.specs.Charges.{chargesSize};
 use answers::Answer;
 use answers::Header;
 use answers::Outcome;
 use answers::Received;
 use frames::Sizes;
 use ids::HandleId;
+use ids::MOST_IDS;
+use ids::NODES;
 use ids::Peer;
 use ids::SLOTS;
+use ids::USERS;
 use ids::User;
 use judges::Places;
 use notices::Asked;
 use rings::Entry;
 use rings::Match;
 
-// The kinds of entry that a removal takes out, each a bit: notices; all.
-const NOTICES: u8 = 6;
-
-const ENTRIES: u8 = 7;
-
 // The command is counted: its number.
 fn next_number(peers: &mut [u64]) -> u64
-    requires { ⌜ (length (now peers) ≡ 25) ⌝ }
+    requires { ⌜ (length (now peers) ≡ peersSize) ⌝ }
     ensures { λ r. ⌜ countedOf r (now (peers .exit)) ≡ counted (now (peers .entry)) ⌝ }
 {
     tables::count_command(peers);
@@ -39,7 +40,7 @@ fn next_number(peers: &mut [u64]) -> u64
 }
 
 pub fn open_peer(peers: &mut [u64], p: Peer, u: User)
-    requires { ⌜ (length (now peers) ≡ 25) × (p .0 < 8) ⌝ }
+    requires { ⌜ (length (now peers) ≡ peersSize) × (p .0 < peerCount) ⌝ }
     ensures { λ _. ⌜ now (peers .exit) ≡ openedPeers (now (peers .entry)) (p .0) (u .0) ⌝ }
 {
     tables::count_command(peers);
@@ -54,7 +55,7 @@ pub fn create(
     i: HandleId,
     s: usize,
 )
-    requires { ⌜ (length (now peers) ≡ 25) × (length (now nodes) ≡ 256) × (length (now handles) ≡ handlesSize) × (p .0 < 8) × (s < 128) ⌝ }
+    requires { ⌜ (length (now peers) ≡ peersSize) × (length (now nodes) ≡ nodesSize) × (length (now handles) ≡ handlesSize) × (p .0 < peerCount) × (s < nodeCount) ⌝ }
     ensures { λ _. ⌜ createdOf (now (peers .exit)) (now (nodes .exit)) (now (handles .exit)) ≡ created (now (peers .entry)) (now (nodes .entry)) (now (handles .entry)) (p .0) (i .0) s ⌝ }
 {
     tables::count_command(peers);
@@ -73,7 +74,7 @@ pub fn destroy(
     p: Peer,
     s: usize,
 )
-    requires { ⌜ (length (now peers) ≡ 25) × (length (now nodes) ≡ 256) × (length (now handles) ≡ handlesSize) × (length (now ends) ≡ endCount) × Sized (rowsOf (now entries) (now carried) (now numbers)) × (p .0 < 8) ⌝ }
+    requires { ⌜ (length (now peers) ≡ peersSize) × (length (now nodes) ≡ nodesSize) × (length (now handles) ≡ handlesSize) × QueueTables (now ends) (now entries) (now carried) (now numbers) × (p .0 < peerCount) ⌝ }
     ensures { λ _. ⌜ destroysOf (now (peers .exit)) (now (nodes .exit)) (ringsOf (now (ends .exit)) (now (entries .exit)) (now (carried .exit)) (now (numbers .exit))) ≡ destroys (now (peers .entry)) (now (nodes .entry)) (now (handles .entry)) (ringsOf (now (ends .entry)) (now (entries .entry)) (now (carried .entry)) (now (numbers .entry))) (p .0) s ⌝ }
 {
     let n = next_number(peers);
@@ -91,17 +92,21 @@ fn forget(
     p: Peer,
     s: usize,
 )
-    requires { ⌜ (length (now charges) ≡ 96) × (length (now ends) ≡ endCount) × Sized (rowsOf (now entries) (now carried) (now numbers)) × (p .0 < 8) ⌝ }
+    requires { ⌜ (length (now charges) ≡ chargesSize) × QueueTables (now ends) (now entries) (now carried) (now numbers) × (p .0 < peerCount) ⌝ }
     ensures { λ _. ⌜ queuesOf (now (charges .exit)) (now (ends .exit)) (now (entries .exit)) (now (carried .exit)) (now (numbers .exit)) (now (pool .exit)) ≡ forgotten (queuesOf (now (charges .entry)) (now (ends .entry)) (now (entries .entry)) (now (carried .entry)) (now (numbers .entry)) (now (pool .entry))) (p .0) s ⌝ }
 {
-    let kinds = if s / SLOTS == p.0 { ENTRIES } else { NOTICES };
+    let kinds = if s / SLOTS == p.0 {
+        rings::ALL_BITS
+    } else {
+        rings::NOTICE_BITS
+    };
     let m = Match::one_slot(kinds, s);
     queues::remove(charges, ends, entries, carried, numbers, pool, p, m);
 }
 
 // One reference of the peer to the slot's node less: how many are left.
 fn drop_reference(handles: &mut [u64], p: Peer, s: usize) -> u64
-    requires { ⌜ (length (now handles) ≡ handlesSize) × (p .0 < 8) × (s < 128) ⌝ }
+    requires { ⌜ (length (now handles) ≡ handlesSize) × (p .0 < peerCount) × (s < nodeCount) ⌝ }
     ensures { λ r. ⌜ droppedOf r (now (handles .exit)) ≡ dropped (now (handles .entry)) (p .0) s ⌝ }
 {
     tables::reduce(handles, p, s)
@@ -118,14 +123,14 @@ fn notify(
     s: usize,
     n: u64,
 )
-    requires { ⌜ (length (now nodes) ≡ 256) × (length (now handles) ≡ handlesSize) × (length (now ends) ≡ endCount) × Sized (rowsOf (now entries) (now carried) (now numbers)) × (s < 128) ⌝ }
+    requires { ⌜ (length (now nodes) ≡ nodesSize) × (length (now handles) ≡ handlesSize) × QueueTables (now ends) (now entries) (now carried) (now numbers) × (s < nodeCount) ⌝ }
     ensures { λ _. ⌜ ringsOf (now (ends .exit)) (now (entries .exit)) (now (carried .exit)) (now (numbers .exit)) ≡ notified (now (nodes .entry)) (now (handles .entry)) (ringsOf (now (ends .entry)) (now (entries .entry)) (now (carried .entry)) (now (numbers .entry))) s n ⌝ }
 {
     if !tables::is_live(nodes, s) {
         return;
     }
     if tables::total(handles, s) == 1 {
-        let e = notices::notice(notices::RELEASED, s, n);
+        let e = notices::notice(rings::RELEASED, s, n);
         queues::enter(ends, entries, carried, numbers, Peer(s / SLOTS), e);
     }
 }
@@ -143,7 +148,7 @@ pub fn release(
     p: Peer,
     s: usize,
 )
-    requires { ⌜ (length (now peers) ≡ 25) × (length (now nodes) ≡ 256) × (length (now handles) ≡ handlesSize) × (length (now charges) ≡ 96) × (length (now ends) ≡ endCount) × Sized (rowsOf (now entries) (now carried) (now numbers)) × (p .0 < 8) × (s < 128) ⌝ }
+    requires { ⌜ (length (now peers) ≡ peersSize) × (length (now nodes) ≡ nodesSize) × (length (now handles) ≡ handlesSize) × (length (now charges) ≡ chargesSize) × QueueTables (now ends) (now entries) (now carried) (now numbers) × (p .0 < peerCount) × (s < nodeCount) ⌝ }
     ensures { λ _. ⌜ releasesOf (now (peers .exit)) (now (handles .exit)) (queuesOf (now (charges .exit)) (now (ends .exit)) (now (entries .exit)) (now (carried .exit)) (now (numbers .exit)) (now (pool .exit))) ≡ releases (now (peers .entry)) (now (nodes .entry)) (now (handles .entry)) (queuesOf (now (charges .entry)) (now (ends .entry)) (now (entries .entry)) (now (carried .entry)) (now (numbers .entry)) (now (pool .entry))) (p .0) s ⌝ }
 {
     let n = next_number(peers);
@@ -165,7 +170,7 @@ pub fn transfer(
     q: Peer,
     s: usize,
 ) -> HandleId
-    requires { ⌜ (length (now peers) ≡ 25) × (length (now nodes) ≡ 256) × (length (now handles) ≡ handlesSize) × (length (now ends) ≡ endCount) × Sized (rowsOf (now entries) (now carried) (now numbers)) × (q .0 < 8) × (s < 128) ⌝ }
+    requires { ⌜ (length (now peers) ≡ peersSize) × (length (now nodes) ≡ nodesSize) × (length (now handles) ≡ handlesSize) × QueueTables (now ends) (now entries) (now carried) (now numbers) × (q .0 < peerCount) × (s < nodeCount) ⌝ }
     ensures { λ r. ⌜ givenOf (r .0) (now (peers .exit)) (now (handles .exit)) (ringsOf (now (ends .exit)) (now (entries .exit)) (now (carried .exit)) (now (numbers .exit))) ≡ transfers (now (peers .entry)) (now (nodes .entry)) (now (handles .entry)) (ringsOf (now (ends .entry)) (now (entries .entry)) (now (carried .entry)) (now (numbers .entry))) (q .0) s ⌝ }
 {
     tables::count_command(peers);
@@ -174,13 +179,13 @@ pub fn transfer(
 
 // The message of a send to a slot.
 fn message_to(s: usize, u: User, nb: usize, nh: usize, slots: [u8; 8], n: u64) -> Entry
-    requires { ⌜ s < 128 ⌝ }
+    requires { ⌜ s < nodeCount ⌝ }
     ensures { λ r. ⌜ r ≡ messageTo s (u .0) nb nh slots n ⌝ }
 {
     Entry {
-        kind: 0,
+        kind: rings::MESSAGE,
         slot: s as u16,
-        user: (u.0 % 4) as u16,
+        user: (u.0 % USERS) as u16,
         nb: (nb % 65536) as u16,
         nh: (nh % 65536) as u16,
         carried: slots,
@@ -202,14 +207,14 @@ fn deliver(
     payload: &[u8],
     n: u64,
 )
-    requires { ⌜ (length (now charges) ≡ 96) × (length (now ends) ≡ endCount) × Sized (rowsOf (now entries) (now carried) (now numbers)) × (z .nd ≤ 8) ⌝ }
+    requires { ⌜ (length (now charges) ≡ chargesSize) × QueueTables (now ends) (now entries) (now carried) (now numbers) × (z .nd ≤ mostIds) ⌝ }
     ensures { λ _. ⌜ queuesOf (now (charges .exit)) (now (ends .exit)) (now (entries .exit)) (now (carried .exit)) (now (numbers .exit)) (now (pool .exit)) ≡ sentTo (queuesOf (now (charges .entry)) (now (ends .entry)) (now (entries .entry)) (now (carried .entry)) (now (numbers .entry)) (now (pool .entry))) (u .0) (z .nh) w (now (payload .entry)) n (z .nd) ⌝ }
 {
     let to = w.to;
     let slots = w.carried;
     let mut k = 0;
     while k < z.nd {
-        let s = to[k] as usize % 128;
+        let s = to[k] as usize % NODES;
         let e = message_to(s, u, payload.len(), z.nh, slots, n);
         queues::enqueue(
             charges,
@@ -239,7 +244,7 @@ pub fn send(
     w: Places,
     payload: &[u8],
 )
-    requires { ⌜ (length (now peers) ≡ 25) × (length (now charges) ≡ 96) × (length (now ends) ≡ endCount) × Sized (rowsOf (now entries) (now carried) (now numbers)) × (p .0 < 8) × (z .nd ≤ 8) ⌝ }
+    requires { ⌜ (length (now peers) ≡ peersSize) × (length (now charges) ≡ chargesSize) × QueueTables (now ends) (now entries) (now carried) (now numbers) × (p .0 < peerCount) × (z .nd ≤ mostIds) ⌝ }
     ensures { λ _. ⌜ sendsOf (now (peers .exit)) (queuesOf (now (charges .exit)) (now (ends .exit)) (now (entries .exit)) (now (carried .exit)) (now (numbers .exit)) (now (pool .exit))) ≡ sends (now (peers .entry)) (queuesOf (now (charges .entry)) (now (ends .entry)) (now (entries .entry)) (now (carried .entry)) (now (numbers .entry)) (now (pool .entry))) (p .0) z w (now (payload .entry)) ⌝ }
 {
     let n = next_number(peers);
@@ -270,7 +275,7 @@ pub fn disconnect(
     numbers: &mut [u64],
     p: Peer,
 )
-    requires { ⌜ (length (now peers) ≡ 25) × (length (now nodes) ≡ 256) × (length (now handles) ≡ handlesSize) × (length (now charges) ≡ 96) × (length (now ends) ≡ endCount) × Sized (rowsOf (now entries) (now carried) (now numbers)) × (p .0 < 8) ⌝ }
+    requires { ⌜ (length (now peers) ≡ peersSize) × (length (now nodes) ≡ nodesSize) × (length (now handles) ≡ handlesSize) × (length (now charges) ≡ chargesSize) × QueueTables (now ends) (now entries) (now carried) (now numbers) × (p .0 < peerCount) ⌝ }
     ensures { λ _. ⌜ disconnectsOf (now (peers .exit)) (now (nodes .exit)) (now (handles .exit)) (now (charges .exit)) (ringsOf (now (ends .exit)) (now (entries .exit)) (now (carried .exit)) (now (numbers .exit))) ≡ disconnects (now (peers .entry)) (now (nodes .entry)) (now (handles .entry)) (now (charges .entry)) (ringsOf (now (ends .entry)) (now (entries .entry)) (now (carried .entry)) (now (numbers .entry))) (p .0) ⌝ }
 {
     let n = next_number(peers);
@@ -293,13 +298,13 @@ fn write_message(
     e: Entry,
     ids: [u64; 8],
 ) -> Outcome
-    requires { ⌜ (length (now charges) ≡ 96) × (length (now pool) ≡ poolSize) × (p .0 < 8) ⌝ }
+    requires { ⌜ (length (now charges) ≡ chargesSize) × (length (now pool) ≡ poolSize) × (p .0 < peerCount) ⌝ }
     ensures { λ r. ⌜ (r ≡ outcomeOf (messageAnswer (now (charges .entry)) (p .0) to flag e) (shownIds e ids) (shownBytes (now (charges .entry)) (now (pool .entry)) (p .0) e) (now (out .entry))) × (now (out .exit) ≡ answerAfter (messageAnswer (now (charges .entry)) (p .0) to flag e) (shownIds e ids) (shownBytes (now (charges .entry)) (now (pool .entry)) (p .0) e) (now (out .entry))) ⌝ }
 {
     let c = tables::load(charges, p);
     let all = queues::used(c);
     let nb = copies::least(rings::wide(e.nb), all);
-    let nh = copies::least(rings::wide(e.nh), 8);
+    let nh = copies::least(rings::wide(e.nh), MOST_IDS);
     let h = Header {
         to,
         user: User(rings::wide(e.user)),
@@ -330,14 +335,14 @@ fn receive_message(
     e: Entry,
     out: &mut [u8],
 ) -> Outcome
-    requires { ⌜ (length (now peers) ≡ 25) × (length (now nodes) ≡ 256) × (length (now handles) ≡ handlesSize) × (length (now charges) ≡ 96) × (length (now ends) ≡ endCount) × Sized (rowsOf (now entries) (now carried) (now numbers)) × (length (now pool) ≡ poolSize) × (p .0 < 8) × (lengthOf (now ends) (p .0) ≤ ringSize) ⌝ }
+    requires { ⌜ (length (now peers) ≡ peersSize) × (length (now nodes) ≡ nodesSize) × (length (now handles) ≡ handlesSize) × (length (now charges) ≡ chargesSize) × QueueTables (now ends) (now entries) (now carried) (now numbers) × (length (now pool) ≡ poolSize) × (p .0 < peerCount) × (lengthOf (now ends) (p .0) ≤ ringSize) ⌝ }
     ensures { λ r. ⌜ receivedOf r (now (out .exit)) (now (peers .exit)) (now (handles .exit)) (queuesOf (now (charges .exit)) (now (ends .exit)) (now (entries .exit)) (now (carried .exit)) (now (numbers .exit)) (now (pool .exit))) ≡ receivedMessage (now (peers .entry)) (now (nodes .entry)) (now (handles .entry)) (queuesOf (now (charges .entry)) (now (ends .entry)) (now (entries .entry)) (now (carried .entry)) (now (numbers .entry)) (now (pool .entry))) (p .0) e (now (out .entry)) ⌝ }
 {
     let flag = queues::follows(ends, entries, carried, numbers, p, e.number);
-    let to = grants::id_or_invalid(handles, p, rings::wide(e.slot) % 128);
+    let to = grants::id_or_invalid(handles, p, rings::wide(e.slot) % NODES);
     rings::pop(ends, p);
     let slots = e.carried;
-    let nh = copies::least(rings::wide(e.nh), 8);
+    let nh = copies::least(rings::wide(e.nh), MOST_IDS);
     let ids = grants::give_all(
         peers,
         nodes,
@@ -357,12 +362,12 @@ fn receive_message(
 
 // The oldest notice is taken out.
 fn receive_notice(handles: &[u64], ends: &mut [u16], p: Peer, e: Entry, out: &mut [u8]) -> Outcome
-    requires { ⌜ (length (now handles) ≡ handlesSize) × (length (now ends) ≡ endCount) × (p .0 < 8) ⌝ }
+    requires { ⌜ (length (now handles) ≡ handlesSize) × (length (now ends) ≡ endsSize) × (p .0 < peerCount) ⌝ }
     ensures { λ r. ⌜ noticeTakenOf r (now (out .exit)) (now (ends .exit)) ≡ noticeTaken (now (handles .entry)) (now (ends .entry)) (p .0) e (now (out .entry)) ⌝ }
 {
-    let id = grants::id_or_invalid(handles, p, rings::wide(e.slot) % 128);
+    let id = grants::id_or_invalid(handles, p, rings::wide(e.slot) % NODES);
     rings::pop(ends, p);
-    if e.kind == notices::DESTROYED {
+    if e.kind == rings::DESTROYED {
         return answers::write_received(out, Received::Destroyed(id));
     }
     answers::write_received(out, Received::Released(id))
@@ -382,7 +387,7 @@ pub fn receive(
     p: Peer,
     out: &mut [u8],
 ) -> Outcome
-    requires { ⌜ (length (now peers) ≡ 25) × (length (now nodes) ≡ 256) × (length (now handles) ≡ handlesSize) × (length (now charges) ≡ 96) × (length (now ends) ≡ endCount) × Sized (rowsOf (now entries) (now carried) (now numbers)) × (length (now pool) ≡ poolSize) × (p .0 < 8) × (lengthOf (now ends) (p .0) ≤ ringSize) ⌝ }
+    requires { ⌜ (length (now peers) ≡ peersSize) × (length (now nodes) ≡ nodesSize) × (length (now handles) ≡ handlesSize) × (length (now charges) ≡ chargesSize) × QueueTables (now ends) (now entries) (now carried) (now numbers) × (length (now pool) ≡ poolSize) × (p .0 < peerCount) × (lengthOf (now ends) (p .0) ≤ ringSize) ⌝ }
     ensures { λ r. ⌜ receivedOf r (now (out .exit)) (now (peers .exit)) (now (handles .exit)) (queuesOf (now (charges .exit)) (now (ends .exit)) (now (entries .exit)) (now (carried .exit)) (now (numbers .exit)) (now (pool .exit))) ≡ received (now (peers .entry)) (now (nodes .entry)) (now (handles .entry)) (queuesOf (now (charges .entry)) (now (ends .entry)) (now (entries .entry)) (now (carried .entry)) (now (numbers .entry)) (now (pool .entry))) (p .0) (now (out .entry)) ⌝ }
 {
     tables::count_command(peers);

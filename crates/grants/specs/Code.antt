@@ -9,13 +9,14 @@ use lib.ListN.{length, getD, set, replicate}
 use borrow.Author.Tests.{eq-eqb, ne-eqb}
 use Rattle.ids.specs.declared.HandleId.{HandleId}
 use Rattle.rings.specs.declared.Match.{Match}
-use Rattle.rings.specs.Rings.{Rings, ringsOf, oneSlot}
+use Rattle.rings.specs.Rings.{releasedBit, Rings, ringsOf, oneSlot}
 use Rattle.tables.specs.Peers.{givenAt, setGiven}
 use Rattle.tables.specs.Nodes.{liveAt}
 use Rattle.tables.specs.Handles.{idAt, countAt, totalAt, raised}
-use Rattle.model.specs.Numbers.{invalid}
+use Rattle.model.specs.Numbers.{nodes, invalid}
 use Rattle.queues.specs.Queues.{withdrawn}
 use Rattle.grants.specs.Grants.{Numbered, numberedOf, numbered, shownTo, referencedOf, referenced, givenOf, givenTo, Gives, givesOf, givesTo, idOrInvalid}
+use Rattle.ids.specs.Sizes.{slots, mostIds}
 
 -- next_id
 pub next-done : (ps : List ℕ) (p : ℕ) {g : ℕ} → g ≡ givenAt ps p → {ps′ : List ℕ} → ps′ ≡ setGiven ps p (g + 1) → numberedOf (4 * (g + 1) + 3) ps′ ≡ numbered ps p
@@ -56,7 +57,7 @@ module _ (ns ps hs : List ℕ) (r : Rings) (p s : ℕ) {l : Bool} (el : l ≡ li
   give-dead h = rw (← el, h)
 
   module _ (live : l ≡ true) {n : ℕ} (en : n ≡ totalAt hs s) {i : ℕ} {ps′ hs′ : List ℕ} (e : referencedOf i ps′ hs′ ≡ referenced ps hs p s) where
-    pub give-one : n ≡ 1 → {m : Match} → m ≡ oneSlot 4 s → {r′ : Rings} → r′ ≡ withdrawn r (s / 16) m → givenOf i ps′ hs′ r′ ≡ givenTo ns ps hs r p s
+    pub give-one : n ≡ 1 → {m : Match} → m ≡ oneSlot releasedBit s → {r′ : Rings} → r′ ≡ withdrawn r (s / slots) m → givenOf i ps′ hs′ r′ ≡ givenTo ns ps hs r p s
     unfolding givenTo
     give-one h em er = rw (← el, live, ← en, eq-eqb n 1 h, er, em, ← e)
 
@@ -76,13 +77,13 @@ pub record Giving (ns ps hs es xs cs vs : List ℕ) (p : ℕ) (ss : List ℕ) (n
   pub made : givesOf is ps′ hs′ (ringsOf es′ xs′ cs′ vs′) ≡ givesTo ns ps hs (ringsOf es xs cs vs) p ss k
 
 pub giving-start : (ns ps hs ends entries carried numbers : List ℕ) (p : ℕ) (ss : List ℕ) (n : ℕ) →
-    Giving ns ps hs ends entries carried numbers p ss n (replicate 8 0) ps hs ends entries carried numbers 0
+    Giving ns ps hs ends entries carried numbers p ss n (replicate mostIds 0) ps hs ends entries carried numbers 0
 unfolding givesTo
 giving-start ns ps hs ends entries carried numbers p ss n =
     record { within = omega arith; peers = refl; handles = refl; ends = refl; entries = refl; carried = refl; numbers = refl; made = refl }
 
 pub gives-next : (ns ps hs : List ℕ) (r : Rings) (p : ℕ) (ss : List ℕ) (k : ℕ) {is qs gs : List ℕ} {r′ : Rings} → givesOf is qs gs r′ ≡ givesTo ns ps hs r p ss k →
-    {i : ℕ} {qs′ gs′ : List ℕ} {r″ : Rings} → givenOf i qs′ gs′ r″ ≡ givenTo ns qs gs r′ p (getD ss k 0 % 128) →
+    {i : ℕ} {qs′ gs′ : List ℕ} {r″ : Rings} → givenOf i qs′ gs′ r″ ≡ givenTo ns qs gs r′ p (getD ss k 0 % nodes) →
     givesOf (set is k i) qs′ gs′ r″ ≡ givesTo ns ps hs r p ss (k + 1)
 unfolding givesTo
 gives-next ns ps hs r p ss k e f =

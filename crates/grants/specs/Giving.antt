@@ -12,14 +12,14 @@ use borrow.Author.Tests.{eqb-false, eq-eqb, ne-eqb}
 use Rattle.laws.specs.Tests.{pick, Seen, Seen.is-true, Seen.is-false, look, clash, pick-all, pick-cases, Same, Same.same, Same.other, same?}
 use Rattle.laws.specs.Tables.{upd, upd-same, upd-other, upd-self}
 use Rattle.laws.specs.Weights.{All, keep, all-imp, all-at}
-use Rattle.rings.specs.Rings.{slots, ringSize, Rings, Sized, endCount, lengthOf, oneSlot}
+use Rattle.rings.specs.Rings.{releasedBit, slots, ringSize, Rings, Sized, endsSize, lengthOf, oneSlot}
 use Rattle.tables.specs.Peers.{modulus, givenAt}
 use Rattle.tables.specs.PeersView.{statusV, userV, givenV, acceptedV, status-given, user-given, given-given, accepted-given, given-is, given-length}
 use Rattle.tables.specs.Nodes.{liveAt}
 use Rattle.tables.specs.NodesView.{lifeV, live-is}
 use Rattle.tables.specs.Handles.{idAt, countAt, totalAt}
 use Rattle.tables.specs.HandlesView.{handleV, handle-raised, count-is, id-is, given-after, total-is, raised-length}
-use Rattle.model.specs.Numbers.{owner, nextId}
+use Rattle.model.specs.Numbers.{nodes, owner, nextId}
 use Rattle.model.specs.State.{Life, isLive, Handle, handleOf, count, idOr, Entry, State, total}
 use Rattle.model.specs.State.Entry.{message, destroyed, released}
 use Rattle.model.specs.Tables.{withGiven, withHandles, withQueues}
@@ -29,10 +29,11 @@ use Rattle.model.specs.Occurs.{keep-imp}
 use Rattle.model.specs.Counts.{put, put-all, total-other, count-handle}
 use Rattle.model.specs.SimGive.{given-gives}
 use Rattle.model.specs.QueuesProof.{give-handle, give-dead}
-use Rattle.view.specs.View.{Bus, Shape, queueV, stateOf}
+use Rattle.view.specs.View.{Bus, Shape, queueV, stateOf, setPeers, setHandles, setRings, shape-peers, shape-handles, shape-rings}
 use Rattle.queues.specs.Queues.{Short, withdrawn}
 use Rattle.queues.specs.Leaving.{withdraw-view, withdraw-rows, withdraw-ends, withdraw-length, withdraw-lengths, one-match, one-bytes}
 use Rattle.grants.specs.Grants.{Numbered, numberedOf, numbered, shownTo, referenced, Given, givenTo, Gives, oneMore, givesTo}
+use Rattle.ids.specs.Sizes.{peers, mostIds, peersSize}
 
 -- A release notice in the queue of the peer q is for a node of q whose sum of counts is 1.
 abbrev pub LoneEntry : (ℕ → ℕ → Handle) → ℕ → Entry → Type 0
@@ -87,7 +88,7 @@ keep-whole t [] h = refl
 keep-whole t (x ∷ xs) h = rw (h .0) (ap (_∷_ x) (keep-whole t xs (h .1)))
 
 -- The table of peers once an ID is shown.
-module _ (ps hs : List ℕ) (size : length ps ≡ 25) (p s : ℕ) (lp : p < 8) (ls : s < 128) where
+module _ (ps hs : List ℕ) (size : length ps ≡ peersSize) (p s : ℕ) (lp : p < peers) (ls : s < nodes) where
   shown-cases : (P : Numbered → Type 0) → (eqb (countAt hs p s) 0 ≡ true → P (numbered ps p)) → (eqb (countAt hs p s) 0 ≡ false → P (numberedOf (idAt hs p s) ps)) →
       P (shownTo ps hs p s)
   unfolding shownTo
@@ -127,15 +128,15 @@ shown-length ps hs p s =
 
 -- The rings once the release notice of a slot is withdrawn. Where the sum of counts is not 1 no such notice stands.
 abbrev unnotedRings : List ℕ → Rings → ℕ → Rings
-unnotedRings hs r s = pick (eqb (totalAt hs s) 1) (withdrawn r (s / slots) (oneSlot 4 s)) r
+unnotedRings hs r s = pick (eqb (totalAt hs s) 1) (withdrawn r (s / slots) (oneSlot releasedBit s)) r
 
 module _ (hs : List ℕ) (r : Rings) (s : ℕ) where
-  unnoted-queue : (t : List ℕ) → Sized (r .rows) → length (r .ends) ≡ endCount → s < 128 → Lone (handleV hs) (queueV r t) → lengthOf (r .ends) (s / slots) ≤ ringSize →
+  unnoted-queue : (t : List ℕ) → Sized (r .rows) → length (r .ends) ≡ endsSize → s < nodes → Lone (handleV hs) (queueV r t) → lengthOf (r .ends) (s / slots) ≤ ringSize →
       queueV (unnotedRings hs r s) t ≡ upd (queueV r t) (owner s) (keep (notReleased (eqb s)) (queueV r t (owner s)))
   unnoted-queue t rows ends ls lone short =
       pick-cases (λ (x : Rings). queueV x t ≡ upd (queueV r t) (owner s) (keep (notReleased (eqb s)) (queueV r t (owner s)))) (eqb (totalAt hs s) 1)
-      (withdrawn r (s / slots) (oneSlot 4 s)) r
-      (λ e. withdraw-view r (s / slots) (oneSlot 4 s) short t (notReleased (eqb s)) rows ends (omega arith) (one-match s) (one-bytes s))
+      (withdrawn r (s / slots) (oneSlot releasedBit s)) r
+      (λ e. withdraw-view r (s / slots) (oneSlot releasedBit s) short t (notReleased (eqb s)) rows ends (omega arith) (one-match s) (one-bytes s))
       (λ e.
       sym (upd-self (queueV r t) (owner s) (keep (notReleased (eqb s)) (queueV r t (owner s)))
       (keep-whole (notReleased (eqb s)) (queueV r t (owner s))
@@ -148,30 +149,30 @@ module _ (hs : List ℕ) (r : Rings) (s : ℕ) where
 
   unnoted-rows : Sized (r .rows) → Sized (unnotedRings hs r s .rows)
   unnoted-rows h =
-      pick-all (λ (x : Rings). Sized (x .rows)) (eqb (totalAt hs s) 1) (withdrawn r (s / slots) (oneSlot 4 s)) r (withdraw-rows r (s / slots) (oneSlot 4 s) h) h
+      pick-all (λ (x : Rings). Sized (x .rows)) (eqb (totalAt hs s) 1) (withdrawn r (s / slots) (oneSlot releasedBit s)) r (withdraw-rows r (s / slots) (oneSlot releasedBit s) h) h
 
   unnoted-ends : length (unnotedRings hs r s .ends) ≡ length (r .ends)
   unnoted-ends =
-      pick-all (λ (x : Rings). length (x .ends) ≡ length (r .ends)) (eqb (totalAt hs s) 1) (withdrawn r (s / slots) (oneSlot 4 s)) r
-      (withdraw-ends r (s / slots) (oneSlot 4 s)) refl
+      pick-all (λ (x : Rings). length (x .ends) ≡ length (r .ends)) (eqb (totalAt hs s) 1) (withdrawn r (s / slots) (oneSlot releasedBit s)) r
+      (withdraw-ends r (s / slots) (oneSlot releasedBit s)) refl
 
-  unnoted-lengths : length (r .ends) ≡ endCount → s < 128 → (o : ℕ) → lengthOf (unnotedRings hs r s .ends) o ≤ lengthOf (r .ends) o
+  unnoted-lengths : length (r .ends) ≡ endsSize → s < nodes → (o : ℕ) → lengthOf (unnotedRings hs r s .ends) o ≤ lengthOf (r .ends) o
   unnoted-lengths ends ls o =
-      pick-all (λ (x : Rings). lengthOf (x .ends) o ≤ lengthOf (r .ends) o) (eqb (totalAt hs s) 1) (withdrawn r (s / slots) (oneSlot 4 s)) r (go (same? (s / slots) o)) (omega arith)
+      pick-all (λ (x : Rings). lengthOf (x .ends) o ≤ lengthOf (r .ends) o) (eqb (totalAt hs s) 1) (withdrawn r (s / slots) (oneSlot releasedBit s)) r (go (same? (s / slots) o)) (omega arith)
     where
-      go : Same (s / slots) o → lengthOf (withdrawn r (s / slots) (oneSlot 4 s) .ends) o ≤ lengthOf (r .ends) o
-      go (same e) = rw (← e) (withdraw-length r (s / slots) (oneSlot 4 s) ends (omega arith))
-      go (other d) = omega (arith, withdraw-lengths r (s / slots) (oneSlot 4 s) o d)
+      go : Same (s / slots) o → lengthOf (withdrawn r (s / slots) (oneSlot releasedBit s) .ends) o ≤ lengthOf (r .ends) o
+      go (same e) = rw (← e) (withdraw-length r (s / slots) (oneSlot releasedBit s) ends (omega arith))
+      go (other d) = omega (arith, withdraw-lengths r (s / slots) (oneSlot releasedBit s) o d)
 
 -- The buffers once a handle is given.
 abbrev pub givenBus : Bus → Given → Bus
-givenBus b g = record { peers = g .peers; nodes = b .nodes; handles = g .handles; charges = b .charges; rings = g .rings; pool = b .pool }
+givenBus b g = setRings (setHandles (setPeers b (g .peers)) (g .handles)) (g .rings)
 
 abbrev pub givenOn : Bus → ℕ → ℕ → Given
 givenOn b p s = givenTo (b .nodes) (b .peers) (b .handles) (b .rings) p s
 
-module _ (b : Bus) (shape : Shape b) (p s : ℕ) (lp : p < 8) (ls : s < 128) (lone : Lone (handleV (b .handles)) (queueV (b .rings) (b .pool)))
-    (counts : countAt (b .handles) p s + 1 < modulus) (ids : givenAt (b .peers) p + 1 < modulus) (short : lengthOf (b .rings .ends) (s / 16) ≤ ringSize) where
+module _ (b : Bus) (shape : Shape b) (p s : ℕ) (lp : p < peers) (ls : s < nodes) (lone : Lone (handleV (b .handles)) (queueV (b .rings) (b .pool)))
+    (counts : countAt (b .handles) p s + 1 < modulus) (ids : givenAt (b .peers) p + 1 < modulus) (short : lengthOf (b .rings .ends) (s / slots) ≤ ringSize) where
   pub given-view : stateOf (givenBus b (givenOn b p s)) ≡ give (stateOf b) p s
   unfolding givenTo referenced give shown withdraw withQueues withHandles withGiven
   given-view = go (look (liveAt (b .nodes) s))
@@ -197,7 +198,7 @@ module _ (b : Bus) (shape : Shape b) (p s : ℕ) (lp : p < 8) (ls : s < 128) (lo
           )
 
 -- The ID shown is the model's.
-pub given-shown : (b : Bus) → Shape b → (p s : ℕ) → p < 8 → s < 128 → givenOn b p s .id ≡ shown (stateOf b) p s
+pub given-shown : (b : Bus) → Shape b → (p s : ℕ) → p < peers → s < nodes → givenOn b p s .id ≡ shown (stateOf b) p s
 unfolding givenTo referenced shown
 given-shown b shape p s lp ls = go (look (liveAt (b .nodes) s))
   where
@@ -217,17 +218,12 @@ given-shape b shape p s = go (look (liveAt (b .nodes) s))
     go (is-false e) = rw e shape
     go (is-true e) =
         rw e
-        (record {
-          peers = shown-length (b .peers) (b .handles) p s ∙ shape .peers;
-          nodes = shape .nodes;
-          handles = raised-length (b .handles) p s (shownTo (b .peers) (b .handles) p s .id) ∙ shape .handles;
-          charges = shape .charges;
-          ends = unnoted-ends (b .handles) (b .rings) s ∙ shape .ends;
-          rows = unnoted-rows (b .handles) (b .rings) s (shape .rows);
-          pool = shape .pool;
-        })
+        (shape-rings
+        (shape-handles (shape-peers shape (shown-length (b .peers) (b .handles) p s ∙ shape .peers))
+        (raised-length (b .handles) p s (shownTo (b .peers) (b .handles) p s .id) ∙ shape .handles))
+        (unnoted-ends (b .handles) (b .rings) s ∙ shape .ends) (unnoted-rows (b .handles) (b .rings) s (shape .rows)))
 
-pub given-lengths : (b : Bus) → Shape b → (p s : ℕ) → s < 128 → (o : ℕ) → lengthOf (givenOn b p s .rings .ends) o ≤ lengthOf (b .rings .ends) o
+pub given-lengths : (b : Bus) → Shape b → (p s : ℕ) → s < nodes → (o : ℕ) → lengthOf (givenOn b p s .rings .ends) o ≤ lengthOf (b .rings .ends) o
 unfolding givenTo
 given-lengths b shape p s ls o = go (look (liveAt (b .nodes) s))
   where
@@ -265,7 +261,7 @@ count-gives b p (s ∷ ss) q t = omega (arith, count-gives (give b p s) p ss q t
 
 -- The buffers once several are given.
 abbrev pub givesBus : Bus → Gives → Bus
-givesBus b g = record { peers = g .peers; nodes = b .nodes; handles = g .handles; charges = b .charges; rings = g .rings; pool = b .pool }
+givesBus b g = setRings (setHandles (setPeers b (g .peers)) (g .handles)) (g .rings)
 
 abbrev pub givesOn : Bus → ℕ → List ℕ → ℕ → Gives
 givesOn b p ss n = givesTo (b .nodes) (b .peers) (b .handles) (b .rings) p ss n
@@ -274,12 +270,12 @@ givesOn b p ss n = givesTo (b .nodes) (b .peers) (b .handles) (b .rings) p ss n
 pub record Handed (b : Bus) (p : ℕ) (ss : List ℕ) (n : ℕ) (g : Gives) : Type 0 where
   pub state : stateOf (givesBus b g) ≡ giveAll (stateOf b) p (take n ss)
   pub shows : take n (g .ids) ≡ shownAll (stateOf b) p (take n ss)
-  pub eight : length (g .ids) ≡ 8
+  pub eight : length (g .ids) ≡ mostIds
   pub shape : Shape (givesBus b g)
   pub lengths : (o : ℕ) → lengthOf (g .rings .ends) o ≤ lengthOf (b .rings .ends) o
 
 -- One more: the slot s after those before it.
-handed-next : (b : Bus) (p : ℕ) (ss : List ℕ) (n s : ℕ) (g : Gives) (x : Given) → take (suc n) ss ≡ take n ss ++ (s ∷ []) → n < 8 → Handed b p ss n g →
+handed-next : (b : Bus) (p : ℕ) (ss : List ℕ) (n s : ℕ) (g : Gives) (x : Given) → take (suc n) ss ≡ take n ss ++ (s ∷ []) → n < mostIds → Handed b p ss n g →
     stateOf (givenBus (givesBus b g) x) ≡ give (stateOf (givesBus b g)) p s → x .id ≡ shown (stateOf (givesBus b g)) p s → Shape (givenBus (givesBus b g) x) →
     ((o : ℕ) → lengthOf (x .rings .ends) o ≤ lengthOf (g .rings .ends) o) → Handed b p ss (suc n) (oneMore g n x)
 handed-next b p ss n s g x more ln h state id shape lengths =
@@ -298,9 +294,9 @@ handed-next b p ss n s g x more ln h state id shape lengths =
 lone-of : (a c : State) → a ≡ c → Lone (c .handle) (c .queue) → Lone (a .handle) (a .queue)
 lone-of a c e l = rw e l
 
-module _ (b : Bus) (shape : Shape b) (p : ℕ) (ss : List ℕ) (lp : p < 8) (size : length ss ≡ 8) (lone : Lone (handleV (b .handles)) (queueV (b .rings) (b .pool)))
+module _ (b : Bus) (shape : Shape b) (p : ℕ) (ss : List ℕ) (lp : p < peers) (size : length ss ≡ 8) (lone : Lone (handleV (b .handles)) (queueV (b .rings) (b .pool)))
     (short : Short (b .rings .ends)) where
-  handed : (n : ℕ) → n ≤ 8 → ((j : ℕ) → j < n → getD ss j 0 < 128) → ((q s : ℕ) → count (handleV (b .handles) q s) + n < modulus) → givenV (b .peers) p + n < modulus →
+  handed : (n : ℕ) → n ≤ mostIds → ((j : ℕ) → j < n → getD ss j 0 < nodes) → ((q s : ℕ) → count (handleV (b .handles) q s) + n < modulus) → givenV (b .peers) p + n < modulus →
       Handed b p ss n (givesOn b p ss n)
   unfolding givesTo
   handed zero ln low counts ids = record { state = refl; shows = refl; eight = refl; shape = shape; lengths = λ o. omega arith }
@@ -310,16 +306,16 @@ module _ (b : Bus) (shape : Shape b) (p : ℕ) (ss : List ℕ) (lp : p < 8) (siz
       s : ℕ
       s = getD ss n 0
 
-      ls : s < 128
+      ls : s < nodes
       ls = low n (omega arith)
 
-      same-slot : s % 128 ≡ s
+      same-slot : s % nodes ≡ s
       same-slot = omega (arith, ls)
 
       fewer : length (take n ss) ≡ n
       fewer = length-take-le n ss (omega arith)
 
-      go : (g : Gives) → Handed b p ss n g → Handed b p ss (suc n) (oneMore g n (givenTo (b .nodes) (g .peers) (g .handles) (g .rings) p (getD ss n 0 % 128)))
+      go : (g : Gives) → Handed b p ss n g → Handed b p ss (suc n) (oneMore g n (givenTo (b .nodes) (g .peers) (g .handles) (g .rings) p (getD ss n 0 % nodes)))
       go g h =
           let old : State = giveAll (stateOf b) p (take n ss) in
           let c = givesBus b g in
@@ -327,7 +323,7 @@ module _ (b : Bus) (shape : Shape b) (p : ℕ) (ss : List ℕ) (lp : p < 8) (siz
           = omega (arith, count-is (g .handles) p s lp ls, ap (λ (a : State). count (a .handle p s)) (h .state), count-gives (stateOf b) p (take n ss) p s, fewer, counts p s) in
           let named : givenAt (g .peers) p + 1 < modulus
           = omega (arith, given-is (g .peers) p lp, ap (λ (a : State). a .given p) (h .state), given-gives (stateOf b) p (take n ss) p, fewer, ids) in
-          let fit : lengthOf (g .rings .ends) (s / 16) ≤ ringSize = omega (arith, h .lengths (s / 16), short (s / 16) (omega (arith, ls))) in
+          let fit : lengthOf (g .rings .ends) (s / slots) ≤ ringSize = omega (arith, h .lengths (s / slots), short (s / slots) (omega (arith, ls))) in
           let alone : Lone (handleV (g .handles)) (queueV (g .rings) (b .pool)) = lone-of (stateOf c) old (h .state) (lone-gives (stateOf b) p (take n ss) lone) in
           rw same-slot
           (handed-next b p ss n s g (givenOn c p s) (take-suc ss n 0 (omega arith)) (omega arith) h (given-view c (h .shape) p s lp ls alone many named fit)
@@ -335,9 +331,9 @@ module _ (b : Bus) (shape : Shape b) (p : ℕ) (ss : List ℕ) (lp : p < 8) (siz
           (given-shape c (h .shape) p s)
           (given-lengths c (h .shape) p s ls))
 
-  pub gives-view : (n : ℕ) → n ≤ 8 → All (λ s. s < 128) (take n ss) → ((q s : ℕ) → count (stateOf b .handle q s) + n < modulus) → stateOf b .given p + n < modulus →
+  pub gives-view : (n : ℕ) → n ≤ mostIds → All (λ s. s < nodes) (take n ss) → ((q s : ℕ) → count (stateOf b .handle q s) + n < modulus) → stateOf b .given p + n < modulus →
       Handed b p ss n (givesOn b p ss n)
   gives-view n ln low counts ids = handed n ln each counts ids
     where
-      each : (j : ℕ) → j < n → getD ss j 0 < 128
-      each j l = rw (getD-take n ss j 0 l) at (all-at (λ s. s < 128) (take n ss) j 0 low (omega (arith, length-take-le n ss (omega arith))))
+      each : (j : ℕ) → j < n → getD ss j 0 < nodes
+      each j l = rw (getD-take n ss j 0 l) at (all-at (λ s. s < nodes) (take n ss) j 0 low (omega (arith, length-take-le n ss (omega arith))))

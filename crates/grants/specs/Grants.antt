@@ -5,12 +5,13 @@ use mathlib.Core.List.{List}
 use lib.ListN.{getD, set, replicate}
 use lib.Dec.{eqb}
 use Rattle.laws.specs.Tests.{pick}
-use Rattle.rings.specs.Rings.{slots, Rings, oneSlot}
+use Rattle.rings.specs.Rings.{releasedBit, slots, Rings, oneSlot}
 use Rattle.tables.specs.Peers.{givenAt, setGiven}
 use Rattle.tables.specs.Nodes.{liveAt}
 use Rattle.tables.specs.Handles.{idAt, countAt, totalAt, raised}
-use Rattle.model.specs.Numbers.{invalid, nextId}
+use Rattle.model.specs.Numbers.{nodes, invalid, nextId}
 use Rattle.queues.specs.Queues.{withdrawn}
+use Rattle.ids.specs.Sizes.{mostIds}
 
 -- An ID, and the table of peers.
 pub record Numbered : Type 0 where
@@ -54,7 +55,7 @@ unfoldable pub givenTo : List ℕ → List ℕ → List ℕ → Rings → ℕ �
 givenTo ns ps hs r p s =
     pick (liveAt ns s)
     (givenOf (referenced ps hs p s .id) (referenced ps hs p s .peers) (referenced ps hs p s .handles)
-    (pick (eqb (totalAt hs s) 1) (withdrawn r (s / slots) (oneSlot 4 s)) r))
+    (pick (eqb (totalAt hs s) 1) (withdrawn r (s / slots) (oneSlot releasedBit s)) r))
     (givenOf invalid ps hs r)
 
 -- The first n of some slots given in order.
@@ -71,10 +72,10 @@ abbrev pub oneMore : Gives → ℕ → Given → Gives
 oneMore g n x = givesOf (set (g .ids) n (x .id)) (x .peers) (x .handles) (x .rings)
 
 unfoldable pub givesTo : List ℕ → List ℕ → List ℕ → Rings → ℕ → List ℕ → ℕ → Gives
-givesTo ns ps hs r p ss zero = givesOf (replicate 8 0) ps hs r
+givesTo ns ps hs r p ss zero = givesOf (replicate mostIds 0) ps hs r
 givesTo ns ps hs r p ss (suc n) =
     let g = givesTo ns ps hs r p ss n in
-    oneMore g n (givenTo ns (g .peers) (g .handles) (g .rings) p (getD ss n 0 % 128))
+    oneMore g n (givenTo ns (g .peers) (g .handles) (g .rings) p (getD ss n 0 % nodes))
 
 -- The ID of the peer's handle to a slot, all ones where it has none.
 unfoldable pub idOrInvalid : List ℕ → ℕ → ℕ → ℕ

@@ -15,10 +15,10 @@ use Rattle.rings.specs.Rings.{ringSize, lengthOf}
 use Rattle.tables.specs.Peers.{modulus, givenAt}
 use Rattle.tables.specs.PeersView.{givenV, given-is}
 use Rattle.tables.specs.Nodes.{liveAt}
-use Rattle.tables.specs.Handles.{idAt, countAt, listedId, listedSlot}
+use Rattle.tables.specs.Handles.{lengthBlock, idAt, countAt, listedId, listedSlot}
 use Rattle.tables.specs.HandlesView.{handleV, count-is}
 use Rattle.tables.specs.Listed.{Listed, AllListed, listed-raised}
-use Rattle.model.specs.Numbers.{owner, nextId}
+use Rattle.model.specs.Numbers.{nodes, owner, nextId}
 use Rattle.model.specs.State.{State, Handle, Handle.some, count}
 use Rattle.model.specs.Changes.{giveAll}
 use Rattle.model.specs.Ids.{Handles}
@@ -27,6 +27,7 @@ use Rattle.view.specs.View.{Bus, Shape, stateOf, queueV}
 use Rattle.queues.specs.Queues.{Short}
 use Rattle.grants.specs.Grants.{Given, numbered, shownTo, referenced, givenTo, Gives, givesTo}
 use Rattle.grants.specs.Giving.{Lone, givenBus, givenOn, givesBus, givesOn, Handed, gives-view, count-gives}
+use Rattle.ids.specs.Sizes.{peers, mostIds}
 
 module _ (ps hs : List ℕ) (p s : ℕ) where
   shown-new : countAt hs p s ≡ 0 → shownTo ps hs p s .id ≡ nextId (givenAt ps p)
@@ -38,7 +39,7 @@ module _ (ps hs : List ℕ) (p s : ℕ) where
   shown-old e = rw (ne-eqb (countAt hs p s) 0 e)
 
 -- Every listed ID was given.
-listed-below : (hs : List ℕ) (p g : ℕ) → Handles p g (handleV hs p) → Listed hs p → (k : ℕ) → k < idAt hs 16 p → listedId hs p k < nextId g
+listed-below : (hs : List ℕ) (p g : ℕ) → Handles p g (handleV hs p) → Listed hs p → (k : ℕ) → k < idAt hs lengthBlock p → listedId hs p k < nextId g
 listed-below hs p g v w k l = go (same? (owner (listedSlot hs p k)) p)
   where
     go : Same (owner (listedSlot hs p k)) p → listedId hs p k < nextId g
@@ -50,7 +51,7 @@ listed-below hs p g v w k l = go (same? (owner (listedSlot hs p k)) p)
         let y = v .given (listedSlot hs p k) (listedId hs p k) (x .2 .0) (x .2 .1) e in
         omega (arith, y .1, y .2)
 
-pub listed-given : (b : Bus) → Shape b → (p s : ℕ) → p < 8 → s < 128 → Handles p (stateOf b .given p) (stateOf b .handle p) → countAt (b .handles) p s + 1 < modulus →
+pub listed-given : (b : Bus) → Shape b → (p s : ℕ) → p < peers → s < nodes → Handles p (stateOf b .given p) (stateOf b .handle p) → countAt (b .handles) p s + 1 < modulus →
     AllListed (b .handles) → AllListed (givenOn b p s .handles)
 unfolding givenTo referenced
 listed-given b shape p s lp ls v lc a = go (look (liveAt (b .nodes) s))
@@ -59,7 +60,7 @@ listed-given b shape p s lp ls v lc a = go (look (liveAt (b .nodes) s))
     g = givenAt (b .peers) p
 
     new : countAt (b .handles) p s ≡ 0 →
-        (eqb (shownTo (b .peers) (b .handles) p s .id % 4) 0 ≡ false) × ((k : ℕ) → k < idAt (b .handles) 16 p → listedId (b .handles) p k < shownTo (b .peers) (b .handles) p s .id)
+        (eqb (shownTo (b .peers) (b .handles) p s .id % 4) 0 ≡ false) × ((k : ℕ) → k < idAt (b .handles) lengthBlock p → listedId (b .handles) p k < shownTo (b .peers) (b .handles) p s .id)
     new e =
         let i : shownTo (b .peers) (b .handles) p s .id ≡ nextId g = shown-new (b .peers) (b .handles) p s e in (
           ne-eqb (shownTo (b .peers) (b .handles) p s .id % 4) 0 (λ z. absurd (omega (arith, i, z))),
@@ -73,9 +74,9 @@ listed-given b shape p s lp ls v lc a = go (look (liveAt (b .nodes) s))
         (listed-raised (b .handles) (shape .handles) p s lp ls a (shownTo (b .peers) (b .handles) p s .id) lc new (λ z. shown-old (b .peers) (b .handles) p s z))
 
 -- Several handles.
-module _ (b : Bus) (shape : Shape b) (p : ℕ) (ss : List ℕ) (lp : p < 8) (size : length ss ≡ 8) (lone : Lone (handleV (b .handles)) (queueV (b .rings) (b .pool)))
+module _ (b : Bus) (shape : Shape b) (p : ℕ) (ss : List ℕ) (lp : p < peers) (size : length ss ≡ 8) (lone : Lone (handleV (b .handles)) (queueV (b .rings) (b .pool)))
     (short : Short (b .rings .ends)) (hold : Holding (stateOf b)) (a : AllListed (b .handles)) where
-  pub listed-gives : (n : ℕ) → n ≤ 8 → ((j : ℕ) → j < n → getD ss j 0 < 128) → ((q s : ℕ) → count (stateOf b .handle q s) + n < modulus) → stateOf b .given p + n < modulus →
+  pub listed-gives : (n : ℕ) → n ≤ mostIds → ((j : ℕ) → j < n → getD ss j 0 < nodes) → ((q s : ℕ) → count (stateOf b .handle q s) + n < modulus) → stateOf b .given p + n < modulus →
       AllListed (givesOn b p ss n .handles)
   unfolding givesTo
   listed-gives zero ln low counts ids = a
@@ -83,9 +84,9 @@ module _ (b : Bus) (shape : Shape b) (p : ℕ) (ss : List ℕ) (lp : p < 8) (siz
       let ih = listed-gives n (omega arith) (λ j l. low j (omega arith)) (λ q s. omega (arith, counts q s)) (omega arith) in
       let g = givesOn b p ss n in
       let s = getD ss n 0 in
-      let ls : s < 128 = low n (omega arith) in
-      let slot : s % 128 ≡ s = omega arith in
-      let below : All (λ s. s < 128) (take n ss) = all-of (λ s. s < 128) ss n 0 (λ j l. low j (omega arith)) in
+      let ls : s < nodes = low n (omega arith) in
+      let slot : s % nodes ≡ s = omega arith in
+      let below : All (λ s. s < nodes) (take n ss) = all-of (λ s. s < nodes) ss n 0 (λ j l. low j (omega arith)) in
       let h : Handed b p ss n g = gives-view b shape p ss lp size lone short n (omega arith) below (λ q s. omega (arith, counts q s)) (omega arith) in
       let v : Holding (stateOf (givesBus b g)) = rw (h .state) (holding-gives (stateOf b) p (take n ss) hold below) in
       let fewer : length (take n ss) ≡ n = length-take-le n ss (omega arith) in

@@ -2,18 +2,21 @@
 ghost use mathlib.Core.Path.{_≡_};
 ghost use Prim.Native.Nat.{_<_, _≤_};
 ghost use lib.ListN.{length};
-ghost use Rattle.rings.specs.Rings.{rowsOf, ringsOf, endCount, Sized};
+ghost use Rattle.rings.specs.Rings.{ringsOf, QueueTables};
 ghost use Rattle.tables.specs.Handles.{handlesSize};
 ghost use Rattle.grants.specs.Grants.{numbered, numberedOf, shownTo, referencedOf, referenced, givenOf, givenTo, givesOf, givesTo, idOrInvalid};
+ghost use Rattle.ids.specs.Sizes.{peers as peerCount, peersSize, nodesSize, mostIds};
+ghost use Rattle.model.specs.Numbers.{nodes as nodeCount};
 use ids::HandleId;
 use ids::INVALID;
+use ids::NODES;
 use ids::Peer;
 use ids::SLOTS;
 use rings::Match;
 
 // A new ID for the peer.
 fn next_id(peers: &mut [u64], p: Peer) -> HandleId
-    requires { ⌜ (length (now peers) ≡ 25) × (p .0 < 8) ⌝ }
+    requires { ⌜ (length (now peers) ≡ peersSize) × (p .0 < peerCount) ⌝ }
     ensures { λ r. ⌜ numberedOf (r .0) (now (peers .exit)) ≡ numbered (now (peers .entry)) (p .0) ⌝ }
 {
     let n = tables::given_of(peers, p) + 1;
@@ -23,7 +26,7 @@ fn next_id(peers: &mut [u64], p: Peer) -> HandleId
 
 // The ID of the peer's handle to the slot's node, a new one where it has none.
 fn shown_id(peers: &mut [u64], handles: &[u64], p: Peer, s: usize) -> HandleId
-    requires { ⌜ (length (now peers) ≡ 25) × (length (now handles) ≡ handlesSize) × (p .0 < 8) × (s < 128) ⌝ }
+    requires { ⌜ (length (now peers) ≡ peersSize) × (length (now handles) ≡ handlesSize) × (p .0 < peerCount) × (s < nodeCount) ⌝ }
     ensures { λ r. ⌜ numberedOf (r .0) (now (peers .exit)) ≡ shownTo (now (peers .entry)) (now (handles .entry)) (p .0) s ⌝ }
 {
     if tables::count_of(handles, p, s) == 0 {
@@ -34,7 +37,7 @@ fn shown_id(peers: &mut [u64], handles: &[u64], p: Peer, s: usize) -> HandleId
 
 // One more reference of the peer to the slot's node: the ID.
 fn add_reference(peers: &mut [u64], handles: &mut [u64], p: Peer, s: usize) -> u64
-    requires { ⌜ (length (now peers) ≡ 25) × (length (now handles) ≡ handlesSize) × (p .0 < 8) × (s < 128) ⌝ }
+    requires { ⌜ (length (now peers) ≡ peersSize) × (length (now handles) ≡ handlesSize) × (p .0 < peerCount) × (s < nodeCount) ⌝ }
     ensures { λ r. ⌜ referencedOf r (now (peers .exit)) (now (handles .exit)) ≡ referenced (now (peers .entry)) (now (handles .entry)) (p .0) s ⌝ }
 {
     let id = shown_id(peers, handles, p, s);
@@ -55,7 +58,7 @@ pub fn give(
     p: Peer,
     s: usize,
 ) -> u64
-    requires { ⌜ (length (now peers) ≡ 25) × (length (now nodes) ≡ 256) × (length (now handles) ≡ handlesSize) × (length (now ends) ≡ endCount) × Sized (rowsOf (now entries) (now carried) (now numbers)) × (p .0 < 8) × (s < 128) ⌝ }
+    requires { ⌜ (length (now peers) ≡ peersSize) × (length (now nodes) ≡ nodesSize) × (length (now handles) ≡ handlesSize) × QueueTables (now ends) (now entries) (now carried) (now numbers) × (p .0 < peerCount) × (s < nodeCount) ⌝ }
     ensures { λ r. ⌜ givenOf r (now (peers .exit)) (now (handles .exit)) (ringsOf (now (ends .exit)) (now (entries .exit)) (now (carried .exit)) (now (numbers .exit))) ≡ givenTo (now (nodes .entry)) (now (peers .entry)) (now (handles .entry)) (ringsOf (now (ends .entry)) (now (entries .entry)) (now (carried .entry)) (now (numbers .entry))) (p .0) s ⌝ }
 {
     if !tables::is_live(nodes, s) {
@@ -68,7 +71,7 @@ pub fn give(
             carried,
             numbers,
             Peer(s / SLOTS),
-            Match::one_slot(4, s),
+            Match::one_slot(rings::RELEASED_BIT, s),
         );
     }
     add_reference(peers, handles, p, s)
@@ -87,13 +90,13 @@ pub fn give_all(
     slots: [u8; 8],
     n: usize,
 ) -> [u64; 8]
-    requires { ⌜ (length (now peers) ≡ 25) × (length (now nodes) ≡ 256) × (length (now handles) ≡ handlesSize) × (length (now ends) ≡ endCount) × Sized (rowsOf (now entries) (now carried) (now numbers)) × (p .0 < 8) × (n ≤ 8) ⌝ }
+    requires { ⌜ (length (now peers) ≡ peersSize) × (length (now nodes) ≡ nodesSize) × (length (now handles) ≡ handlesSize) × QueueTables (now ends) (now entries) (now carried) (now numbers) × (p .0 < peerCount) × (n ≤ mostIds) ⌝ }
     ensures { λ r. ⌜ givesOf r (now (peers .exit)) (now (handles .exit)) (ringsOf (now (ends .exit)) (now (entries .exit)) (now (carried .exit)) (now (numbers .exit))) ≡ givesTo (now (nodes .entry)) (now (peers .entry)) (now (handles .entry)) (ringsOf (now (ends .entry)) (now (entries .entry)) (now (carried .entry)) (now (numbers .entry))) (p .0) slots n ⌝ }
 {
     let mut ids = [0u64; 8];
     let mut k = 0;
     while k < n {
-        let s = slots[k] as usize % 128;
+        let s = slots[k] as usize % NODES;
         let id = give(peers, nodes, handles, ends, entries, carried, numbers, p, s);
         ids[k] = id;
         k += 1;
@@ -103,7 +106,7 @@ pub fn give_all(
 
 // The ID of the peer's handle to the slot's node, all ones where it has none.
 pub fn id_or_invalid(handles: &[u64], p: Peer, s: usize) -> HandleId
-    requires { ⌜ (length (now handles) ≡ handlesSize) × (p .0 < 8) × (s < 128) ⌝ }
+    requires { ⌜ (length (now handles) ≡ handlesSize) × (p .0 < peerCount) × (s < nodeCount) ⌝ }
     ensures { λ r. ⌜ r ≡ record { 0 = idOrInvalid (now (handles .entry)) (p .0) s } ⌝ }
 {
     if tables::count_of(handles, p, s) == 0 {

@@ -46,19 +46,72 @@ pub const EDQUOT: u8 = 122;
 // The invalid ID, all ones.
 pub const INVALID: u64 = 18446744073709551615;
 
+// The peers of a bus, and the users.
+pub const PEERS: usize = 8;
+
+pub const USERS: usize = 4;
+
 // The slots of one owner, and of all.
 pub const SLOTS: usize = 16;
 
-pub const NODES: usize = 128;
+pub const NODES: usize = PEERS * SLOTS;
 
-// The rows of one peer's ring.
+// The rows of one peer's ring, and of all.
 pub const RING: usize = 512;
+
+pub const ROWS: usize = PEERS * RING;
 
 // The bytes of one peer's area in the pool.
 pub const AREA: usize = 4096;
 
-// The payload bytes of a send, at most.
+// The payload bytes of a send, and its destinations or attached handles, at most.
 pub const MOST_BYTES: usize = 512;
 
-// The bytes of an answer buffer, at least.
+pub const MOST_IDS: usize = 8;
+
+// The bytes of an answer buffer, at least, and of a frame, at most.
 pub const ANSWER_SIZE: usize = 591;
+
+pub const FRAME_SIZE: usize = 646;
+
+// A number of accepted commands is below 2^40, so that is the most; one of IDs given to a peer is below 2^44.
+pub const ACCEPTED_END: u64 = 1 << 40;
+
+pub const MOST_COMMANDS: u64 = ACCEPTED_END - 1;
+
+pub const GIVEN_END: u64 = 1 << 44;
+
+// The elements of a row of each lent table that has rows of more than one.
+pub const PEER_FIELDS: usize = 3;
+
+pub const NODE_FIELDS: usize = 2;
+
+pub const HANDLE_FIELDS: usize = 2;
+
+pub const CHARGE_FIELDS: usize = 3;
+
+pub const END_FIELDS: usize = 2;
+
+pub const ENTRY_FIELDS: usize = 5;
+
+pub const CARRIED_FIELDS: usize = MOST_IDS;
+
+// The elements of each lent table: docs/BUFFERS.md. The table of peers begins with the accepted commands; the table of
+// handles has for each peer a block of its handles and one of its list, and behind the blocks a row for each peer.
+pub const PEERS_SIZE: usize = 1 + PEER_FIELDS * PEERS;
+
+pub const NODES_SIZE: usize = NODE_FIELDS * NODES;
+
+pub const HANDLES_SIZE: usize = HANDLE_FIELDS * (2 * PEERS * NODES + PEERS);
+
+pub const CHARGES_SIZE: usize = CHARGE_FIELDS * PEERS * USERS;
+
+pub const ENDS_SIZE: usize = END_FIELDS * PEERS;
+
+pub const ENTRIES_SIZE: usize = ENTRY_FIELDS * ROWS;
+
+pub const CARRIED_SIZE: usize = CARRIED_FIELDS * ROWS;
+
+pub const NUMBERS_SIZE: usize = ROWS;
+
+pub const POOL_SIZE: usize = PEERS * AREA;

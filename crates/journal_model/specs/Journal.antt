@@ -125,12 +125,15 @@ lineIn (found.Stopped n) = n
 lineIn (found.Unread n place) = n
 lineIn found.WrongLength = 0
 
--- The place of the fault of a line that the reader refused; else all ones.
+-- The place of the fault of a line that the reader refused; else all ones, which is no place.
+abbrev pub noPlace : ℕ
+noPlace = 18446744073709551615
+
 abbrev pub placeIn : Recovered → ℕ
-placeIn (found.Whole n u) = 18446744073709551615
-placeIn (found.Stopped n) = 18446744073709551615
+placeIn (found.Whole n u) = noPlace
+placeIn (found.Stopped n) = noPlace
 placeIn (found.Unread n place) = place
-placeIn found.WrongLength = 18446744073709551615
+placeIn found.WrongLength = noPlace
 
 abbrev pub usedIn : Recovered → ℕ
 usedIn (found.Whole n u) = u

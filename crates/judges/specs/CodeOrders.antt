@@ -14,7 +14,7 @@ use Rattle.ids.specs.declared.Peer.{Peer}
 use Rattle.ids.specs.declared.User.{User}
 use Rattle.ids.specs.declared.HandleId.{HandleId}
 use Rattle.rings.specs.declared.Entry.{Entry}
-use Rattle.rings.specs.Rings.{Rings, endCount, lengthOf, firstOf}
+use Rattle.rings.specs.Rings.{Rings, endsSize, lengthOf, firstOf}
 use Rattle.tables.specs.declared.Status.{Status}
 use Rattle.tables.specs.declared.Status.the-variants.{Unopened, Open, Disconnected}
 use Rattle.tables.specs.declared.Found.{Found}
@@ -27,11 +27,12 @@ use Rattle.tables.specs.Handles.{countAt, lookup, findAt}
 use Rattle.tables.specs.HandlesView.{count-is, lookup-at, lookup-nothing}
 use Rattle.queues.specs.Queues.{isMessage}
 use Rattle.queues.specs.Asking.{takeable-view}
-use Rattle.model.specs.Numbers.{mostCommands}
+use Rattle.model.specs.Numbers.{nodes, mostCommands}
 use Rattle.model.specs.Refusals.{present, pinned, refusesOpen, refusesDisconnect, destroyBy, releaseBy, transferBy, refusesReceive, refusesQuota, holdersBy}
 use Rattle.judges.specs.declared.Order.{Order}
 use Rattle.judges.specs.declared.Order.the-variants as order
 use Rattle.judges.specs.Orders.{unless, seen, noRings, startsAt, tooLarge}
+use Rattle.ids.specs.Sizes.{peers, slots, mostIds}
 
 -- A number that is a refusal, and one that is none.
 pub refused : {x n : ℕ} (o : Order) → x ≡ n → (n ≡ 0 → ⊥) → order.Refuse n ≡ unless x o
@@ -41,7 +42,7 @@ pub granted : {x : ℕ} (o : Order) → x ≡ 0 → o ≡ unless x o
 granted o e = rw e
 
 -- The front of a cascade.
-module _ (ps : List ℕ) (p : ℕ) (l : p < 8) where
+module _ (ps : List ℕ) (p : ℕ) (l : p < peers) where
   pub front : (r : ℕ) → pick (ltb (acceptedV ps) mostCommands) (present (statusV ps p) r) EOVERFLOW ≡ pick (eqb (startsAt ps p) 0) r (startsAt ps p)
   unfolding startsAt
   front r = rw (accepted-is ps, present-is ps p l r) (go (ltb (acceptedAt ps) mostCommands))
@@ -61,7 +62,7 @@ module _ (ps : List ℕ) (p : ℕ) {a : ℕ} (e : a ≡ acceptedAt ps) where
   starts-over l = rw (← e, le-ltb a mostCommands l)
 
 -- judge_open
-module _ (ps : List ℕ) (p : Peer) (u : User) (l : p .0 < 8) {a : ℕ} (e : a ≡ acceptedAt ps) where
+module _ (ps : List ℕ) (p : Peer) (u : User) (l : p .0 < peers) {a : ℕ} (e : a ≡ acceptedAt ps) where
   pub open-over : mostCommands ≤ a → order.Refuse EOVERFLOW ≡ unless (refusesOpen (seen ps [] [] [] noRings) (p .0)) (order.Open p u)
   unfolding refusesOpen
   open-over h = rw (accepted-is ps, ← e, le-ltb a mostCommands h)
@@ -80,27 +81,27 @@ module _ (ps : List ℕ) (p : Peer) (u : User) (l : p .0 < 8) {a : ℕ} (e : a �
     open-gone f = rw (accepted-is ps, ← e, lt-ltb a mostCommands h, status-is ps (p .0) l, ← ex, f)
 
 -- What a lookup found.
-module _ (hs : List ℕ) (p : ℕ) (l : p < 8) (i : ℕ) {x : Found} (ex : x ≡ lookup hs p i) where
-  pub missing : x ≡ Nothing → findAt hs p i ≡ 128
+module _ (hs : List ℕ) (p : ℕ) (l : p < peers) (i : ℕ) {x : Found} (ex : x ≡ lookup hs p i) where
+  pub missing : x ≡ Nothing → findAt hs p i ≡ nodes
   missing f = lookup-nothing hs p i (sym ex ∙ f)
 
-  pub found : (s : ℕ) → x ≡ At s → (s ≡ findAt hs p i) × (s < 128)
+  pub found : (s : ℕ) → x ≡ At s → (s ≡ findAt hs p i) × (s < nodes)
   found s f = lookup-at hs p i l s (sym ex ∙ f)
 
 -- pinned
-module _ (ns hs : List ℕ) (p s : ℕ) (l : p < 8) (ls : s < 128) {b : Bool} (eb : b ≡ liveAt ns s) where
+module _ (ns hs : List ℕ) (p s : ℕ) (l : p < peers) (ls : s < nodes) {b : Bool} (eb : b ≡ liveAt ns s) where
   pub pinned-dead : b ≡ false → false ≡ pinned (seen [] ns hs [] noRings) p s
   pinned-dead f = rw (← live-is ns s ls, ← eb, f)
 
   module _ (f : b ≡ true) where
-    pub pinned-foreign : (s / 16 ≡ p → ⊥) → false ≡ pinned (seen [] ns hs [] noRings) p s
-    pinned-foreign ne = rw (← live-is ns s ls, ← eb, f, ne-eqb (s / 16) p ne)
+    pub pinned-foreign : (s / slots ≡ p → ⊥) → false ≡ pinned (seen [] ns hs [] noRings) p s
+    pinned-foreign ne = rw (← live-is ns s ls, ← eb, f, ne-eqb (s / slots) p ne)
 
-    pub pinned-own : s / 16 ≡ p → {c : ℕ} → c ≡ countAt hs p s → eqb c 1 ≡ pinned (seen [] ns hs [] noRings) p s
-    pinned-own e ec = rw (← live-is ns s ls, ← eb, f, eq-eqb (s / 16) p e, ← count-is hs p s l ls, ← ec)
+    pub pinned-own : s / slots ≡ p → {c : ℕ} → c ≡ countAt hs p s → eqb c 1 ≡ pinned (seen [] ns hs [] noRings) p s
+    pinned-own e ec = rw (← live-is ns s ls, ← eb, f, eq-eqb (s / slots) p e, ← count-is hs p s l ls, ← ec)
 
 -- The counted commands.
-module _ (ps : List ℕ) (p : Peer) (l : p .0 < 8) {n : ℕ} (e : n ≡ startsAt ps (p .0)) where
+module _ (ps : List ℕ) (p : Peer) (l : p .0 < peers) {n : ℕ} (e : n ≡ startsAt ps (p .0)) where
   pub stop : (n ≡ 0 → ⊥) → (r : ℕ) → pick (ltb (acceptedV ps) mostCommands) (present (statusV ps (p .0)) r) EOVERFLOW ≡ n
   stop ne r = front ps (p .0) l r ∙ rw (← e, ne-eqb n 0 ne)
 
@@ -126,22 +127,22 @@ module _ (ps : List ℕ) (p : Peer) (l : p .0 < 8) {n : ℕ} (e : n ≡ startsAt
       destroy-missing f = refused _ (pass z _ ∙ rw (missing hs (p .0) l (i .0) ex f)) (λ y. absurd (omega arith))
 
       module _ (s : ℕ) (f : x ≡ At s) where
-        pub destroy-foreign : (s / 16 ≡ p .0 → ⊥) → order.Refuse EPERM ≡ unless (destroyBy (findAt hs (p .0)) (seen ps ns hs [] noRings) (p .0) (i .0)) (order.Destroy p (findAt hs (p .0) (i .0)))
+        pub destroy-foreign : (s / slots ≡ p .0 → ⊥) → order.Refuse EPERM ≡ unless (destroyBy (findAt hs (p .0)) (seen ps ns hs [] noRings) (p .0) (i .0)) (order.Destroy p (findAt hs (p .0) (i .0)))
         destroy-foreign ne =
             let w = found hs (p .0) l (i .0) ex s f in
-            refused _ (pass z _ ∙ rw (← w .0, lt-ltb s 128 (w .1), ne-eqb (s / 16) (p .0) ne)) (λ y. absurd (omega arith))
+            refused _ (pass z _ ∙ rw (← w .0, lt-ltb s nodes (w .1), ne-eqb (s / slots) (p .0) ne)) (λ y. absurd (omega arith))
 
-        module _ (o : s / 16 ≡ p .0) {b : Bool} (eb : b ≡ liveAt ns s) where
+        module _ (o : s / slots ≡ p .0) {b : Bool} (eb : b ≡ liveAt ns s) where
           pub destroy-dead : b ≡ false → order.Refuse EHOSTUNREACH ≡ unless (destroyBy (findAt hs (p .0)) (seen ps ns hs [] noRings) (p .0) (i .0)) (order.Destroy p (findAt hs (p .0) (i .0)))
           destroy-dead g =
               let w = found hs (p .0) l (i .0) ex s f in
-              refused _ (pass z _ ∙ rw (← w .0, lt-ltb s 128 (w .1), eq-eqb (s / 16) (p .0) o, ← live-is ns s (w .1), ← eb, g)) (λ y. absurd (omega arith))
+              refused _ (pass z _ ∙ rw (← w .0, lt-ltb s nodes (w .1), eq-eqb (s / slots) (p .0) o, ← live-is ns s (w .1), ← eb, g)) (λ y. absurd (omega arith))
 
           pub destroy-granted : b ≡ true → order.Destroy p s ≡ unless (destroyBy (findAt hs (p .0)) (seen ps ns hs [] noRings) (p .0) (i .0)) (order.Destroy p (findAt hs (p .0) (i .0)))
           destroy-granted g =
               let w = found hs (p .0) l (i .0) ex s f in
               ap (order.Destroy p) (w .0)
-              ∙ granted _ (pass z _ ∙ rw (← w .0, lt-ltb s 128 (w .1), eq-eqb (s / 16) (p .0) o, ← live-is ns s (w .1), ← eb, g))
+              ∙ granted _ (pass z _ ∙ rw (← w .0, lt-ltb s nodes (w .1), eq-eqb (s / slots) (p .0) o, ← live-is ns s (w .1), ← eb, g))
 
     -- judge_release
     pub release-refused : (n ≡ 0 → ⊥) → order.Refuse n ≡ unless (releaseBy (findAt hs (p .0)) (seen ps ns hs [] noRings) (p .0) (i .0)) (order.Release p (findAt hs (p .0) (i .0)))
@@ -155,15 +156,15 @@ module _ (ps : List ℕ) (p : Peer) (l : p .0 < 8) {n : ℕ} (e : n ≡ startsAt
         pub release-pinned : b ≡ true → order.Refuse EPERM ≡ unless (releaseBy (findAt hs (p .0)) (seen ps ns hs [] noRings) (p .0) (i .0)) (order.Release p (findAt hs (p .0) (i .0)))
         release-pinned g =
             let w = found hs (p .0) l (i .0) ex s f in
-            refused _ (pass z _ ∙ rw (← w .0, lt-ltb s 128 (w .1), ← eb, g)) (λ y. absurd (omega arith))
+            refused _ (pass z _ ∙ rw (← w .0, lt-ltb s nodes (w .1), ← eb, g)) (λ y. absurd (omega arith))
 
         pub release-granted : b ≡ false → order.Release p s ≡ unless (releaseBy (findAt hs (p .0)) (seen ps ns hs [] noRings) (p .0) (i .0)) (order.Release p (findAt hs (p .0) (i .0)))
         release-granted g =
             let w = found hs (p .0) l (i .0) ex s f in
-            ap (order.Release p) (w .0) ∙ granted _ (pass z _ ∙ rw (← w .0, lt-ltb s 128 (w .1), ← eb, g))
+            ap (order.Release p) (w .0) ∙ granted _ (pass z _ ∙ rw (← w .0, lt-ltb s nodes (w .1), ← eb, g))
 
     -- judge_transfer
-    module _ (q : Peer) (lq : q .0 < 8) where
+    module _ (q : Peer) (lq : q .0 < peers) where
       pub transfer-refused : (n ≡ 0 → ⊥) → order.Refuse n ≡ unless (transferBy (findAt hs (p .0)) (seen ps ns hs [] noRings) (p .0) (i .0) (q .0)) (order.Transfer q (findAt hs (p .0) (i .0)))
       transfer-refused ne = refused _ (stop ne _) ne
 
@@ -182,15 +183,15 @@ module _ (ps : List ℕ) (p : Peer) (l : p .0 < 8) {n : ℕ} (e : n ≡ startsAt
             pub transfer-dead : b ≡ false → order.Refuse EHOSTUNREACH ≡ unless (transferBy (findAt hs (p .0)) (seen ps ns hs [] noRings) (p .0) (i .0) (q .0)) (order.Transfer q (findAt hs (p .0) (i .0)))
             transfer-dead g =
                 let w = found hs (p .0) l (i .0) ex s f in
-                refused _ (pass z _ ∙ there _ ∙ rw (← w .0, lt-ltb s 128 (w .1), ← live-is ns s (w .1), ← eb, g)) (λ y. absurd (omega arith))
+                refused _ (pass z _ ∙ there _ ∙ rw (← w .0, lt-ltb s nodes (w .1), ← live-is ns s (w .1), ← eb, g)) (λ y. absurd (omega arith))
 
             pub transfer-granted : b ≡ true → order.Transfer q s ≡ unless (transferBy (findAt hs (p .0)) (seen ps ns hs [] noRings) (p .0) (i .0) (q .0)) (order.Transfer q (findAt hs (p .0) (i .0)))
             transfer-granted g =
                 let w = found hs (p .0) l (i .0) ex s f in
-                ap (order.Transfer q) (w .0) ∙ granted _ (pass z _ ∙ there _ ∙ rw (← w .0, lt-ltb s 128 (w .1), ← live-is ns s (w .1), ← eb, g))
+                ap (order.Transfer q) (w .0) ∙ granted _ (pass z _ ∙ there _ ∙ rw (← w .0, lt-ltb s nodes (w .1), ← live-is ns s (w .1), ← eb, g))
 
   -- judge_receive
-  module _ (rs : Rings) (size : length (rs .ends) ≡ endCount) (room : ℕ) where
+  module _ (rs : Rings) (size : length (rs .ends) ≡ endsSize) (room : ℕ) where
     pub receive-refused : (n ≡ 0 → ⊥) → order.Refuse n ≡ unless (refusesReceive (seen ps [] [] [] rs) (p .0) room) (order.Receive p)
     unfolding refusesReceive
     receive-refused ne = refused _ (stop ne _) ne
@@ -202,14 +203,14 @@ module _ (ps : List ℕ) (p : Peer) (l : p .0 < 8) {n : ℕ} (e : n ≡ startsAt
 
       module _ (some : k ≡ 0 → ⊥) {x : Entry} (ex : x ≡ firstOf rs (p .0)) {b : Bool} (eb : b ≡ tooLarge x room) where
         -- the oldest entry fits, or does not
-        large : pick (isMessage x) (pick (leb (x .nb + 8 * min (x .nh) 8) room) 0 ERANGE) 0 ≡ pick b ERANGE 0
+        large : pick (isMessage x) (pick (leb (x .nb + 8 * min (x .nh) mostIds) room) 0 ERANGE) 0 ≡ pick b ERANGE 0
         unfolding tooLarge
-        large = rw eb (go (isMessage x) (look (leb (x .nb + 8 * min (x .nh) 8) room)))
+        large = rw eb (go (isMessage x) (look (leb (x .nb + 8 * min (x .nh) mostIds) room)))
           where
-            go : (m : Bool) → Seen (leb (x .nb + 8 * min (x .nh) 8) room) →
-                pick m (pick (leb (x .nb + 8 * min (x .nh) 8) room) 0 ERANGE) 0 ≡ pick (pick m (ltb room (x .nb + 8 * min (x .nh) 8)) false) ERANGE 0
-            go true (is-true f) = rw (f, le-ltb room (x .nb + 8 * min (x .nh) 8) (leb-true _ _ f))
-            go true (is-false f) = rw (f, lt-ltb room (x .nb + 8 * min (x .nh) 8) (leb-false _ _ f))
+            go : (m : Bool) → Seen (leb (x .nb + 8 * min (x .nh) mostIds) room) →
+                pick m (pick (leb (x .nb + 8 * min (x .nh) mostIds) room) 0 ERANGE) 0 ≡ pick (pick m (ltb room (x .nb + 8 * min (x .nh) mostIds)) false) ERANGE 0
+            go true (is-true f) = rw (f, le-ltb room (x .nb + 8 * min (x .nh) mostIds) (leb-true _ _ f))
+            go true (is-false f) = rw (f, lt-ltb room (x .nb + 8 * min (x .nh) mostIds) (leb-false _ _ f))
             go false f = refl
 
         pub receive-large : b ≡ true → order.Refuse ERANGE ≡ unless (refusesReceive (seen ps [] [] [] rs) (p .0) room) (order.Receive p)
@@ -221,7 +222,7 @@ module _ (ps : List ℕ) (p : Peer) (l : p .0 < 8) {n : ℕ} (e : n ≡ startsAt
         receive-granted f = granted _ (pass z _ ∙ takeable-view rs [] (p .0) room size l ∙ rw (← ek, ne-eqb k 0 some, ← ex, large, f))
 
 -- The questions.
-module _ (ps : List ℕ) (p : Peer) (l : p .0 < 8) {n : ℕ} (e : n ≡ standingAt ps (p .0)) where
+module _ (ps : List ℕ) (p : Peer) (l : p .0 < peers) {n : ℕ} (e : n ≡ standingAt ps (p .0)) where
   absent : (n ≡ 0 → ⊥) → (r : ℕ) → present (statusV ps (p .0)) r ≡ n
   absent ne r = present-is ps (p .0) l r ∙ rw (← e, ne-eqb n 0 ne)
 
@@ -247,21 +248,21 @@ module _ (ps : List ℕ) (p : Peer) (l : p .0 < 8) {n : ℕ} (e : n ≡ standing
       holders-missing f = refused _ (here z _ ∙ rw (missing hs (p .0) l (i .0) ex f)) (λ y. absurd (omega arith))
 
       module _ (s : ℕ) (f : x ≡ At s) where
-        pub holders-foreign : (s / 16 ≡ p .0 → ⊥) → order.Refuse EPERM ≡ unless (holdersBy (findAt hs (p .0)) (seen ps [] hs [] noRings) (p .0) (i .0)) (order.Holders (findAt hs (p .0) (i .0)))
+        pub holders-foreign : (s / slots ≡ p .0 → ⊥) → order.Refuse EPERM ≡ unless (holdersBy (findAt hs (p .0)) (seen ps [] hs [] noRings) (p .0) (i .0)) (order.Holders (findAt hs (p .0) (i .0)))
         holders-foreign ne =
             let w = found hs (p .0) l (i .0) ex s f in
-            refused _ (here z _ ∙ rw (← w .0, lt-ltb s 128 (w .1), ne-eqb (s / 16) (p .0) ne)) (λ y. absurd (omega arith))
+            refused _ (here z _ ∙ rw (← w .0, lt-ltb s nodes (w .1), ne-eqb (s / slots) (p .0) ne)) (λ y. absurd (omega arith))
 
-        pub holders-granted : s / 16 ≡ p .0 → order.Holders s ≡ unless (holdersBy (findAt hs (p .0)) (seen ps [] hs [] noRings) (p .0) (i .0)) (order.Holders (findAt hs (p .0) (i .0)))
+        pub holders-granted : s / slots ≡ p .0 → order.Holders s ≡ unless (holdersBy (findAt hs (p .0)) (seen ps [] hs [] noRings) (p .0) (i .0)) (order.Holders (findAt hs (p .0) (i .0)))
         holders-granted o =
             let w = found hs (p .0) l (i .0) ex s f in
-            ap order.Holders (w .0) ∙ granted _ (here z _ ∙ rw (← w .0, lt-ltb s 128 (w .1), eq-eqb (s / 16) (p .0) o))
+            ap order.Holders (w .0) ∙ granted _ (here z _ ∙ rw (← w .0, lt-ltb s nodes (w .1), eq-eqb (s / slots) (p .0) o))
 
 -- too_large
 pub large-notice : (e : Entry) (room : ℕ) {b : Bool} → b ≡ isMessage e → b ≡ false → false ≡ tooLarge e room
 unfolding tooLarge
 large-notice e room eb f = rw (← eb, f)
 
-pub large-message : (e : Entry) (room : ℕ) {b : Bool} {x y m : ℕ} → b ≡ isMessage e → b ≡ true → x ≡ e .nb → y ≡ e .nh → m ≡ min y 8 → ltb room (x + 8 * m) ≡ tooLarge e room
+pub large-message : (e : Entry) (room : ℕ) {b : Bool} {x y m : ℕ} → b ≡ isMessage e → b ≡ true → x ≡ e .nb → y ≡ e .nh → m ≡ min y mostIds → ltb room (x + 8 * m) ≡ tooLarge e room
 unfolding tooLarge
 large-message e room eb f ex ey em = rw (← eb, f, em, ex, ey)

@@ -30,7 +30,7 @@ use Rattle.tables.specs.Handles.{findAt}
 use Rattle.tables.specs.NodesView.{lifeV, live-is}
 use Rattle.tables.specs.Charges.{chargesAt}
 use Rattle.tables.specs.ChargesView.{chargesV, charges-is}
-use Rattle.model.specs.Numbers.{slots, mostCommands}
+use Rattle.model.specs.Numbers.{nodes, slots, mostCommands}
 use Rattle.model.specs.Lists.{every}
 use Rattle.model.specs.State.{isLive, State}
 use Rattle.model.specs.State.Status.{unopened, opened}
@@ -45,6 +45,7 @@ use Rattle.judges.specs.declared.Slots.{Slots}
 use Rattle.judges.specs.Orders.{eight, noPlaces, placesOf, rulingOf, unless, unlessAt, plainly, seen, sight, freeAt, noRings, startsAt, idsFrom, slotsAt, livingAt, allowedAt, affordableAt}
 use Rattle.judges.specs.CodeOrders.{stop, pass}
 use Rattle.judges.specs.CodeSends.{heldBy, every-append, every-same, map-length, eight-take}
+use Rattle.ids.specs.Sizes.{peers, mostIds}
 
 refused-at : {x n : ℕ} (o : Order) (w : Places) → x ≡ n → (n ≡ 0 → ⊥) → plainly (order.Refuse n) ≡ unlessAt x o w
 refused-at {x} {n} o w e ne = rw (e, ne-eqb n 0 ne)
@@ -58,7 +59,7 @@ module _ (hs : List ℕ) (p : ℕ) (is : List ℕ) {d : Slots} (e : d ≡ slotsA
   unfolding slotsAt
   all-held g = e ∙ rw g
 
-  not-held : every (heldBy hs p) is ≡ false → d ≡ record { number = ENXIO; at = replicate 8 0 }
+  not-held : every (heldBy hs p) is ≡ false → d ≡ record { number = ENXIO; at = replicate mostIds 0 }
   unfolding slotsAt
   not-held g = e ∙ rw g
 
@@ -77,37 +78,37 @@ module _ (hs : List ℕ) (p : ℕ) (is : List ℕ) {d : Slots} (e : d ≡ slotsA
       go (is-false g) = let x : d .number ≡ ENXIO = ap (λ (s : Slots). s .number) (not-held g) in absurd (omega (arith, x, z))
 
 -- The slots of IDs that are held are slots.
-slots-below : (hs : List ℕ) (p : ℕ) (is : List ℕ) → every (heldBy hs p) is ≡ true → All (λ s. s < 128) (map (findAt hs p) is)
+slots-below : (hs : List ℕ) (p : ℕ) (is : List ℕ) → every (heldBy hs p) is ≡ true → All (λ s. s < nodes) (map (findAt hs p) is)
 slots-below hs p is e = go is (every-all (heldBy hs p) is e)
   where
-    go : (is : List ℕ) → All (λ i. heldBy hs p i ≡ true) is → All (λ s. s < 128) (map (findAt hs p) is)
+    go : (is : List ℕ) → All (λ i. heldBy hs p i ≡ true) is → All (λ s. s < nodes) (map (findAt hs p) is)
     go [] h = tt
-    go (i ∷ is) h = (ltb-true (findAt hs p i) 128 (h .0), go is (h .1))
+    go (i ∷ is) h = (ltb-true (findAt hs p i) nodes (h .0), go is (h .1))
 
-living-same : (ns ss : List ℕ) → All (λ s. s < 128) ss → livingAt ns ss ≡ every (λ s. isLive (lifeV ns s)) ss
+living-same : (ns ss : List ℕ) → All (λ s. s < nodes) ss → livingAt ns ss ≡ every (λ s. isLive (lifeV ns s)) ss
 unfolding livingAt
 living-same ns ss h =
-    every-same (λ s. liveAt ns (s % 128)) (λ s. isLive (lifeV ns s)) ss
-    (all-imp (λ s. s < 128) (λ s. liveAt ns (s % 128) ≡ isLive (lifeV ns s)) (λ s l. let m : s % 128 ≡ s = omega arith in rw m (live-is ns s l)) ss h)
+    every-same (λ s. liveAt ns (s % nodes)) (λ s. isLive (lifeV ns s)) ss
+    (all-imp (λ s. s < nodes) (λ s. liveAt ns (s % nodes) ≡ isLive (lifeV ns s)) (λ s l. let m : s % nodes ≡ s = omega arith in rw m (live-is ns s l)) ss h)
 
-affordable-same : (b : State) (cs : List ℕ) → b .charges ≡ chargesV cs → (u : ℕ) (ds : List ℕ) (nb nh : ℕ) → All (λ s. s < 128) ds →
+affordable-same : (b : State) (cs : List ℕ) → b .charges ≡ chargesV cs → (u : ℕ) (ds : List ℕ) (nb nh : ℕ) → All (λ s. s < nodes) ds →
     affordableAt cs (record { 0 = u }) ds nb nh ≡ fits b u ds nb nh
 unfolding affordableAt allowedAt fits
 affordable-same b cs e u ds nb nh h =
     every-same
-    (λ d. allowsAll (chargesAt cs (d / 16 % 8)) (record { 0 = u }) (adds (d / 16 % 8) ds nb nh))
-    (λ d. allowsAll (b .charges (d / 16)) (record { 0 = u }) (adds (d / 16) ds nb nh))
+    (λ d. allowsAll (chargesAt cs (d / slots % peers)) (record { 0 = u }) (adds (d / slots % peers) ds nb nh))
+    (λ d. allowsAll (b .charges (d / slots)) (record { 0 = u }) (adds (d / slots) ds nb nh))
     ds
-    (all-imp (λ s. s < 128)
-    (λ d. allowsAll (chargesAt cs (d / 16 % 8)) (record { 0 = u }) (adds (d / 16 % 8) ds nb nh) ≡ allowsAll (b .charges (d / 16)) (record { 0 = u }) (adds (d / 16) ds nb nh))
+    (all-imp (λ s. s < nodes)
+    (λ d. allowsAll (chargesAt cs (d / slots % peers)) (record { 0 = u }) (adds (d / slots % peers) ds nb nh) ≡ allowsAll (b .charges (d / slots)) (record { 0 = u }) (adds (d / slots) ds nb nh))
     (λ d l.
-    let m : d / 16 % 8 ≡ d / 16 = omega arith in
-    let k : d / 16 < 8 = omega arith in
-    rw (m, e, charges-is cs (d / 16) k))
+    let m : d / slots % peers ≡ d / slots = omega arith in
+    let k : d / slots < peers = omega arith in
+    rw (m, e, charges-is cs (d / slots) k))
     ds h)
 
 -- The user of a peer that may send.
-starts-user : (ps : List ℕ) (p : ℕ) → p < 8 → startsAt ps p ≡ 0 → userV ps p ≡ userAt ps p
+starts-user : (ps : List ℕ) (p : ℕ) → p < peers → startsAt ps p ≡ 0 → userV ps p ≡ userAt ps p
 unfolding startsAt
 starts-user ps p l z =
     let s = pick-then {A = ℕ} (ltb (acceptedAt ps) mostCommands) EOVERFLOW 0 (λ x. absurd (omega arith)) z in
@@ -124,7 +125,7 @@ sendRuling ps ns hs cs f p z =
 ids-front : (f : List ℕ) (z : Sizes) → idsFrom f 0 (z .nd) ≡ destinations f z
 ids-front f z = build-ext (λ k. sendId f (0 + k) .0) (λ k. sendId f k .0) (z .nd) (λ j l. ap (λ (k : ℕ). sendId f k .0) (zero-add j))
 
-module _ (ps ns hs cs f : List ℕ) (p : Peer) (z : Sizes) (l : p .0 < 8) (sent : Sent f z) {n : ℕ} (e : n ≡ startsAt ps (p .0)) where
+module _ (ps ns hs cs f : List ℕ) (p : Peer) (z : Sizes) (l : p .0 < peers) (sent : Sent f z) {n : ℕ} (e : n ≡ startsAt ps (p .0)) where
   pub send-refused : {r : Ruling} → (n ≡ 0 → ⊥) → r ≡ plainly (order.Refuse n) → r ≡ sendRuling ps ns hs cs f p z
   send-refused ne er = er ∙ refused-at _ _ (stop ps p l e ne _) ne
 
@@ -151,7 +152,7 @@ module _ (ps ns hs cs f : List ℕ) (p : Peer) (z : Sizes) (l : p .0 < 8) (sent 
             let w = holds hs (p .0) (attached f z) eh zh in
             every-append (heldBy hs (p .0)) (destinations f z) (attached f z) ∙ rw (v .0, w .0)
 
-        below : All (λ s. s < 128) (map (findAt hs (p .0)) (destinations f z))
+        below : All (λ s. s < nodes) (map (findAt hs (p .0)) (destinations f z))
         below = slots-below hs (p .0) (destinations f z) (holds hs (p .0) (destinations f z) front-slots zd .0)
 
         front-is : take (z .nd) (d .at) ≡ map (findAt hs (p .0)) (destinations f z)

@@ -28,6 +28,8 @@ use Rattle.model.specs.Lists.{both, every}
 use Rattle.model.specs.Refusals.{placesAt}
 use Rattle.judges.specs.Orders.{eight, idsFrom, slotsAt, livingAt, allowedAt, affordableAt}
 use Rattle.judges.specs.CodeOrders.{missing, found}
+use Rattle.ids.specs.Sizes.{peers, slots, mostIds, mostBytes}
+use Rattle.model.specs.Numbers.{nodes}
 
 -- Tests of every element.
 module _ {A : Type 0} where
@@ -63,19 +65,19 @@ module _ {A : Type 0} where
 
 -- Eight places.
 abbrev zeros : List ℕ
-zeros = replicate 8 0
+zeros = replicate mostIds 0
 
-zeros-length : length zeros ≡ 8
-zeros-length = length-replicate {A = ℕ} 8 0
+zeros-length : length zeros ≡ mostIds
+zeros-length = length-replicate {A = ℕ} mostIds 0
 
-pub eight-is : (l : List ℕ) → length l ≤ 8 → eight l ≡ l ++ drop (length l) zeros
+pub eight-is : (l : List ℕ) → length l ≤ mostIds → eight l ≡ l ++ drop (length l) zeros
 unfolding eight
 eight-is l h = sets-eq l zeros 0 (omega (arith, zeros-length)) ∙ rw zero-add
 
-pub eight-take : (l : List ℕ) (n : ℕ) → length l ≡ n → n ≤ 8 → take n (eight l) ≡ l
+pub eight-take : (l : List ℕ) (n : ℕ) → length l ≡ n → n ≤ mostIds → take n (eight l) ≡ l
 eight-take l n e h = ap (take n) (eight-is l (omega arith)) ∙ take-at l (drop (length l) zeros) n e
 
-eight-snoc : (l : List ℕ) (n v : ℕ) → length l ≡ n → n < 8 → set (eight l) n v ≡ eight (l ++ (v ∷ []))
+eight-snoc : (l : List ℕ) (n v : ℕ) → length l ≡ n → n < mostIds → set (eight l) n v ≡ eight (l ++ (v ∷ []))
 eight-snoc l n v e h =
     let z : length l < length zeros = omega (arith, zeros-length) in
     let m : length (l ++ (v ∷ [])) ≡ suc (length l) = length-append l (v ∷ []) ∙ add-one (length l) in
@@ -87,7 +89,7 @@ eight-snoc l n v e h =
 
 -- slots_of
 abbrev pub heldBy : List ℕ → ℕ → ℕ → Bool
-heldBy hs p i = ltb (findAt hs p i) 128
+heldBy hs p i = ltb (findAt hs p i) nodes
 
 pub record Looked (hs f : List ℕ) (p from n : ℕ) (at : List ℕ) (k : ℕ) : Type 0 where
   pub some : k ≤ n
@@ -95,27 +97,27 @@ pub record Looked (hs f : List ℕ) (p from n : ℕ) (at : List ℕ) (k : ℕ) :
   pub slots : at ≡ eight (map (findAt hs p) (idsFrom f from k))
 
 module _ (hs f : List ℕ) (p from n : ℕ) where
-  pub looked-start : Looked hs f p from n (replicate 8 0) 0
+  pub looked-start : Looked hs f p from n (replicate mostIds 0) 0
   unfolding build eight
   looked-start = record { some = omega arith; held = refl; slots = refl }
 
-  module _ (l : p < 8) {at : List ℕ} (k : ℕ) (w : Looked hs f p from n at k) where
+  module _ (l : p < peers) {at : List ℕ} (k : ℕ) (w : Looked hs f p from n at k) where
     module _ (h : k < n) {i : HandleId} (ei : i ≡ sendId f (from + k)) {x : Found} (ex : x ≡ lookup hs p (i .0)) where
       id : i .0 ≡ sendId f (from + k) .0
       id = ap (λ (j : HandleId). j .0) ei
 
-      pub looked-missing : x ≡ Nothing → record { number = ENXIO; at = replicate 8 0 } ≡ slotsAt hs p (idsFrom f from n)
+      pub looked-missing : x ≡ Nothing → record { number = ENXIO; at = replicate mostIds 0 } ≡ slotsAt hs p (idsFrom f from n)
       unfolding slotsAt
       looked-missing g =
-          let m : findAt hs p (sendId f (from + k) .0) ≡ 128 = ap (findAt hs p) (sym id) ∙ missing hs p l (i .0) ex g in
+          let m : findAt hs p (sendId f (from + k) .0) ≡ nodes = ap (findAt hs p) (sym id) ∙ missing hs p l (i .0) ex g in
           let b : heldBy hs p (sendId f (from + k) .0) ≡ false = rw m in
           rw (every-broken (heldBy hs p) (λ j. sendId f (from + j) .0) n k h b)
 
-      pub looked-more : n ≤ 8 → (s : ℕ) → x ≡ At s → Looked hs f p from n (set at k s) (k + 1)
+      pub looked-more : n ≤ mostIds → (s : ℕ) → x ≡ At s → Looked hs f p from n (set at k s) (k + 1)
       looked-more small s g =
           let m = found hs p l (i .0) ex s g in
           let y : s ≡ findAt hs p (sendId f (from + k) .0) = m .0 ∙ ap (findAt hs p) id in
-          let b : heldBy hs p (sendId f (from + k) .0) ≡ true = rw (← y) (lt-ltb s 128 (m .1)) in
+          let b : heldBy hs p (sendId f (from + k) .0) ≡ true = rw (← y) (lt-ltb s nodes (m .1)) in
           let more : idsFrom f from (k + 1) ≡ idsFrom f from k ++ (sendId f (from + k) .0 ∷ []) = rw add-one (build-snoc (λ j. sendId f (from + j) .0) k) in
           let long : length (map (findAt hs p) (idsFrom f from k)) ≡ k = map-length (findAt hs p) (idsFrom f from k) ∙ build-length (λ j. sendId f (from + j) .0) k in
           record {
@@ -157,7 +159,7 @@ module _ (ns l : List ℕ) (n : ℕ) where
   living-start = record { some = omega arith; same = ap (livingAt ns) (sym (rest-start l n)) }
 
   module _ (k : ℕ) (w : Living ns l n k) where
-    module _ (h : k < n) (z : n ≤ length l) {b : Bool} (e : b ≡ liveAt ns (getD l k 0 % 128)) where
+    module _ (h : k < n) (z : n ≤ length l) {b : Bool} (e : b ≡ liveAt ns (getD l k 0 % nodes)) where
       pub living-dead : b ≡ false → false ≡ livingAt ns (take n l)
       unfolding livingAt
       living-dead g = sym (w .same ∙ rw (rest-next l n k h z, ← e, g))
@@ -182,26 +184,26 @@ module _ (l : List ℕ) (n p : ℕ) where
 
   module _ (k m : ℕ) (w : Counted l n p k m) where
     module _ (h : k < n) (z : n ≤ length l) where
-      pub counted-own : {m₁ : ℕ} → getD l k 0 / 16 ≡ p → m₁ ≡ m + 1 → Counted l n p (k + 1) m₁
+      pub counted-own : {m₁ : ℕ} → getD l k 0 / slots ≡ p → m₁ ≡ m + 1 → Counted l n p (k + 1) m₁
       unfolding placesAt
       counted-own {m₁} e g =
-          let x : placesAt p (rest l n k) ≡ suc (placesAt p (rest l n (k + 1))) = rw (rest-next l n k h z, eq-eqb (getD l k 0 / 16) p e) in
+          let x : placesAt p (rest l n k) ≡ suc (placesAt p (rest l n (k + 1))) = rw (rest-next l n k h z, eq-eqb (getD l k 0 / slots) p e) in
           record { some = omega arith; few = omega (arith, w .few, g); same = w .same ∙ omega (arith, x, g) }
 
-      pub counted-other : {m₁ : ℕ} → (getD l k 0 / 16 ≡ p → ⊥) → m₁ ≡ m → Counted l n p (k + 1) m₁
+      pub counted-other : {m₁ : ℕ} → (getD l k 0 / slots ≡ p → ⊥) → m₁ ≡ m → Counted l n p (k + 1) m₁
       unfolding placesAt
       counted-other {m₁} e g =
-          let x : placesAt p (rest l n k) ≡ placesAt p (rest l n (k + 1)) = rw (rest-next l n k h z, ne-eqb (getD l k 0 / 16) p e) in
+          let x : placesAt p (rest l n k) ≡ placesAt p (rest l n (k + 1)) = rw (rest-next l n k h z, ne-eqb (getD l k 0 / slots) p e) in
           record { some = omega arith; few = omega (arith, w .few, g); same = w .same ∙ omega (arith, x, g) }
 
-    pub counted-end : n ≤ k → n ≤ 8 → (m ≡ placesAt p (take n l)) × (m ≤ 8)
+    pub counted-end : n ≤ k → n ≤ mostIds → (m ≡ placesAt p (take n l)) × (m ≤ mostIds)
     unfolding placesAt
     counted-end h z =
         let x : placesAt p (rest l n k) ≡ 0 = rw (rest-end l n k h) in
         (omega (arith, w .same, x), omega (arith, w .some, w .few))
 
 -- allowed_at
-pub product : (m n : ℕ) → m ≤ 8 → n ≤ 512 → m * n ≤ 4096
+pub product : (m n : ℕ) → m ≤ mostIds → n ≤ mostBytes → m * n ≤ 4096
 product m n l h = omega (arith, mul-le-mul-left m h)
 
 pub allowed-is : (cs : List ℕ) (u : User) (ds : List ℕ) (nb nh p : ℕ) {m : ℕ} {c : Charges} {b : Bool} → m ≡ placesAt p ds → c ≡ chargesAt cs p →
@@ -212,15 +214,15 @@ allowed-is cs u ds nb nh p em ec eb = eb ∙ rw (em, ec)
 -- affordable
 pub record Affordable (cs : List ℕ) (u : User) (l : List ℕ) (n nb nh k : ℕ) : Type 0 where
   pub some : k ≤ n
-  pub same : affordableAt cs u (take n l) nb nh ≡ every (λ d. allowedAt cs u (take n l) nb nh (d / 16 % 8)) (rest l n k)
+  pub same : affordableAt cs u (take n l) nb nh ≡ every (λ d. allowedAt cs u (take n l) nb nh (d / slots % peers)) (rest l n k)
 
 module _ (cs : List ℕ) (u : User) (l : List ℕ) (n nb nh : ℕ) where
   pub affordable-start : Affordable cs u l n nb nh 0
   unfolding affordableAt
-  affordable-start = record { some = omega arith; same = ap (every (λ d. allowedAt cs u (take n l) nb nh (d / 16 % 8))) (sym (rest-start l n)) }
+  affordable-start = record { some = omega arith; same = ap (every (λ d. allowedAt cs u (take n l) nb nh (d / slots % peers))) (sym (rest-start l n)) }
 
   module _ (k : ℕ) (w : Affordable cs u l n nb nh k) where
-    module _ (h : k < n) (z : n ≤ length l) {b : Bool} (e : b ≡ allowedAt cs u (take n l) nb nh (getD l k 0 / 16 % 8)) where
+    module _ (h : k < n) (z : n ≤ length l) {b : Bool} (e : b ≡ allowedAt cs u (take n l) nb nh (getD l k 0 / slots % peers)) where
       pub affordable-over : b ≡ false → false ≡ affordableAt cs u (take n l) nb nh
       affordable-over g = sym (w .same ∙ rw (rest-next l n k h z, ← e, g))
 

@@ -31,20 +31,21 @@ use Rattle.model.specs.Lists.{either, every}
 use Rattle.model.specs.State.{State, slot, freePlace}
 use Rattle.model.specs.Requests.{destinations, attached}
 use Rattle.model.specs.Refusals.{adds, refusalBy}
-use Rattle.view.specs.View.{Bus, stateOf}
+use Rattle.view.specs.View.{Bus, stateOf, setPeers, setNodes, setHandles, setCharges, setRings, noBuffers}
 use Rattle.queues.specs.Queues.{isMessage, namedIn}
 use Rattle.judges.specs.declared.Places.{Places}
 use Rattle.judges.specs.declared.Order.{Order}
 use Rattle.judges.specs.declared.Order.the-variants as order
 use Rattle.judges.specs.declared.Ruling.{Ruling}
 use Rattle.judges.specs.declared.Slots.{Slots}
+use Rattle.ids.specs.Sizes.{peers, mostIds}
 
 -- Slots in an array of eight, 0 behind them.
 unfoldable pub eight : List ℕ → List ℕ
-eight ss = sets (replicate 8 0) 0 ss
+eight ss = sets (replicate mostIds 0) 0 ss
 
 abbrev pub noPlaces : Places
-noPlaces = record { to = replicate 8 0; carried = replicate 8 0 }
+noPlaces = record { to = replicate mostIds 0; carried = replicate mostIds 0 }
 
 -- What a judgement goes by: a state, the slot that a search finds for an ID of a peer (nodes where it finds none), and the first free place of a peer.
 pub record Sight : Type 0 where
@@ -99,7 +100,7 @@ rulingOf v f c = unlessAt (refusalBy (v .find) (v .free) (v .state) f c) (resolv
 
 -- The state that some of the buffers stand for. A judgement reads no payload.
 abbrev pub seen : List ℕ → List ℕ → List ℕ → List ℕ → Rings → State
-seen ps ns hs cs r = stateOf (record { peers = ps; nodes = ns; handles = hs; charges = cs; rings = r; pool = [] })
+seen ps ns hs cs r = stateOf (setRings (setCharges (setHandles (setNodes (setPeers noBuffers ps) ns) hs) cs) r)
 
 -- A slot's node counts, as the tables tell: it lives, somebody holds it, or a message in a queue with attached handles names it.
 unfoldable pub countsAt : List ℕ → List ℕ → List ℕ → Rings → ℕ → Bool
@@ -132,18 +133,18 @@ unfoldable pub slotsAt : List ℕ → ℕ → List ℕ → Slots
 slotsAt hs p is =
     pick (every (λ i. ltb (findAt hs p i) nodes) is)
     (record { number = 0; at = eight (map (findAt hs p) is) })
-    (record { number = ENXIO; at = replicate 8 0 })
+    (record { number = ENXIO; at = replicate mostIds 0 })
 
 -- The nodes of some slots live; quota allows what a send to them adds at each of their owners.
 unfoldable pub livingAt : List ℕ → List ℕ → Bool
-livingAt ns ss = every (λ s. liveAt ns (s % 128)) ss
+livingAt ns ss = every (λ s. liveAt ns (s % nodes)) ss
 
 unfoldable pub allowedAt : List ℕ → User → List ℕ → ℕ → ℕ → ℕ → Bool
 allowedAt cs u ds nb nh p = allowsAll (chargesAt cs p) u (adds p ds nb nh)
 
 unfoldable pub affordableAt : List ℕ → User → List ℕ → ℕ → ℕ → Bool
-affordableAt cs u ds nb nh = every (λ d. allowedAt cs u ds nb nh (d / 16 % 8)) ds
+affordableAt cs u ds nb nh = every (λ d. allowedAt cs u ds nb nh (d / slots % peers)) ds
 
 -- The entry needs more room than there is.
 unfoldable pub tooLarge : Entry → ℕ → Bool
-tooLarge e room = pick (isMessage e) (ltb room (e .nb + 8 * min (e .nh) 8)) false
+tooLarge e room = pick (isMessage e) (ltb room (e .nb + 8 * min (e .nh) mostIds)) false

@@ -6,7 +6,7 @@ ghost use Prim.Native.Nat.{_+_, _*_, _<_, _≤_};
 ghost use lib.ListN.{length, take};
 ghost use Rattle.frames.specs.Frame.{payloadOf};
 ghost use Rattle.frames.specs.Legal.{Legal, Sized as Sent};
-ghost use Rattle.rings.specs.Rings.{rowsOf, ringsOf, endCount, Sized};
+ghost use Rattle.rings.specs.Rings.{ringsOf, QueueTables};
 ghost use Rattle.model.specs.Numbers.{slots};
 ghost use Rattle.model.specs.Requests.{destinations, attached};
 ghost use Rattle.model.specs.Refusals.{placesAt, pinned as isPinned, refusesOpen, refusesDisconnect, createBy, destroyBy, releaseBy, transferBy, sendBy, refusesReceive, refusesQuota, holdersBy};
@@ -14,6 +14,9 @@ ghost use Rattle.tables.specs.Handles.{handlesSize, findAt};
 ghost use Rattle.queues.specs.Queues.{Short};
 ghost use Rattle.judges.specs.Orders.{placesOf, unless, unlessAt, plainly, rulingOf, seen, sight, countsAt, freeAt, noRings, startsAt, placeFound, idsFrom, slotsAt, livingAt, allowedAt, affordableAt, tooLarge};
 ghost use Rattle.judges.specs.declared.Order.the-variants as order;
+ghost use Rattle.ids.specs.Sizes.{peers as peerCount, peersSize, nodesSize, mostIds, mostBytes};
+ghost use Rattle.model.specs.Numbers.{nodes as nodeCount};
+ghost use Rattle.tables.specs.Charges.{chargesSize};
 use frames::Command;
 use frames::Sizes;
 use ids::EAGAIN;
@@ -27,6 +30,10 @@ use ids::EPERM;
 use ids::ERANGE;
 use ids::ESHUTDOWN;
 use ids::HandleId;
+use ids::MOST_COMMANDS;
+use ids::MOST_IDS;
+use ids::NODES;
+use ids::PEERS;
 use ids::Peer;
 use ids::SLOTS;
 use ids::User;
@@ -34,8 +41,6 @@ use quota::Charge;
 use rings::Entry;
 use tables::Found;
 use tables::Status;
-
-const MOST_COMMANDS: u64 = 1099511627775;
 
 // A send's slots: its destinations and what it carries, 0 behind them and for every other command.
 pub struct Places {
@@ -79,7 +84,7 @@ fn plain(order: Order) -> Ruling
 
 // The refusal of a counted command before its IDs are looked up, 0 where there is none.
 fn starts(peers: &[u64], p: Peer) -> u8
-    requires { ⌜ (length (now peers) ≡ 25) × (p .0 < 8) ⌝ }
+    requires { ⌜ (length (now peers) ≡ peersSize) × (p .0 < peerCount) ⌝ }
     ensures { λ r. ⌜ r ≡ startsAt (now (peers .entry)) (p .0) ⌝ }
 {
     if tables::accepted(peers) < MOST_COMMANDS {
@@ -89,7 +94,7 @@ fn starts(peers: &[u64], p: Peer) -> u8
 }
 
 fn judge_open(peers: &[u64], p: Peer, u: User) -> Order
-    requires { ⌜ (length (now peers) ≡ 25) × (p .0 < 8) ⌝ }
+    requires { ⌜ (length (now peers) ≡ peersSize) × (p .0 < peerCount) ⌝ }
     ensures { λ r. ⌜ r ≡ unless (refusesOpen (seen (now (peers .entry)) [] [] [] noRings) (p .0)) (order.Open p u) ⌝ }
 {
     if MOST_COMMANDS <= tables::accepted(peers) {
@@ -103,7 +108,7 @@ fn judge_open(peers: &[u64], p: Peer, u: User) -> Order
 }
 
 fn judge_disconnect(peers: &[u64], p: Peer) -> Order
-    requires { ⌜ (length (now peers) ≡ 25) × (p .0 < 8) ⌝ }
+    requires { ⌜ (length (now peers) ≡ peersSize) × (p .0 < peerCount) ⌝ }
     ensures { λ r. ⌜ r ≡ unless (refusesDisconnect (seen (now (peers .entry)) [] [] [] noRings) (p .0)) (order.Disconnect p) ⌝ }
 {
     let n = starts(peers, p);
@@ -124,7 +129,7 @@ fn counts(
     numbers: &[u64],
     s: usize,
 ) -> bool
-    requires { ⌜ (length (now nodes) ≡ 256) × (length (now handles) ≡ handlesSize) × (length (now charges) ≡ 96) × (length (now ends) ≡ endCount) × Sized (rowsOf (now entries) (now carried) (now numbers)) × Short (now ends) × (s < 128) ⌝ }
+    requires { ⌜ (length (now nodes) ≡ nodesSize) × (length (now handles) ≡ handlesSize) × (length (now charges) ≡ chargesSize) × QueueTables (now ends) (now entries) (now carried) (now numbers) × Short (now ends) × (s < nodeCount) ⌝ }
     ensures { λ r. ⌜ r ≡ countsAt (now (nodes .entry)) (now (handles .entry)) (now (charges .entry)) (ringsOf (now (ends .entry)) (now (entries .entry)) (now (carried .entry)) (now (numbers .entry))) s ⌝ }
 {
     if tables::is_live(nodes, s) {
@@ -147,7 +152,7 @@ fn free_slot(
     numbers: &[u64],
     p: Peer,
 ) -> Found
-    requires { ⌜ (length (now nodes) ≡ 256) × (length (now handles) ≡ handlesSize) × (length (now charges) ≡ 96) × (length (now ends) ≡ endCount) × Sized (rowsOf (now entries) (now carried) (now numbers)) × Short (now ends) × (p .0 < 8) ⌝ }
+    requires { ⌜ (length (now nodes) ≡ nodesSize) × (length (now handles) ≡ handlesSize) × (length (now charges) ≡ chargesSize) × QueueTables (now ends) (now entries) (now carried) (now numbers) × Short (now ends) × (p .0 < peerCount) ⌝ }
     ensures { λ r. ⌜ r ≡ placeFound (p .0) (freeAt (now (nodes .entry)) (now (handles .entry)) (now (charges .entry)) (ringsOf (now (ends .entry)) (now (entries .entry)) (now (carried .entry)) (now (numbers .entry))) (p .0)) ⌝ }
 {
     let mut k = 0;
@@ -173,7 +178,7 @@ fn judge_create(
     p: Peer,
     i: HandleId,
 ) -> Order
-    requires { ⌜ (length (now peers) ≡ 25) × (length (now nodes) ≡ 256) × (length (now handles) ≡ handlesSize) × (length (now charges) ≡ 96) × (length (now ends) ≡ endCount) × Sized (rowsOf (now entries) (now carried) (now numbers)) × Short (now ends) × (p .0 < 8) ⌝ }
+    requires { ⌜ (length (now peers) ≡ peersSize) × (length (now nodes) ≡ nodesSize) × (length (now handles) ≡ handlesSize) × (length (now charges) ≡ chargesSize) × QueueTables (now ends) (now entries) (now carried) (now numbers) × Short (now ends) × (p .0 < peerCount) ⌝ }
     ensures { λ r. ⌜ r ≡ unless (createBy (findAt (now (handles .entry)) (p .0)) (freeAt (now (nodes .entry)) (now (handles .entry)) (now (charges .entry)) (ringsOf (now (ends .entry)) (now (entries .entry)) (now (carried .entry)) (now (numbers .entry))) (p .0)) (seen (now (peers .entry)) [] [] [] noRings) (p .0) (i .0)) (order.Create p i (p .0 * slots + freeAt (now (nodes .entry)) (now (handles .entry)) (now (charges .entry)) (ringsOf (now (ends .entry)) (now (entries .entry)) (now (carried .entry)) (now (numbers .entry))) (p .0))) ⌝ }
 {
     let n = starts(peers, p);
@@ -190,7 +195,7 @@ fn judge_create(
 }
 
 fn judge_destroy(peers: &[u64], nodes: &[u64], handles: &[u64], p: Peer, i: HandleId) -> Order
-    requires { ⌜ (length (now peers) ≡ 25) × (length (now nodes) ≡ 256) × (length (now handles) ≡ handlesSize) × (p .0 < 8) ⌝ }
+    requires { ⌜ (length (now peers) ≡ peersSize) × (length (now nodes) ≡ nodesSize) × (length (now handles) ≡ handlesSize) × (p .0 < peerCount) ⌝ }
     ensures { λ r. ⌜ r ≡ unless (destroyBy (findAt (now (handles .entry)) (p .0)) (seen (now (peers .entry)) (now (nodes .entry)) (now (handles .entry)) [] noRings) (p .0) (i .0)) (order.Destroy p (findAt (now (handles .entry)) (p .0) (i .0))) ⌝ }
 {
     let n = starts(peers, p);
@@ -211,7 +216,7 @@ fn judge_destroy(peers: &[u64], nodes: &[u64], handles: &[u64], p: Peer, i: Hand
 
 // Is the handle the last one of a live node's owner?
 fn pinned(nodes: &[u64], handles: &[u64], p: Peer, s: usize) -> bool
-    requires { ⌜ (length (now nodes) ≡ 256) × (length (now handles) ≡ handlesSize) × (p .0 < 8) × (s < 128) ⌝ }
+    requires { ⌜ (length (now nodes) ≡ nodesSize) × (length (now handles) ≡ handlesSize) × (p .0 < peerCount) × (s < nodeCount) ⌝ }
     ensures { λ r. ⌜ r ≡ isPinned (seen [] (now (nodes .entry)) (now (handles .entry)) [] noRings) (p .0) s ⌝ }
 {
     if !tables::is_live(nodes, s) {
@@ -224,7 +229,7 @@ fn pinned(nodes: &[u64], handles: &[u64], p: Peer, s: usize) -> bool
 }
 
 fn judge_release(peers: &[u64], nodes: &[u64], handles: &[u64], p: Peer, i: HandleId) -> Order
-    requires { ⌜ (length (now peers) ≡ 25) × (length (now nodes) ≡ 256) × (length (now handles) ≡ handlesSize) × (p .0 < 8) ⌝ }
+    requires { ⌜ (length (now peers) ≡ peersSize) × (length (now nodes) ≡ nodesSize) × (length (now handles) ≡ handlesSize) × (p .0 < peerCount) ⌝ }
     ensures { λ r. ⌜ r ≡ unless (releaseBy (findAt (now (handles .entry)) (p .0)) (seen (now (peers .entry)) (now (nodes .entry)) (now (handles .entry)) [] noRings) (p .0) (i .0)) (order.Release p (findAt (now (handles .entry)) (p .0) (i .0))) ⌝ }
 {
     let n = starts(peers, p);
@@ -248,7 +253,7 @@ fn judge_transfer(
     i: HandleId,
     q: Peer,
 ) -> Order
-    requires { ⌜ (length (now peers) ≡ 25) × (length (now nodes) ≡ 256) × (length (now handles) ≡ handlesSize) × (p .0 < 8) × (q .0 < 8) ⌝ }
+    requires { ⌜ (length (now peers) ≡ peersSize) × (length (now nodes) ≡ nodesSize) × (length (now handles) ≡ handlesSize) × (p .0 < peerCount) × (q .0 < peerCount) ⌝ }
     ensures { λ r. ⌜ r ≡ unless (transferBy (findAt (now (handles .entry)) (p .0)) (seen (now (peers .entry)) (now (nodes .entry)) (now (handles .entry)) [] noRings) (p .0) (i .0) (q .0)) (order.Transfer q (findAt (now (handles .entry)) (p .0) (i .0))) ⌝ }
 {
     let n = starts(peers, p);
@@ -276,7 +281,7 @@ struct Slots {
 
 // The slots of the n IDs from the place `from` of a send's lists on.
 fn slots_of(handles: &[u64], frame: &[u8], p: Peer, from: usize, n: usize) -> Slots
-    requires { ⌜ (length (now handles) ≡ handlesSize) × (p .0 < 8) × (from ≤ 8) × (n ≤ 8) ⌝ }
+    requires { ⌜ (length (now handles) ≡ handlesSize) × (p .0 < peerCount) × (from ≤ mostIds) × (n ≤ mostIds) ⌝ }
     ensures { λ r. ⌜ r ≡ slotsAt (now (handles .entry)) (p .0) (idsFrom (now (frame .entry)) from n) ⌝ }
 {
     let mut at = [0u8; 8];
@@ -296,12 +301,12 @@ fn slots_of(handles: &[u64], frame: &[u8], p: Peer, from: usize, n: usize) -> Sl
 
 // Do the nodes of the first n slots live?
 fn living(nodes: &[u64], to: [u8; 8], n: usize) -> bool
-    requires { ⌜ (length (now nodes) ≡ 256) × (n ≤ 8) ⌝ }
+    requires { ⌜ (length (now nodes) ≡ nodesSize) × (n ≤ mostIds) ⌝ }
     ensures { λ r. ⌜ r ≡ livingAt (now (nodes .entry)) (take n to) ⌝ }
 {
     let mut k = 0;
     while k < n {
-        if !tables::is_live(nodes, to[k] as usize % 128) {
+        if !tables::is_live(nodes, to[k] as usize % NODES) {
             return false;
         }
         k += 1;
@@ -312,7 +317,7 @@ fn living(nodes: &[u64], to: [u8; 8], n: usize) -> bool
 // How many of the first n slots the peer owns.
 fn places_at(to: [u8; 8], n: usize, p: Peer) -> u16
     requires { ⌜ n ≤ 8 ⌝ }
-    ensures { λ r. ⌜ (r ≡ placesAt (p .0) (take n to)) × (r ≤ 8) ⌝ }
+    ensures { λ r. ⌜ (r ≡ placesAt (p .0) (take n to)) × (r ≤ mostIds) ⌝ }
 {
     let mut k = 0;
     let mut m = 0u16;
@@ -327,7 +332,7 @@ fn places_at(to: [u8; 8], n: usize, p: Peer) -> u16
 
 // Does quota allow what a send adds at the peer?
 fn allowed_at(charges: &[u16], u: User, to: [u8; 8], z: Sizes, p: Peer) -> bool
-    requires { ⌜ (length (now charges) ≡ 96) × (z .nd ≤ 8) × (z .nh ≤ 8) × (z .nb ≤ 512) × (p .0 < 8) ⌝ }
+    requires { ⌜ (length (now charges) ≡ chargesSize) × (z .nd ≤ mostIds) × (z .nh ≤ mostIds) × (z .nb ≤ mostBytes) × (p .0 < peerCount) ⌝ }
     ensures { λ r. ⌜ r ≡ allowedAt (now (charges .entry)) u (take (z .nd) to) (z .nb) (z .nh) (p .0) ⌝ }
 {
     let m = places_at(to, z.nd, p);
@@ -344,12 +349,12 @@ fn allowed_at(charges: &[u16], u: User, to: [u8; 8], z: Sizes, p: Peer) -> bool
 
 // Does quota allow what a send adds at each of its destinations?
 fn affordable(charges: &[u16], u: User, to: [u8; 8], z: Sizes) -> bool
-    requires { ⌜ (length (now charges) ≡ 96) × (z .nd ≤ 8) × (z .nh ≤ 8) × (z .nb ≤ 512) ⌝ }
+    requires { ⌜ (length (now charges) ≡ chargesSize) × (z .nd ≤ mostIds) × (z .nh ≤ mostIds) × (z .nb ≤ mostBytes) ⌝ }
     ensures { λ r. ⌜ r ≡ affordableAt (now (charges .entry)) u (take (z .nd) to) (z .nb) (z .nh) ⌝ }
 {
     let mut k = 0;
     while k < z.nd {
-        if !allowed_at(charges, u, to, z, Peer(to[k] as usize / SLOTS % 8)) {
+        if !allowed_at(charges, u, to, z, Peer(to[k] as usize / SLOTS % PEERS)) {
             return false;
         }
         k += 1;
@@ -366,7 +371,7 @@ fn judge_send(
     p: Peer,
     z: Sizes,
 ) -> Ruling
-    requires { ⌜ (length (now peers) ≡ 25) × (length (now nodes) ≡ 256) × (length (now handles) ≡ handlesSize) × (length (now charges) ≡ 96) × (p .0 < 8) × Sent (now frame) z ⌝ }
+    requires { ⌜ (length (now peers) ≡ peersSize) × (length (now nodes) ≡ nodesSize) × (length (now handles) ≡ handlesSize) × (length (now charges) ≡ chargesSize) × (p .0 < peerCount) × Sent (now frame) z ⌝ }
     ensures { λ r. ⌜ r ≡ unlessAt (sendBy (findAt (now (handles .entry)) (p .0)) (seen (now (peers .entry)) (now (nodes .entry)) (now (handles .entry)) (now (charges .entry)) noRings) (p .0) (destinations (now (frame .entry)) z) (attached (now (frame .entry)) z) (length (payloadOf (now (frame .entry))))) (order.Send p z) (placesOf (findAt (now (handles .entry)) (p .0)) (now (frame .entry)) z) ⌝ }
 {
     let n = starts(peers, p);
@@ -403,7 +408,7 @@ fn too_large(e: Entry, room: usize) -> bool
     if !queues::is_message(e) {
         return false;
     }
-    room < rings::wide(e.nb) + 8 * copies::least(rings::wide(e.nh), 8)
+    room < rings::wide(e.nb) + 8 * copies::least(rings::wide(e.nh), MOST_IDS)
 }
 
 fn judge_receive(
@@ -415,7 +420,7 @@ fn judge_receive(
     p: Peer,
     room: usize,
 ) -> Order
-    requires { ⌜ (length (now peers) ≡ 25) × (length (now ends) ≡ endCount) × Sized (rowsOf (now entries) (now carried) (now numbers)) × (p .0 < 8) ⌝ }
+    requires { ⌜ (length (now peers) ≡ peersSize) × QueueTables (now ends) (now entries) (now carried) (now numbers) × (p .0 < peerCount) ⌝ }
     ensures { λ r. ⌜ r ≡ unless (refusesReceive (seen (now (peers .entry)) [] [] [] (ringsOf (now (ends .entry)) (now (entries .entry)) (now (carried .entry)) (now (numbers .entry)))) (p .0) room) (order.Receive p) ⌝ }
 {
     let n = starts(peers, p);
@@ -432,7 +437,7 @@ fn judge_receive(
 }
 
 fn judge_quota(peers: &[u64], p: Peer, u: User) -> Order
-    requires { ⌜ (length (now peers) ≡ 25) × (p .0 < 8) ⌝ }
+    requires { ⌜ (length (now peers) ≡ peersSize) × (p .0 < peerCount) ⌝ }
     ensures { λ r. ⌜ r ≡ unless (refusesQuota (seen (now (peers .entry)) [] [] [] noRings) (p .0)) (order.Quota p u) ⌝ }
 {
     let n = tables::standing(peers, p);
@@ -443,7 +448,7 @@ fn judge_quota(peers: &[u64], p: Peer, u: User) -> Order
 }
 
 fn judge_holders(peers: &[u64], handles: &[u64], p: Peer, i: HandleId) -> Order
-    requires { ⌜ (length (now peers) ≡ 25) × (length (now handles) ≡ handlesSize) × (p .0 < 8) ⌝ }
+    requires { ⌜ (length (now peers) ≡ peersSize) × (length (now handles) ≡ handlesSize) × (p .0 < peerCount) ⌝ }
     ensures { λ r. ⌜ r ≡ unless (holdersBy (findAt (now (handles .entry)) (p .0)) (seen (now (peers .entry)) [] (now (handles .entry)) [] noRings) (p .0) (i .0)) (order.Holders (findAt (now (handles .entry)) (p .0) (i .0))) ⌝ }
 {
     let n = tables::standing(peers, p);
@@ -472,7 +477,7 @@ pub fn judge(
     frame: &[u8],
     c: Command,
 ) -> Ruling
-    requires { ⌜ (length (now ps) ≡ 25) × (length (now ns) ≡ 256) × (length (now hs) ≡ handlesSize) × (length (now cs) ≡ 96) × (length (now ends) ≡ endCount) × Sized (rowsOf (now entries) (now carried) (now numbers)) × Short (now ends) × Legal (now frame) c ⌝ }
+    requires { ⌜ (length (now ps) ≡ peersSize) × (length (now ns) ≡ nodesSize) × (length (now hs) ≡ handlesSize) × (length (now cs) ≡ chargesSize) × QueueTables (now ends) (now entries) (now carried) (now numbers) × Short (now ends) × Legal (now frame) c ⌝ }
     ensures { λ r. ⌜ r ≡ rulingOf (sight (now (ps .entry)) (now (ns .entry)) (now (hs .entry)) (now (cs .entry)) (ringsOf (now (ends .entry)) (now (entries .entry)) (now (carried .entry)) (now (numbers .entry)))) (now (frame .entry)) c ⌝ }
 {
     match c {

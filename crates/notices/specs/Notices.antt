@@ -10,7 +10,7 @@ use Rattle.laws.specs.Tests.{pick}
 use Rattle.laws.specs.Bits.{bits}
 use Rattle.rings.specs.declared.Entry.{Entry}
 use Rattle.rings.specs.declared.Match.{Match}
-use Rattle.rings.specs.Rings.{slots, Rings, bitAt}
+use Rattle.rings.specs.Rings.{kindDestroyed, kindReleased, releasedBit, slots, Rings, bitAt}
 use Rattle.tables.specs.declared.Found.{Found}
 use Rattle.tables.specs.declared.Found.the-variants.{At, Nothing}
 use Rattle.tables.specs.Nodes.{liveAt, setDead}
@@ -18,10 +18,11 @@ use Rattle.tables.specs.Handles.{idAt, countAt, totalAt, holdersAt}
 use Rattle.queues.specs.Queues.{entered, withdrawn}
 use Rattle.notices.specs.declared.Asked.{Asked}
 use Rattle.notices.specs.declared.Asked.the-variants.{Living, Falling, Above}
+use Rattle.ids.specs.Sizes.{peers, carriedFields}
 
 -- A notice about a slot: kind 1 of its destruction, 2 of its release.
 unfoldable pub noticeOf : ℕ → ℕ → ℕ → Entry
-noticeOf kind s n = record { kind = kind; slot = s; user = 0; nb = 0; nh = 0; carried = replicate 8 0; number = n }
+noticeOf kind s n = record { kind = kind; slot = s; user = 0; nb = 0; nh = 0; carried = replicate carriedFields 0; number = n }
 
 -- The sum of counts of a live node falls to 1 when the peer's handle goes.
 unfoldable pub fallsAt : List ℕ → List ℕ → ℕ → ℕ → Bool
@@ -38,7 +39,7 @@ aboveAt hs q set j k = pick (bitAt set k) (ltb (keyAt hs q (j % slots)) (keyAt h
 -- What is asked about a peer is about one of the eight.
 abbrev pub Fair : Asked → Type 0
 Fair Living = Unit {0}
-Fair (Falling p) = p .0 < 8
+Fair (Falling p) = p .0 < peers
 Fair (Above set j) = Unit {0}
 
 abbrev pub asks : List ℕ → List ℕ → ℕ → Asked → ℕ → Bool
@@ -63,13 +64,13 @@ leastAt hs q set (suc k) = pick (bitAt set k) (lowerOf hs q (leastAt hs q set k)
 unfoldable pub postedTo : Rings → Entry → ℕ → ℕ → Rings
 postedTo r e set zero = r
 postedTo r e set (suc f) =
-    let q = trailingZeros 8 set % 8 in
+    let q = trailingZeros 8 set % peers in
     let rest = postedTo (entered r q e) e (set - 2 ^ q) f in
     pick (eqb set 0) r rest
 
 -- Who is told: "Destroy queues a notice at every holder, owner included"; "a release notice is queued at the owner".
 unfoldable pub addressees : List ℕ → ℕ → ℕ → ℕ
-addressees hs kind s = pick (eqb kind 1) (holdersAt hs s) (2 ^ (s / slots))
+addressees hs kind s = pick (eqb kind kindDestroyed) (holdersAt hs s) (2 ^ (s / slots))
 
 -- The notices about the peer's own slots in a set, by ascending ID.
 abbrev pub following : Found → (ℕ → Rings) → Rings → Rings
@@ -79,8 +80,8 @@ following (At j) more r = more j
 unfoldable pub told : List ℕ → ℕ → ℕ → ℕ → Rings → ℕ → ℕ → Rings
 told hs q kind n r set zero = r
 told hs q kind n r set (suc f) =
-    following (leastAt hs q set 16)
-    (λ j. told hs q kind n (postedTo r (noticeOf kind (q * slots + j % slots) n) (addressees hs kind (q * slots + j % slots)) 8) (bits (aboveAt hs q set j) slots) f)
+    following (leastAt hs q set slots)
+    (λ j. told hs q kind n (postedTo r (noticeOf kind (q * slots + j % slots) n) (addressees hs kind (q * slots + j % slots)) peers) (bits (aboveAt hs q set j) slots) f)
     r
 
 -- The nodes of the peer's own slots in a set are dead.
@@ -98,12 +99,12 @@ destroyedOf ns r = record { nodes = ns; rings = r }
 
 -- The release notices of the peer's own slots in a set.
 abbrev pub releasedIn : ℕ → ℕ → Match
-releasedIn p set = record { kinds = 4; first = p * slots; mask = set }
+releasedIn p set = record { kinds = releasedBit; first = p * slots; mask = set }
 
 unfoldable pub destroyedSet : List ℕ → List ℕ → Rings → ℕ → ℕ → ℕ → Destroyed
-destroyedSet ns hs r p set n = destroyedOf (deadAll ns p set n 16) (told hs p 1 n (withdrawn r p (releasedIn p set)) set 16)
+destroyedSet ns hs r p set n = destroyedOf (deadAll ns p set n slots) (told hs p kindDestroyed n (withdrawn r p (releasedIn p set)) set slots)
 
 -- The release notices at the owners below q, when all handles of the peer p go.
 unfoldable pub toldOwners : List ℕ → List ℕ → ℕ → ℕ → Rings → ℕ → Rings
 toldOwners ns hs p n r zero = r
-toldOwners ns hs p n r (suc q) = told hs q 2 n (toldOwners ns hs p n r q) (setOf ns hs q (Falling (record { 0 = p }))) 16
+toldOwners ns hs p n r (suc q) = told hs q kindReleased n (toldOwners ns hs p n r q) (setOf ns hs q (Falling (record { 0 = p }))) slots

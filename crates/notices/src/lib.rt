@@ -4,22 +4,20 @@ ghost use mathlib.Core.Path.{_≡_};
 ghost use Prim.Native.Nat.{_<_, _≤_};
 ghost use lib.ListN.{length};
 ghost use Rattle.laws.specs.Tests.{pick};
-ghost use Rattle.rings.specs.Rings.{rowsOf, ringsOf, endCount, Sized, oneSlot};
+ghost use Rattle.rings.specs.Rings.{ringsOf, oneSlot, QueueTables, releasedBit};
 ghost use Rattle.tables.specs.Handles.{handlesSize};
 ghost use Rattle.notices.specs.Notices.{noticeOf, fallsAt, aboveAt, Fair, asks, setOf, lowerOf, leastAt, postedTo, addressees as addresseesOf, told, deadAll, Destroyed, destroyedOf, destroyedSet, toldOwners};
+ghost use Rattle.ids.specs.Sizes.{peers as peerCount, nodesSize, slots};
+ghost use Rattle.model.specs.Numbers.{nodes as nodeCount};
+use ids::PEERS;
 use ids::Peer;
 use ids::SLOTS;
+use rings::DESTROYED;
 use rings::Entry;
 use rings::Match;
+use rings::RELEASED;
+use rings::RELEASED_BIT;
 use tables::Found;
-
-// The kinds of notice.
-pub const DESTROYED: u16 = 1;
-
-pub const RELEASED: u16 = 2;
-
-// The bit of the release notices among a removal's kinds.
-const RELEASED_BIT: u8 = 4;
 
 // Which of a peer's slots are asked for: those whose nodes live; those whose sum of counts falls to 1 when a peer's handle
 // goes; those of a set whose IDs are above the one of a place.
@@ -31,7 +29,7 @@ pub enum Asked {
 
 // A notice about a slot.
 pub fn notice(kind: u16, s: usize, n: u64) -> Entry
-    requires { ⌜ s < 128 ⌝ }
+    requires { ⌜ s < nodeCount ⌝ }
     ensures { λ r. ⌜ r ≡ noticeOf kind s n ⌝ }
 {
     Entry {
@@ -47,7 +45,7 @@ pub fn notice(kind: u16, s: usize, n: u64) -> Entry
 
 // Does the sum of counts of a live node fall to 1 when the peer's handle goes?
 fn falls(nodes: &[u64], handles: &[u64], p: Peer, s: usize) -> bool
-    requires { ⌜ (length (now nodes) ≡ 256) × (length (now handles) ≡ handlesSize) × (p .0 < 8) × (s < 128) ⌝ }
+    requires { ⌜ (length (now nodes) ≡ nodesSize) × (length (now handles) ≡ handlesSize) × (p .0 < peerCount) × (s < nodeCount) ⌝ }
     ensures { λ r. ⌜ r ≡ fallsAt (now (nodes .entry)) (now (handles .entry)) (p .0) s ⌝ }
 {
     if !tables::is_live(nodes, s) {
@@ -62,7 +60,7 @@ fn falls(nodes: &[u64], handles: &[u64], p: Peer, s: usize) -> bool
 
 // Is the ID of the peer's own slot at the place k above the one at the place j, and k in the set?
 fn is_above(handles: &[u64], q: Peer, set: u16, j: usize, k: usize) -> bool
-    requires { ⌜ (length (now handles) ≡ handlesSize) × (q .0 < 8) × (k < 16) ⌝ }
+    requires { ⌜ (length (now handles) ≡ handlesSize) × (q .0 < peerCount) × (k < slots) ⌝ }
     ensures { λ r. ⌜ r ≡ aboveAt (now (handles .entry)) (q .0) set j k ⌝ }
 {
     if !rings::bit(rings::wide(set), k) {
@@ -75,7 +73,7 @@ fn is_above(handles: &[u64], q: Peer, set: u16, j: usize, k: usize) -> bool
 
 // Is the slot of the peer q at the place k asked for?
 fn is_asked(nodes: &[u64], handles: &[u64], q: Peer, a: Asked, k: usize) -> bool
-    requires { ⌜ (length (now nodes) ≡ 256) × (length (now handles) ≡ handlesSize) × (q .0 < 8) × (k < 16) × Fair a ⌝ }
+    requires { ⌜ (length (now nodes) ≡ nodesSize) × (length (now handles) ≡ handlesSize) × (q .0 < peerCount) × (k < slots) × Fair a ⌝ }
     ensures { λ r. ⌜ r ≡ asks (now (nodes .entry)) (now (handles .entry)) (q .0) a k ⌝ }
 {
     match a {
@@ -87,7 +85,7 @@ fn is_asked(nodes: &[u64], handles: &[u64], q: Peer, a: Asked, k: usize) -> bool
 
 // The bit where the slot is asked for, else 0.
 fn bit_asked(nodes: &[u64], handles: &[u64], q: Peer, a: Asked, k: usize, bit: usize) -> usize
-    requires { ⌜ (length (now nodes) ≡ 256) × (length (now handles) ≡ handlesSize) × (q .0 < 8) × (k < 16) × Fair a ⌝ }
+    requires { ⌜ (length (now nodes) ≡ nodesSize) × (length (now handles) ≡ handlesSize) × (q .0 < peerCount) × (k < slots) × Fair a ⌝ }
     ensures { λ r. ⌜ (r ≡ pick (asks (now (nodes .entry)) (now (handles .entry)) (q .0) a k) bit 0) × (r ≤ bit) ⌝ }
 {
     if is_asked(nodes, handles, q, a, k) {
@@ -98,7 +96,7 @@ fn bit_asked(nodes: &[u64], handles: &[u64], q: Peer, a: Asked, k: usize, bit: u
 
 // The slots of the peer q that are asked for.
 pub fn set_of(nodes: &[u64], handles: &[u64], q: Peer, a: Asked) -> u16
-    requires { ⌜ (length (now nodes) ≡ 256) × (length (now handles) ≡ handlesSize) × (q .0 < 8) × Fair a ⌝ }
+    requires { ⌜ (length (now nodes) ≡ nodesSize) × (length (now handles) ≡ handlesSize) × (q .0 < peerCount) × Fair a ⌝ }
     ensures { λ r. ⌜ r ≡ setOf (now (nodes .entry)) (now (handles .entry)) (q .0) a ⌝ }
 {
     let mut k = 0;
@@ -115,7 +113,7 @@ pub fn set_of(nodes: &[u64], handles: &[u64], q: Peer, a: Asked) -> u16
 
 // Of a place that was found and the place k the one with the lower ID.
 fn lower(handles: &[u64], q: Peer, found: Found, k: usize) -> Found
-    requires { ⌜ (length (now handles) ≡ handlesSize) × (q .0 < 8) × (k < 16) ⌝ }
+    requires { ⌜ (length (now handles) ≡ handlesSize) × (q .0 < peerCount) × (k < slots) ⌝ }
     ensures { λ r. ⌜ r ≡ lowerOf (now (handles .entry)) (q .0) found k ⌝ }
 {
     let Found::At(j) = found else {
@@ -131,8 +129,8 @@ fn lower(handles: &[u64], q: Peer, found: Found, k: usize) -> Found
 
 // The place in the set of the peer's own slot with the least ID.
 fn least_id(handles: &[u64], q: Peer, set: u16) -> Found
-    requires { ⌜ (length (now handles) ≡ handlesSize) × (q .0 < 8) ⌝ }
-    ensures { λ r. ⌜ r ≡ leastAt (now (handles .entry)) (q .0) set 16 ⌝ }
+    requires { ⌜ (length (now handles) ≡ handlesSize) × (q .0 < peerCount) ⌝ }
+    ensures { λ r. ⌜ r ≡ leastAt (now (handles .entry)) (q .0) set slots ⌝ }
 {
     let mut found = Found::Nothing;
     let mut k = 0;
@@ -154,16 +152,16 @@ fn post(
     set: u8,
     e: Entry,
 )
-    requires { ⌜ (length (now ends) ≡ endCount) × Sized (rowsOf (now entries) (now carried) (now numbers)) ⌝ }
-    ensures { λ _. ⌜ ringsOf (now (ends .exit)) (now (entries .exit)) (now (carried .exit)) (now (numbers .exit)) ≡ postedTo (ringsOf (now (ends .entry)) (now (entries .entry)) (now (carried .entry)) (now (numbers .entry))) e set 8 ⌝ }
+    requires { ⌜ QueueTables (now ends) (now entries) (now carried) (now numbers) ⌝ }
+    ensures { λ _. ⌜ ringsOf (now (ends .exit)) (now (entries .exit)) (now (carried .exit)) (now (numbers .exit)) ≡ postedTo (ringsOf (now (ends .entry)) (now (entries .entry)) (now (carried .entry)) (now (numbers .entry))) e set peerCount ⌝ }
 {
     let mut rest = set;
     let mut k = 0usize;
-    while k < 8 {
+    while k < PEERS {
         if rest == 0 {
             return;
         }
-        let q = tables::lowest(rest) % 8;
+        let q = tables::lowest(rest) % PEERS;
         queues::enter(ends, entries, carried, numbers, Peer(q), e);
         rest = tables::without(rest, q);
         k += 1;
@@ -172,7 +170,7 @@ fn post(
 
 // Who is told: of a destruction every holder, of a release the owner.
 fn addressees(handles: &[u64], kind: u16, s: usize) -> u8
-    requires { ⌜ (length (now handles) ≡ handlesSize) × (s < 128) ⌝ }
+    requires { ⌜ (length (now handles) ≡ handlesSize) × (s < nodeCount) ⌝ }
     ensures { λ r. ⌜ r ≡ addresseesOf (now (handles .entry)) kind s ⌝ }
 {
     if kind == DESTROYED {
@@ -194,8 +192,8 @@ pub fn tell(
     kind: u16,
     n: u64,
 )
-    requires { ⌜ (length (now nodes) ≡ 256) × (length (now handles) ≡ handlesSize) × (length (now ends) ≡ endCount) × Sized (rowsOf (now entries) (now carried) (now numbers)) × (q .0 < 8) ⌝ }
-    ensures { λ _. ⌜ ringsOf (now (ends .exit)) (now (entries .exit)) (now (carried .exit)) (now (numbers .exit)) ≡ told (now (handles .entry)) (q .0) kind n (ringsOf (now (ends .entry)) (now (entries .entry)) (now (carried .entry)) (now (numbers .entry))) set 16 ⌝ }
+    requires { ⌜ (length (now nodes) ≡ nodesSize) × (length (now handles) ≡ handlesSize) × QueueTables (now ends) (now entries) (now carried) (now numbers) × (q .0 < peerCount) ⌝ }
+    ensures { λ _. ⌜ ringsOf (now (ends .exit)) (now (entries .exit)) (now (carried .exit)) (now (numbers .exit)) ≡ told (now (handles .entry)) (q .0) kind n (ringsOf (now (ends .entry)) (now (entries .entry)) (now (carried .entry)) (now (numbers .entry))) set slots ⌝ }
 {
     let mut rest = set;
     let mut k = 0;
@@ -213,8 +211,8 @@ pub fn tell(
 
 // The nodes of the peer's own slots in the set are dead since the command n.
 fn bury(nodes: &mut [u64], p: Peer, set: u16, n: u64)
-    requires { ⌜ (length (now nodes) ≡ 256) × (p .0 < 8) ⌝ }
-    ensures { λ _. ⌜ now (nodes .exit) ≡ deadAll (now (nodes .entry)) (p .0) set n 16 ⌝ }
+    requires { ⌜ (length (now nodes) ≡ nodesSize) × (p .0 < peerCount) ⌝ }
+    ensures { λ _. ⌜ now (nodes .exit) ≡ deadAll (now (nodes .entry)) (p .0) set n slots ⌝ }
 {
     let mut k = 0;
     while k < SLOTS {
@@ -237,7 +235,7 @@ pub fn destroy_set(
     set: u16,
     n: u64,
 )
-    requires { ⌜ (length (now nodes) ≡ 256) × (length (now handles) ≡ handlesSize) × (length (now ends) ≡ endCount) × Sized (rowsOf (now entries) (now carried) (now numbers)) × (p .0 < 8) ⌝ }
+    requires { ⌜ (length (now nodes) ≡ nodesSize) × (length (now handles) ≡ handlesSize) × QueueTables (now ends) (now entries) (now carried) (now numbers) × (p .0 < peerCount) ⌝ }
     ensures { λ _. ⌜ destroyedOf (now (nodes .exit)) (ringsOf (now (ends .exit)) (now (entries .exit)) (now (carried .exit)) (now (numbers .exit))) ≡ destroyedSet (now (nodes .entry)) (now (handles .entry)) (ringsOf (now (ends .entry)) (now (entries .entry)) (now (carried .entry)) (now (numbers .entry))) (p .0) set n ⌝ }
 {
     let m = Match {
@@ -273,8 +271,8 @@ pub fn destroy_one(
     s: usize,
     n: u64,
 )
-    requires { ⌜ (length (now nodes) ≡ 256) × (length (now handles) ≡ handlesSize) × (length (now ends) ≡ endCount) × Sized (rowsOf (now entries) (now carried) (now numbers)) × (p .0 < 8) ⌝ }
-    ensures { λ _. ⌜ destroyedOf (now (nodes .exit)) (ringsOf (now (ends .exit)) (now (entries .exit)) (now (carried .exit)) (now (numbers .exit))) ≡ destroyedSet (now (nodes .entry)) (now (handles .entry)) (ringsOf (now (ends .entry)) (now (entries .entry)) (now (carried .entry)) (now (numbers .entry))) (p .0) (oneSlot 4 s .mask) n ⌝ }
+    requires { ⌜ (length (now nodes) ≡ nodesSize) × (length (now handles) ≡ handlesSize) × QueueTables (now ends) (now entries) (now carried) (now numbers) × (p .0 < peerCount) ⌝ }
+    ensures { λ _. ⌜ destroyedOf (now (nodes .exit)) (ringsOf (now (ends .exit)) (now (entries .exit)) (now (carried .exit)) (now (numbers .exit))) ≡ destroyedSet (now (nodes .entry)) (now (handles .entry)) (ringsOf (now (ends .entry)) (now (entries .entry)) (now (carried .entry)) (now (numbers .entry))) (p .0) (oneSlot releasedBit s .mask) n ⌝ }
 {
     let own = p.0 * SLOTS + s % SLOTS;
     let m = Match::one_slot(RELEASED_BIT, own);
@@ -296,11 +294,11 @@ pub fn tell_owners(
     p: Peer,
     n: u64,
 )
-    requires { ⌜ (length (now nodes) ≡ 256) × (length (now handles) ≡ handlesSize) × (length (now ends) ≡ endCount) × Sized (rowsOf (now entries) (now carried) (now numbers)) × (p .0 < 8) ⌝ }
-    ensures { λ _. ⌜ ringsOf (now (ends .exit)) (now (entries .exit)) (now (carried .exit)) (now (numbers .exit)) ≡ toldOwners (now (nodes .entry)) (now (handles .entry)) (p .0) n (ringsOf (now (ends .entry)) (now (entries .entry)) (now (carried .entry)) (now (numbers .entry))) 8 ⌝ }
+    requires { ⌜ (length (now nodes) ≡ nodesSize) × (length (now handles) ≡ handlesSize) × QueueTables (now ends) (now entries) (now carried) (now numbers) × (p .0 < peerCount) ⌝ }
+    ensures { λ _. ⌜ ringsOf (now (ends .exit)) (now (entries .exit)) (now (carried .exit)) (now (numbers .exit)) ≡ toldOwners (now (nodes .entry)) (now (handles .entry)) (p .0) n (ringsOf (now (ends .entry)) (now (entries .entry)) (now (carried .entry)) (now (numbers .entry))) peerCount ⌝ }
 {
     let mut q = 0;
-    while q < 8 {
+    while q < PEERS {
         let set = set_of(nodes, handles, Peer(q), Asked::Falling(p));
         tell(
             nodes,

@@ -10,14 +10,8 @@ use Rattle.laws.specs.Tests.{pick}
 use Rattle.laws.specs.Weights.{load}
 use Rattle.rings.specs.declared.Entry.{Entry}
 use Rattle.rings.specs.declared.Match.{Match}
-use Rattle.rings.specs.Rings.{peers, matches}
-
--- The bytes of one peer's area.
-abbrev pub areaSize : ℕ
-areaSize = 4096
-
-abbrev pub poolSize : ℕ
-poolSize = peers * areaSize
+use Rattle.rings.specs.Rings.{kindDestroyed, kindReleased, matches}
+pub use Rattle.ids.specs.Sizes.{areaSize, poolSize}
 
 -- The first n bytes of the peer's area, and n bytes from a place of it on.
 unfoldable pub bytesOf : List ℕ → ℕ → ℕ → List ℕ
@@ -35,7 +29,7 @@ closed t p at n used = sets t (p * areaSize + at) (pieceOf t p (at + n) (used - 
 
 -- The payload bytes of an entry: a notice has none.
 unfoldable pub bytesIn : Entry → ℕ
-bytesIn e = pick (eqb (e .kind) 1) 0 (pick (eqb (e .kind) 2) 0 (e .nb))
+bytesIn e = pick (eqb (e .kind) kindDestroyed) 0 (pick (eqb (e .kind) kindReleased) 0 (e .nb))
 
 -- An entry with its payload.
 pub record Pair : Type 0 where

@@ -12,7 +12,7 @@ use borrow.Author.Tests.{le-leb, eq-eqb, ne-eqb}
 use Rattle.laws.specs.Tests.{pick}
 use Rattle.rings.specs.declared.Entry.{Entry}
 use Rattle.rings.specs.declared.Match.{Match}
-use Rattle.rings.specs.Rings.{Rings, queueOf, lengthOf, headOf, entryAt, rowOf, matches}
+use Rattle.rings.specs.Rings.{kindDestroyed, kindReleased, Rings, queueOf, lengthOf, headOf, entryAt, rowOf, matches}
 use Rattle.rings.specs.Laws.{queue-length, queue-at}
 use Rattle.pool.specs.Pool.{areaSize, pieceOf, bytesIn, Kept, kept, keptPiece, keptPieces}
 
@@ -78,17 +78,17 @@ pub moving-turn : {t₀ : List ℕ} {p : ℕ} {m : Match} (g : Rings) {t : List 
 moving-turn {t₀} {p} g {i = i} s head len lt at same eq size small =
     moving-next g s (omega arith) (same ∙ ap (entryAt (g .rows)) (at ∙ ap (λ (y : ℕ). rowOf p y i) head)) eq size small
 
-pub bytes-destroyed : (e : Entry) → e .kind ≡ 1 → 0 ≡ bytesIn e
+pub bytes-destroyed : (e : Entry) → e .kind ≡ kindDestroyed → 0 ≡ bytesIn e
 unfolding bytesIn
-bytes-destroyed e h = rw (eq-eqb (e .kind) 1 h) refl
+bytes-destroyed e h = rw (eq-eqb (e .kind) kindDestroyed h) refl
 
-pub bytes-released : (e : Entry) → (e .kind ≡ 1 → ⊥) → e .kind ≡ 2 → 0 ≡ bytesIn e
+pub bytes-released : (e : Entry) → (e .kind ≡ kindDestroyed → ⊥) → e .kind ≡ kindReleased → 0 ≡ bytesIn e
 unfolding bytesIn
-bytes-released e n h = rw (ne-eqb (e .kind) 1 n, eq-eqb (e .kind) 2 h) refl
+bytes-released e n h = rw (ne-eqb (e .kind) kindDestroyed n, eq-eqb (e .kind) kindReleased h) refl
 
-pub bytes-message : (e : Entry) → (e .kind ≡ 1 → ⊥) → (e .kind ≡ 2 → ⊥) → e .nb ≡ bytesIn e
+pub bytes-message : (e : Entry) → (e .kind ≡ kindDestroyed → ⊥) → (e .kind ≡ kindReleased → ⊥) → e .nb ≡ bytesIn e
 unfolding bytesIn
-bytes-message e n h = rw (ne-eqb (e .kind) 1 n, ne-eqb (e .kind) 2 h) refl
+bytes-message e n h = rw (ne-eqb (e .kind) kindDestroyed n, ne-eqb (e .kind) kindReleased h) refl
 
 pub piece-out : (t : List ℕ) (p r k : ℕ) (m : Match) (e : Entry) → matches m e ≡ true → kept k t ≡ keptPiece t p r k m e
 unfolding keptPiece

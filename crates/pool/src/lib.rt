@@ -3,7 +3,7 @@
 ghost use mathlib.Core.Path.{_≡_};
 ghost use Prim.Native.Nat.{_+_, _*_, _<_, _≤_};
 ghost use lib.ListN.{length};
-ghost use Rattle.rings.specs.Rings.{peers, ringSize, endCount, rowsOf, ringsOf, Sized, lengthOf, queueOf};
+ghost use Rattle.rings.specs.Rings.{peers, ringSize, ringsOf, QueueTables, lengthOf, queueOf};
 ghost use Rattle.pool.specs.Pool.{areaSize, poolSize, pieceOf, appended, closed, bytesIn, kept, keptPiece, keptPieces};
 use ids::AREA;
 use ids::Peer;
@@ -40,10 +40,10 @@ pub fn close(pool: &mut [u8], p: Peer, at: usize, n: usize, used: usize)
 fn bytes_in(e: Entry) -> usize
     ensures { λ r. ⌜ (r ≡ bytesIn e) × (r < 65536) ⌝ }
 {
-    if e.kind == 1 {
+    if e.kind == rings::DESTROYED {
         return 0;
     }
-    if e.kind == 2 {
+    if e.kind == rings::RELEASED {
         return 0;
     }
     e.nb as usize
@@ -73,7 +73,7 @@ pub fn remove(
     p: Peer,
     m: Match,
 ) -> usize
-    requires { ⌜ (length (now ends) ≡ endCount) × Sized (rowsOf (now entries) (now carried) (now numbers)) × (p .0 < peers) × (lengthOf (now ends) (p .0) ≤ ringSize) ⌝ }
+    requires { ⌜ QueueTables (now ends) (now entries) (now carried) (now numbers) × (p .0 < peers) × (lengthOf (now ends) (p .0) ≤ ringSize) ⌝ }
     ensures { λ r. ⌜ kept r (now (pool .exit)) ≡ keptPieces (now (pool .entry)) (p .0) 0 0 m (queueOf (ringsOf (now (ends .entry)) (now (entries .entry)) (now (carried .entry)) (now (numbers .entry))) (p .0)) ⌝ }
 {
     let head = rings::head_of(ends, p);

@@ -14,7 +14,7 @@ use Rattle.laws.specs.Weights.{All, all-imp}
 use Rattle.laws.specs.Build.{build}
 use Rattle.ids.specs.Refusals.{EAGAIN, ERANGE}
 use Rattle.rings.specs.declared.Entry.{Entry as Row}
-use Rattle.rings.specs.Rings.{peers, endCount, Rings, lengthOf, queueOf, firstOf, kindBit}
+use Rattle.rings.specs.Rings.{kindMessage, kindDestroyed, kindReleased, peers, endsSize, Rings, lengthOf, queueOf, firstOf, kindBit}
 use Rattle.rings.specs.Laws.{queue-empty, queue-eight, pop-own, afterPop}
 use Rattle.rings.specs.Matches.{kind-other}
 use Rattle.pool.specs.Pool.{areaSize, bytesOf, pieceOf, bytesIn, Pair, paired, sumOf}
@@ -29,25 +29,26 @@ use Rattle.tables.specs.Charges.{chargesAt}
 use Rattle.view.specs.View.{entryV, areaOf, rowsV, queueV}
 use Rattle.view.specs.Rows.{area-length, area-bytes, queue-own}
 use Rattle.queues.specs.Queues.{isMessage, chargeIn, leads, followsIn, namesIn, attachedOf, carriesIn, namedIn}
+use Rattle.ids.specs.Sizes.{mostIds, carriedFields}
 
 -- What a row stands for, by its kind.
 abbrev pub messageV : Pair → Message
 messageV x = record { to = x .entry .slot; user = x .entry .user; payload = x .payload; carried = take (x .entry .nh) (x .entry .carried) }
 
 pub data Kind (x : Pair) : Type 0 where
-  is-message : isMessage (x .entry) ≡ true → bytesIn (x .entry) ≡ x .entry .nb → kindBit (x .entry .kind) ≡ 0 → entryV x ≡ message (x .entry .number) (messageV x) → Kind x
-  is-destroyed : isMessage (x .entry) ≡ false → bytesIn (x .entry) ≡ 0 → kindBit (x .entry .kind) ≡ 1 → entryV x ≡ destroyed (x .entry .number) (x .entry .slot) → Kind x
-  is-released : isMessage (x .entry) ≡ false → bytesIn (x .entry) ≡ 0 → kindBit (x .entry .kind) ≡ 2 → entryV x ≡ released (x .entry .number) (x .entry .slot) → Kind x
+  is-message : isMessage (x .entry) ≡ true → bytesIn (x .entry) ≡ x .entry .nb → kindBit (x .entry .kind) ≡ kindMessage → entryV x ≡ message (x .entry .number) (messageV x) → Kind x
+  is-destroyed : isMessage (x .entry) ≡ false → bytesIn (x .entry) ≡ 0 → kindBit (x .entry .kind) ≡ kindDestroyed → entryV x ≡ destroyed (x .entry .number) (x .entry .slot) → Kind x
+  is-released : isMessage (x .entry) ≡ false → bytesIn (x .entry) ≡ 0 → kindBit (x .entry .kind) ≡ kindReleased → entryV x ≡ released (x .entry .number) (x .entry .slot) → Kind x
 
 pub kind : (x : Pair) → Kind x
 unfolding entryV isMessage bytesIn
-kind x = go (look (eqb (x .entry .kind) 1)) (look (eqb (x .entry .kind) 2))
+kind x = go (look (eqb (x .entry .kind) kindDestroyed)) (look (eqb (x .entry .kind) kindReleased))
   where
-    go : Seen (eqb (x .entry .kind) 1) → Seen (eqb (x .entry .kind) 2) → Kind x
-    go (is-true a) b = is-destroyed (rw a) (rw a) (ap kindBit (eqb-true (x .entry .kind) 1 a)) (rw a)
-    go (is-false a) (is-true b) = is-released (rw (a, b)) (rw (a, b)) (ap kindBit (eqb-true (x .entry .kind) 2 b)) (rw (a, b))
+    go : Seen (eqb (x .entry .kind) kindDestroyed) → Seen (eqb (x .entry .kind) kindReleased) → Kind x
+    go (is-true a) b = is-destroyed (rw a) (rw a) (ap kindBit (eqb-true (x .entry .kind) kindDestroyed a)) (rw a)
+    go (is-false a) (is-true b) = is-released (rw (a, b)) (rw (a, b)) (ap kindBit (eqb-true (x .entry .kind) kindReleased b)) (rw (a, b))
     go (is-false a) (is-false b) =
-        is-message (rw (a, b)) (rw (a, b)) (kind-other (x .entry .kind) (eqb-false (x .entry .kind) 1 a) (eqb-false (x .entry .kind) 2 b)) (rw (a, b))
+        is-message (rw (a, b)) (rw (a, b)) (kind-other (x .entry .kind) (eqb-false (x .entry .kind) kindDestroyed a) (eqb-false (x .entry .kind) kindReleased b)) (rw (a, b))
 
 pub stamp-view : (x : Pair) → stamp (entryV x) ≡ x .entry .number
 stamp-view x = go (kind x)
@@ -58,11 +59,11 @@ stamp-view x = go (kind x)
     go (is-released a b k e) = ap stamp e
 
 -- A message's charge, in the table's words.
-pub charge-view : (x : Pair) → isMessage (x .entry) ≡ true → length (x .payload) ≡ bytesIn (x .entry) → length (x .entry .carried) ≡ 8 →
+pub charge-view : (x : Pair) → isMessage (x .entry) ≡ true → length (x .payload) ≡ bytesIn (x .entry) → length (x .entry .carried) ≡ carriedFields →
     chargeOf (messageV x) ≡ chargeIn (x .entry)
 charge-view x h size eight = go (kind x)
   where
-    handles : length (take (x .entry .nh) (x .entry .carried)) ≡ min (x .entry .nh) 8
+    handles : length (take (x .entry .nh) (x .entry .carried)) ≡ min (x .entry .nh) mostIds
     handles = length-take (x .entry .nh) (x .entry .carried) ∙ ap (min (x .entry .nh)) eight
 
     go : Kind x → chargeOf (messageV x) ≡ chargeIn (x .entry)
@@ -81,9 +82,9 @@ message-view x h = go (kind x)
 -- The rows of a queue have the payloads that they say, and eight slots.
 pub record Whole (x : Pair) : Type 0 where
   pub size : length (x .payload) ≡ bytesIn (x .entry)
-  pub eight : length (x .entry .carried) ≡ 8
+  pub eight : length (x .entry .carried) ≡ carriedFields
 
-pub paired-whole : (es : List Row) (l : List ℕ) → length l ≡ sumOf es → All (λ e. length (e .carried) ≡ 8) es → All Whole (paired es l)
+pub paired-whole : (es : List Row) (l : List ℕ) → length l ≡ sumOf es → All (λ e. length (e .carried) ≡ carriedFields) es → All Whole (paired es l)
 unfolding paired
 paired-whole [] l h k = tt
 paired-whole (e ∷ es) l h k = (
@@ -116,20 +117,20 @@ below-same : (f g : ℕ → Bool) (n : ℕ) → ((j : ℕ) → j < n → f j ≡
 below-same f g zero h = refl
 below-same f g (suc n) h = ap₂ either (h n (omega arith)) (below-same f g n (λ j l. h j (omega arith)))
 
-pub names-at : (r : Rings) (t : List ℕ) (s q : ℕ) → q < 8 → any (namesIn s) (queueOf r q) ≡ any (names s) (messagesIn (queueV r t q))
+pub names-at : (r : Rings) (t : List ℕ) (s q : ℕ) → q < peers → any (namesIn s) (queueOf r q) ≡ any (names s) (messagesIn (queueV r t q))
 unfolding rowsV
 names-at r t s q l =
     names-view s (queueOf r q) (areaOf t q (sumOf (queueOf r q))) ∙ ap (λ (es : List Entry). any (names s) (messagesIn es)) (sym (queue-own r t q l))
 
 -- Where each queue's answer is that of all its messages, the slot is named as the model says.
-pub named-view : (cs : List ℕ) (r : Rings) (t : List ℕ) (s : ℕ) → ((q : ℕ) → q < 8 → eqb (attachedOf (chargesAt cs q)) 0 ≡ true → any (names s) (messagesIn (queueV r t q)) ≡ false) →
+pub named-view : (cs : List ℕ) (r : Rings) (t : List ℕ) (s : ℕ) → ((q : ℕ) → q < peers → eqb (attachedOf (chargesAt cs q)) 0 ≡ true → any (names s) (messagesIn (queueV r t q)) ≡ false) →
     namedIn cs r s ≡ named (queueV r t) s
 unfolding namedIn named carriesIn
 named-view cs r t s none =
     below-same (carriesIn cs r s) (λ q. any (names s) (messagesIn (queueV r t q))) peers
     (λ q l. go q l (look (eqb (attachedOf (chargesAt cs q)) 0)))
   where
-    go : (q : ℕ) → q < 8 → Seen (eqb (attachedOf (chargesAt cs q)) 0) → carriesIn cs r s q ≡ any (names s) (messagesIn (queueV r t q))
+    go : (q : ℕ) → q < peers → Seen (eqb (attachedOf (chargesAt cs q)) 0) → carriesIn cs r s q ≡ any (names s) (messagesIn (queueV r t q))
     go q l (is-true e) = rw e (sym (none q l e))
     go q l (is-false e) = rw e (names-at r t s q l)
 
@@ -153,7 +154,7 @@ area-piece t p n h = let e : p * areaSize ≡ p * areaSize + 0 = omega arith in 
 abbrev pub frontV : Rings → List ℕ → ℕ → Pair
 frontV r t p = record { entry = firstOf r p; payload = areaOf t p (bytesIn (firstOf r p)) }
 
-pub rows-front : (r : Rings) (t : List ℕ) (p : ℕ) → length (r .ends) ≡ endCount → p < 8 → 0 < lengthOf (r .ends) p →
+pub rows-front : (r : Rings) (t : List ℕ) (p : ℕ) → length (r .ends) ≡ endsSize → p < peers → 0 < lengthOf (r .ends) p →
     rowsV r t p ≡ frontV r t p ∷ paired (queueOf (afterPop r p) p) (drop (bytesIn (firstOf r p)) (areaOf t p (sumOf (queueOf r p))))
 unfolding rowsV paired
 rows-front r t p size l some =
@@ -163,23 +164,23 @@ rows-front r t p size l some =
     ∙ ap (λ (b : List ℕ). record { entry = firstOf r p; payload = b } ∷ paired (queueOf (afterPop r p) p) (drop (bytesIn (firstOf r p)) (areaOf t p (sumOf (queueOf r p)))))
     (ap (λ (n : ℕ). take (bytesIn (firstOf r p)) (areaOf t p n)) f ∙ area-front t p (bytesIn (firstOf r p)) (sumOf (queueOf (afterPop r p) p)))
 
-pub front-view : (r : Rings) (t : List ℕ) (p : ℕ) → length (r .ends) ≡ endCount → p < 8 → 0 < lengthOf (r .ends) p →
+pub front-view : (r : Rings) (t : List ℕ) (p : ℕ) → length (r .ends) ≡ endsSize → p < peers → 0 < lengthOf (r .ends) p →
     queueV r t p ≡ entryV (frontV r t p) ∷ drop 1 (queueV r t p)
 front-view r t p size l some =
     let e : queueV r t p ≡ map entryV (frontV r t p ∷ paired (queueOf (afterPop r p) p) (drop (bytesIn (firstOf r p)) (areaOf t p (sumOf (queueOf r p))))) =
     queue-own r t p l ∙ ap (map entryV) (rows-front r t p size l some) in
     e ∙ ap (λ (es : List Entry). entryV (frontV r t p) ∷ drop 1 es) (sym e)
 
-pub front-whole : (r : Rings) (t : List ℕ) (p : ℕ) → length (r .ends) ≡ endCount → p < 8 → 0 < lengthOf (r .ends) p → Whole (frontV r t p)
+pub front-whole : (r : Rings) (t : List ℕ) (p : ℕ) → length (r .ends) ≡ endsSize → p < peers → 0 < lengthOf (r .ends) p → Whole (frontV r t p)
 front-whole r t p size l some = (rw (rows-front r t p size l some) at (rows-whole r t p)) .0
 
 -- No entry.
-pub empty-view : (r : Rings) (t : List ℕ) (p : ℕ) → p < 8 → lengthOf (r .ends) p ≡ 0 → queueV r t p ≡ []
+pub empty-view : (r : Rings) (t : List ℕ) (p : ℕ) → p < peers → lengthOf (r .ends) p ≡ 0 → queueV r t p ≡ []
 unfolding rowsV paired
 empty-view r t p l none = queue-own r t p l ∙ ap (λ (es : List Row). map entryV (paired es (areaOf t p (sumOf (queueOf r p))))) (queue-empty r p none)
 
 -- Whether a receive may take the oldest entry.
-pub takeable-view : (r : Rings) (t : List ℕ) (p room : ℕ) → length (r .ends) ≡ endCount → p < 8 →
+pub takeable-view : (r : Rings) (t : List ℕ) (p room : ℕ) → length (r .ends) ≡ endsSize → p < peers →
     takeable room (queueV r t p)
     ≡ pick (eqb (lengthOf (r .ends) p) 0) EAGAIN
     (pick (isMessage (firstOf r p)) (pick (leb (firstOf r p .nb + 8 * min (firstOf r p .nh) 8) room) 0 ERANGE) 0)
@@ -188,15 +189,15 @@ takeable-view r t p room size l = go (look (eqb (lengthOf (r .ends) p) 0))
     x : Pair
     x = frontV r t p
 
-    front : Kind x → Whole x → takeable room (entryV x ∷ drop 1 (queueV r t p)) ≡ pick (isMessage (x .entry)) (pick (leb (x .entry .nb + 8 * min (x .entry .nh) 8) room) 0 ERANGE) 0
+    front : Kind x → Whole x → takeable room (entryV x ∷ drop 1 (queueV r t p)) ≡ pick (isMessage (x .entry)) (pick (leb (x .entry .nb + 8 * min (x .entry .nh) mostIds) room) 0 ERANGE) 0
     front (is-message a b k e) w =
-        let f : length (take (x .entry .nh) (x .entry .carried)) ≡ min (x .entry .nh) 8 = length-take (x .entry .nh) (x .entry .carried) ∙ ap (min (x .entry .nh)) (w .eight) in
+        let f : length (take (x .entry .nh) (x .entry .carried)) ≡ min (x .entry .nh) mostIds = length-take (x .entry .nh) (x .entry .carried) ∙ ap (min (x .entry .nh)) (w .eight) in
         let g : length (x .payload) ≡ x .entry .nb = w .size ∙ b in
         rw (a, e, f, g)
     front (is-destroyed a b k e) w = rw (a, e)
     front (is-released a b k e) w = rw (a, e)
 
-    go : Seen (eqb (lengthOf (r .ends) p) 0) → takeable room (queueV r t p) ≡ pick (eqb (lengthOf (r .ends) p) 0) EAGAIN (pick (isMessage (x .entry)) (pick (leb (x .entry .nb + 8 * min (x .entry .nh) 8) room) 0 ERANGE) 0)
+    go : Seen (eqb (lengthOf (r .ends) p) 0) → takeable room (queueV r t p) ≡ pick (eqb (lengthOf (r .ends) p) 0) EAGAIN (pick (isMessage (x .entry)) (pick (leb (x .entry .nb + 8 * min (x .entry .nh) mostIds) room) 0 ERANGE) 0)
     go (is-true z) = rw z (ap (takeable room) (empty-view r t p l (eqb-true (lengthOf (r .ends) p) 0 z)))
     go (is-false z) =
         let d : lengthOf (r .ends) p ≡ 0 → ⊥ = eqb-false (lengthOf (r .ends) p) 0 z in
@@ -248,7 +249,7 @@ leads-view n (e ∷ es) l o h = go (look (eqb (e .number) n)) (kind x) (leads-vi
         let over : n < stamp (entryV x) = rw (stamp-view x) (omega (arith, low)) in
         rw s (sym (later-none n (e ∷ es) l (over, all-imp (λ d. stamp (entryV x) ≤ stamp d) (λ d. n < stamp d) (λ d le. omega (arith, over, le)) rest (o .0))))
 
-pub follows-view : (r : Rings) (t : List ℕ) (p n : ℕ) → length (r .ends) ≡ endCount → p < 8 → 0 < lengthOf (r .ends) p → InOrder (queueV r t p) → n ≡ firstOf r p .number →
+pub follows-view : (r : Rings) (t : List ℕ) (p n : ℕ) → length (r .ends) ≡ endsSize → p < peers → 0 < lengthOf (r .ends) p → InOrder (queueV r t p) → n ≡ firstOf r p .number →
     followsIn r p n ≡ any (ofSend n) (drop 1 (queueV r t p))
 unfolding followsIn
 follows-view r t p n size l some o e =

@@ -17,20 +17,21 @@ use Rattle.quota.specs.declared.Charges.{Charges}
 use Rattle.quota.specs.Charges.{freshCharges, charged, discharged}
 use Rattle.rings.specs.declared.Entry.{Entry}
 use Rattle.rings.specs.declared.Match.{Match}
-use Rattle.rings.specs.Rings.{peers, ringSize, Rings, rowsOf, headOf, lengthOf, rowOf, entryAt, queueOf, matches, pushed, removed}
+use Rattle.rings.specs.Rings.{kindDestroyed, kindReleased, peers, ringSize, Rings, rowsOf, headOf, lengthOf, rowOf, entryAt, queueOf, matches, pushed, removed}
 use Rattle.rings.specs.Laws.{row-at, queue-empty, queue-length, queue-at}
 use Rattle.pool.specs.Pool.{Kept, kept, appended, closed, keptPieces}
 use Rattle.tables.specs.Charges.{chargesAt, putCharges}
 use Rattle.model.specs.Lists.{either, any, anyBelow}
 use Rattle.queues.specs.Queues.{Queues, usedOf, messageKind, isMessage, chargeIn, entered, enqueued, settledCharges, settledPool, lessened, lessenedAll, lessenedCharges, withdrawn, removedFrom, emptiedCharges, leads, followsIn, namesIn, attachedOf, carriesIn, namedIn}
+use Rattle.ids.specs.Sizes.{entryFields, carriedFields}
 
 -- is_message_kind, is_message
 module _ (k : ℕ) where
-  pub message-destroyed : k ≡ 1 → false ≡ messageKind k
-  message-destroyed h = rw (eq-eqb k 1 h)
+  pub message-destroyed : k ≡ kindDestroyed → false ≡ messageKind k
+  message-destroyed h = rw (eq-eqb k kindDestroyed h)
 
-  pub message-else : (k ≡ 1 → ⊥) → not (eqb k 2) ≡ messageKind k
-  message-else h = rw (ne-eqb k 1 h)
+  pub message-else : (k ≡ kindDestroyed → ⊥) → not (eqb k kindReleased) ≡ messageKind k
+  message-else h = rw (ne-eqb k kindDestroyed h)
 
 pub message-entry : (e : Entry) {b : Bool} → b ≡ messageKind (e .kind) → b ≡ isMessage e
 unfolding isMessage
@@ -188,51 +189,51 @@ module _ {A : Type 0} (t : A → Bool) (x : A) (xs : List A) where
 
 -- is_among
 pub record Among (c : List ℕ) (row n s k : ℕ) : Type 0 where
-  pub rest : any (eqb s) (drop k (take n (rowIn 8 c row))) ≡ any (eqb s) (take n (rowIn 8 c row))
+  pub rest : any (eqb s) (drop k (take n (rowIn carriedFields c row))) ≡ any (eqb s) (take n (rowIn carriedFields c row))
 
 pub among-start : (c : List ℕ) (row n s : ℕ) → Among c row n s 0
 among-start c row n s = record { rest = refl }
 
 module _ {c : List ℕ} {row n s k : ℕ} (v : Among c row n s k) (fit : n ≤ 8) where
-  among-size : length (take n (rowIn 8 c row)) ≡ n
-  among-size = length-take-le n (rowIn 8 c row) (omega (arith, row-length 8 c row))
+  among-size : length (take n (rowIn carriedFields c row)) ≡ n
+  among-size = length-take-le n (rowIn carriedFields c row) (omega (arith, row-length 8 c row))
 
-  pub among-end : n ≤ k → false ≡ any (eqb s) (take n (rowIn 8 c row))
-  among-end h = ap (any (eqb s)) (sym (drop-of-length-le (take n (rowIn 8 c row)) {i = k} (omega (arith, among-size)))) ∙ v .rest
+  pub among-end : n ≤ k → false ≡ any (eqb s) (take n (rowIn carriedFields c row))
+  among-end h = ap (any (eqb s)) (sym (drop-of-length-le (take n (rowIn carriedFields c row)) {i = k} (omega (arith, among-size)))) ∙ v .rest
 
-  module _ (lt : k < n) {b : ℕ} (eb : b ≡ getD c (8 * row + k) 0) where
-    among-here : any (eqb s) (b ∷ drop (k + 1) (take n (rowIn 8 c row))) ≡ any (eqb s) (take n (rowIn 8 c row))
+  module _ (lt : k < n) {b : ℕ} (eb : b ≡ getD c (carriedFields * row + k) 0) where
+    among-here : any (eqb s) (b ∷ drop (k + 1) (take n (rowIn carriedFields c row))) ≡ any (eqb s) (take n (rowIn carriedFields c row))
     among-here =
-        let here : getD (take n (rowIn 8 c row)) k 0 ≡ b = getD-take n (rowIn 8 c row) k 0 lt ∙ row-at 8 c row k (omega arith) ∙ sym eb in
+        let here : getD (take n (rowIn carriedFields c row)) k 0 ≡ b = getD-take n (rowIn carriedFields c row) k 0 lt ∙ row-at 8 c row k (omega arith) ∙ sym eb in
         let step : suc k ≡ k + 1 = omega arith in
-        let next : drop k (take n (rowIn 8 c row)) ≡ b ∷ drop (k + 1) (take n (rowIn 8 c row)) = drop-cons (take n (rowIn 8 c row)) k 0 (omega (arith, among-size)) ∙ ap (λ (x : ℕ). x ∷ drop (suc k) (take n (rowIn 8 c row))) here
-        ∙ ap (λ (x : ℕ). b ∷ drop x (take n (rowIn 8 c row))) step in
+        let next : drop k (take n (rowIn carriedFields c row)) ≡ b ∷ drop (k + 1) (take n (rowIn carriedFields c row)) = drop-cons (take n (rowIn carriedFields c row)) k 0 (omega (arith, among-size)) ∙ ap (λ (x : ℕ). x ∷ drop (suc k) (take n (rowIn carriedFields c row))) here
+        ∙ ap (λ (x : ℕ). b ∷ drop x (take n (rowIn carriedFields c row))) step in
         ap (any (eqb s)) (sym next) ∙ v .rest
 
-    pub among-found : b ≡ s → true ≡ any (eqb s) (take n (rowIn 8 c row))
-    among-found e = sym (any-here (eqb s) b (drop (k + 1) (take n (rowIn 8 c row))) (eq-eqb s b (sym e))) ∙ among-here
+    pub among-found : b ≡ s → true ≡ any (eqb s) (take n (rowIn carriedFields c row))
+    among-found e = sym (any-here (eqb s) b (drop (k + 1) (take n (rowIn carriedFields c row))) (eq-eqb s b (sym e))) ∙ among-here
 
     pub among-next : (b ≡ s → ⊥) → Among c row n s (k + 1)
-    among-next ne = record { rest = sym (any-next (eqb s) b (drop (k + 1) (take n (rowIn 8 c row))) (ne-eqb s b (λ x. ne (sym x)))) ∙ among-here }
+    among-next ne = record { rest = sym (any-next (eqb s) b (drop (k + 1) (take n (rowIn carriedFields c row))) (ne-eqb s b (λ x. ne (sym x)))) ∙ among-here }
 
 -- names
-module _ (s : ℕ) (e c : List ℕ) (row : ℕ) {b : Bool} (eb : b ≡ messageKind (getD e (5 * row) 0)) where
+module _ (s : ℕ) (e c : List ℕ) (row : ℕ) {b : Bool} (eb : b ≡ messageKind (getD e (entryFields * row) 0)) where
   pub names-notice : b ≡ false → (n : List ℕ) → false ≡ namesIn s (entryAt (rowsOf e c n) row)
   unfolding namesIn isMessage entryAt
   names-notice f n = rw (row5, ← eb, f)
 
-  module _ (t : b ≡ true) {w : ℕ} (ew : w ≡ getD e (5 * row + 1) 0) where
+  module _ (t : b ≡ true) {w : ℕ} (ew : w ≡ getD e (entryFields * row + 1) 0) where
     pub names-slot : w ≡ s → (n : List ℕ) → true ≡ namesIn s (entryAt (rowsOf e c n) row)
     unfolding namesIn isMessage entryAt
-    names-slot h n = rw (row5, ← eb, t, eq-eqb s (getD e (5 * row + 1) 0) (sym h ∙ ew))
+    names-slot h n = rw (row5, ← eb, t, eq-eqb s (getD e (entryFields * row + 1) 0) (sym h ∙ ew))
 
-    pub names-attached : (w ≡ s → ⊥) → {x : ℕ} → x ≡ getD e (5 * row + 4) 0 → {k : ℕ} → k ≡ min x 8 → {r : Bool} → r ≡ any (eqb s) (take k (rowIn 8 c row)) →
+    pub names-attached : (w ≡ s → ⊥) → {x : ℕ} → x ≡ getD e (entryFields * row + 4) 0 → {k : ℕ} → k ≡ min x 8 → {r : Bool} → r ≡ any (eqb s) (take k (rowIn carriedFields c row)) →
         (n : List ℕ) → r ≡ namesIn s (entryAt (rowsOf e c n) row)
     unfolding namesIn isMessage entryAt
     names-attached ne ex {k} ek er n =
-        let few : k ≡ min (length (rowIn 8 c row)) (getD e (5 * row + 4) 0) = omega (arith, row-length 8 c row) in
-        rw (row5, ← eb, t, ne-eqb s (getD e (5 * row + 1) 0) (λ h. ne (ew ∙ sym h)), ← take-min (getD e (5 * row + 4) 0) (rowIn 8 c row))
-        (er ∙ ap (λ (y : ℕ). any (eqb s) (take y (rowIn 8 c row))) few)
+        let few : k ≡ min (length (rowIn carriedFields c row)) (getD e (entryFields * row + 4) 0) = omega (arith, row-length 8 c row) in
+        rw (row5, ← eb, t, ne-eqb s (getD e (entryFields * row + 1) 0) (λ h. ne (ew ∙ sym h)), ← take-min (getD e (entryFields * row + 4) 0) (rowIn carriedFields c row))
+        (er ∙ ap (λ (y : ℕ). any (eqb s) (take y (rowIn carriedFields c row))) few)
 
 -- named_at
 pub record Naming (g : Rings) (p s i : ℕ) : Type 0 where
@@ -273,11 +274,11 @@ any-below-none t zero h = refl
 any-below-none t (suc n) h = rw (h n (omega arith)) (any-below-none t n (λ k l. h k (omega arith)))
 
 module _ (cs : List ℕ) (g : Rings) (s : ℕ) where
-  pub named-found : (q : ℕ) → q < 8 → {b : Bool} → b ≡ carriesIn cs g s q → b ≡ true → true ≡ namedIn cs g s
+  pub named-found : (q : ℕ) → q < peers → {b : Bool} → b ≡ carriesIn cs g s q → b ≡ true → true ≡ namedIn cs g s
   unfolding namedIn
   named-found q l eb t = sym (any-below-found (carriesIn cs g s) peers q l (sym eb ∙ t))
 
-  pub named-none : ((q : ℕ) → q < 8 → carriesIn cs g s q ≡ false) → false ≡ namedIn cs g s
+  pub named-none : ((q : ℕ) → q < peers → carriesIn cs g s q ≡ false) → false ≡ namedIn cs g s
   unfolding namedIn
   named-none h = sym (any-below-none (carriesIn cs g s) peers h)
 

@@ -12,7 +12,7 @@ use borrow.Author.Tests.{lt-ltb, ltb-true}
 use Rattle.laws.specs.Tests.{pick, pick-all, Seen, Seen.is-true, Seen.is-false, look, Same, Same.same, Same.other, same?, clash}
 use Rattle.laws.specs.Tables.{upd, upd-same, upd-other, map-set, map-at}
 use Rattle.laws.specs.Weights.{load-append, all-imp}
-use Rattle.laws.specs.Sums.{sumTo, sum, sum-set, at-most-sum}
+use Rattle.laws.specs.Sums.{sumTo, sum, sum-ext, sum-set, at-most-sum}
 use Rattle.laws.specs.Loads.{load-keys, sum-places}
 use Rattle.ids.specs.declared.User.{User}
 use Rattle.quota.specs.declared.Charge.{Charge}
@@ -20,12 +20,12 @@ use Rattle.quota.specs.declared.Charges.{Charges}
 use Rattle.quota.specs.Charges.{users, nothing, plus, own, freshCharges, charged, discharged}
 use Rattle.quota.specs.Step.{each}
 use Rattle.rings.specs.declared.Entry.{Entry as Row}
-use Rattle.rings.specs.Rings.{peers, ringSize, endCount, Rings, Sized, headOf, lengthOf, queueOf, pushed}
+use Rattle.rings.specs.Rings.{kindDestroyed, kindReleased, peers, ringSize, endsSize, Rings, Sized, headOf, lengthOf, queueOf, pushed}
 use Rattle.rings.specs.Laws.{push-own, push-other, push-sized, push-ends, push-heads, push-length, push-lengths, afterClear, clear-own, clear-other, clear-ends, clear-length, clear-lengths}
 use Rattle.pool.specs.Pool.{areaSize, poolSize, Pair, paired, sumOf, bytesIn, appended}
 use Rattle.pool.specs.Laws.{append-own, append-other, append-length}
 use Rattle.pool.specs.Pairs.{paired-append}
-use Rattle.tables.specs.Charges.{chargesAt, putCharges}
+use Rattle.tables.specs.Charges.{chargesSize, chargesAt, putCharges}
 use Rattle.tables.specs.ChargesView.{chargesV, charges-is, charges-four, charges-length, charges-stored, charged-length, discharged-length}
 use Rattle.model.specs.Resources.{Resource, Resource.messages, Resource.bytes, Resource.handles, amount}
 use Rattle.model.specs.Changes.{chargeOf, dischargedAll}
@@ -36,13 +36,14 @@ use Rattle.model.specs.State.{Entry, Message, messagesIn}
 use Rattle.model.specs.State.Entry.{message, destroyed, released}
 use Rattle.view.specs.View.{entryV, areaOf, rowsV, queueV}
 use Rattle.view.specs.Rows.{queue-own, queue-upd, rows-same, area-length, area-bytes}
-use Rattle.queues.specs.Queues.{Queues, isMessage, entered, enqueued, emptied, emptiedCharges, usedOf, userIn, chargeIn}
+use Rattle.queues.specs.Queues.{Queues, isMessage, entered, enqueued, emptied, emptiedCharges, sumUsers, usedOf, userIn, chargeIn}
+use Rattle.ids.specs.Sizes.{carriedFields}
 
 -- A row of each kind as the entry that it stands for.
 pub entry-message : (e : Row) (b : List ℕ) → isMessage e ≡ true →
     entryV (record { entry = e; payload = b }) ≡ message (e .number) (record { to = e .slot; user = e .user; payload = b; carried = take (e .nh) (e .carried) })
 unfolding entryV isMessage
-entry-message e b h = go (eqb (e .kind) 1) (eqb (e .kind) 2) h
+entry-message e b h = go (eqb (e .kind) kindDestroyed) (eqb (e .kind) kindReleased) h
   where
     go : (x y : Bool) → pick x false (not y) ≡ true →
         pick x (destroyed (e .number) (e .slot)) (pick y (released (e .number) (e .slot)) (message (e .number) (record { to = e .slot; user = e .user; payload = b; carried = take (e .nh) (e .carried) })))
@@ -51,18 +52,18 @@ entry-message e b h = go (eqb (e .kind) 1) (eqb (e .kind) 2) h
     go false true z = clash (sym z)
     go false false z = refl
 
-pub entry-destroyed : (e : Row) (b : List ℕ) → e .kind ≡ 1 → entryV (record { entry = e; payload = b }) ≡ destroyed (e .number) (e .slot)
+pub entry-destroyed : (e : Row) (b : List ℕ) → e .kind ≡ kindDestroyed → entryV (record { entry = e; payload = b }) ≡ destroyed (e .number) (e .slot)
 unfolding entryV
 entry-destroyed e b h = rw h
 
-pub entry-released : (e : Row) (b : List ℕ) → e .kind ≡ 2 → entryV (record { entry = e; payload = b }) ≡ released (e .number) (e .slot)
+pub entry-released : (e : Row) (b : List ℕ) → e .kind ≡ kindReleased → entryV (record { entry = e; payload = b }) ≡ released (e .number) (e .slot)
 unfolding entryV
 entry-released e b h = rw h
 
 -- A message has the bytes that its row says, a notice none.
 pub message-bytes : (e : Row) → isMessage e ≡ true → bytesIn e ≡ e .nb
 unfolding isMessage bytesIn
-message-bytes e h = go (eqb (e .kind) 1) (eqb (e .kind) 2) h
+message-bytes e h = go (eqb (e .kind) kindDestroyed) (eqb (e .kind) kindReleased) h
   where
     go : (x y : Bool) → pick x false (not y) ≡ true → pick x 0 (pick y 0 (e .nb)) ≡ e .nb
     go true y z = clash (sym z)
@@ -71,7 +72,7 @@ message-bytes e h = go (eqb (e .kind) 1) (eqb (e .kind) 2) h
 
 pub notice-bytes : (e : Row) → isMessage e ≡ false → bytesIn e ≡ 0
 unfolding isMessage bytesIn
-notice-bytes e h = go (eqb (e .kind) 1) (eqb (e .kind) 2) h
+notice-bytes e h = go (eqb (e .kind) kindDestroyed) (eqb (e .kind) kindReleased) h
   where
     go : (x y : Bool) → pick x false (not y) ≡ false → pick x 0 (pick y 0 (e .nb)) ≡ 0
     go true y z = refl
@@ -96,7 +97,7 @@ module _ (r : Rings) (p : ℕ) (e : Row) where
   unfolding entered
   enter-heads o = pick-all (λ (x : Rings). headOf (x .ends) o ≡ headOf (r .ends) o) (ltb (lengthOf (r .ends) p) ringSize) (pushed r p e) r (push-heads r p e o) refl
 
-  pub enter-length : length (r .ends) ≡ endCount → p < peers → lengthOf (r .ends) p < ringSize → lengthOf (entered r p e .ends) p ≡ lengthOf (r .ends) p + 1
+  pub enter-length : length (r .ends) ≡ endsSize → p < peers → lengthOf (r .ends) p < ringSize → lengthOf (entered r p e .ends) p ≡ lengthOf (r .ends) p + 1
   enter-length n l room = ap (λ (x : Rings). lengthOf (x .ends) p) (enter-made room) ∙ push-length r p e n l
 
   pub enter-lengths : (o : ℕ) → (p ≡ o → ⊥) → lengthOf (entered r p e .ends) o ≡ lengthOf (r .ends) o
@@ -105,7 +106,7 @@ module _ (r : Rings) (p : ℕ) (e : Row) where
       pick-all (λ (x : Rings). lengthOf (x .ends) o ≡ lengthOf (r .ends) o) (ltb (lengthOf (r .ends) p) ringSize) (pushed r p e) r (push-lengths r p e o d) refl
 
   -- No queue becomes longer than its ring.
-  pub enter-short : length (r .ends) ≡ endCount → p < peers → (o : ℕ) → lengthOf (r .ends) o ≤ ringSize → lengthOf (entered r p e .ends) o ≤ ringSize
+  pub enter-short : length (r .ends) ≡ endsSize → p < peers → (o : ℕ) → lengthOf (r .ends) o ≤ ringSize → lengthOf (entered r p e .ends) o ≤ ringSize
   unfolding entered
   enter-short n l o h = go (look (ltb (lengthOf (r .ends) p) ringSize)) (same? p o)
     where
@@ -115,7 +116,7 @@ module _ (r : Rings) (p : ℕ) (e : Row) where
       go (is-false t) x = rw t h
 
   -- As lists.
-  pub enter-own : Sized (r .rows) → length (r .ends) ≡ endCount → p < peers → lengthOf (r .ends) p < ringSize → length (e .carried) ≡ 8 →
+  pub enter-own : Sized (r .rows) → length (r .ends) ≡ endsSize → p < peers → lengthOf (r .ends) p < ringSize → length (e .carried) ≡ carriedFields →
       queueOf (entered r p e) p ≡ queueOf r p ++ (e ∷ [])
   enter-own s n l room c = ap (λ (x : Rings). queueOf x p) (enter-made room) ∙ push-own r p e s n l room c
 
@@ -139,7 +140,7 @@ module _ (r r′ : Rings) (t t′ : List ℕ) (p : ℕ) (e : Row) (b : List ℕ)
       ap₂ paired own (ap (areaOf t′ p) more-sum ∙ area)
       ∙ paired-append (queueOf r p) e (areaOf t p (sumOf (queueOf r p))) b (area-length t p (sumOf (queueOf r p))) size
 
-  more-view : p < 8 → ((o : ℕ) → o < 8 → (p ≡ o → ⊥) → rowsV r′ t′ o ≡ rowsV r t o) →
+  more-view : p < peers → ((o : ℕ) → o < peers → (p ≡ o → ⊥) → rowsV r′ t′ o ≡ rowsV r t o) →
       queueV r′ t′ ≡ upd (queueV r t) p (queueV r t p ++ (entryV (record { entry = e; payload = b }) ∷ []))
   more-view l others =
       queue-upd r r′ t t′ p (queueV r t p ++ (entryV (record { entry = e; payload = b }) ∷ [])) l
@@ -148,8 +149,8 @@ module _ (r r′ : Rings) (t t′ : List ℕ) (p : ℕ) (e : Row) (b : List ℕ)
       others
 
 -- A notice appended, as the view shows it.
-pub enter-view : (r : Rings) (t : List ℕ) (p : ℕ) (e : Row) → Sized (r .rows) → length (r .ends) ≡ endCount → p < 8 → lengthOf (r .ends) p < ringSize →
-    bytesIn e ≡ 0 → length (e .carried) ≡ 8 →
+pub enter-view : (r : Rings) (t : List ℕ) (p : ℕ) (e : Row) → Sized (r .rows) → length (r .ends) ≡ endsSize → p < peers → lengthOf (r .ends) p < ringSize →
+    bytesIn e ≡ 0 → length (e .carried) ≡ carriedFields →
     queueV (entered r p e) t ≡ upd (queueV r t) p (queueV r t p ++ (entryV (record { entry = e; payload = [] }) ∷ []))
 enter-view r t p e s n l room z c =
     let same-size : sumOf (queueOf r p) + 0 ≡ sumOf (queueOf r p) = omega arith in
@@ -160,7 +161,7 @@ enter-view r t p e s n l room z c =
 -- The bytes of the messages that the view shows are those of the rows.
 notice-left : (e : Row) (b : List ℕ) (q : List Entry) → isMessage e ≡ false → messagesIn (entryV (record { entry = e; payload = b }) ∷ q) ≡ messagesIn q
 unfolding entryV isMessage
-notice-left e b q h = go (eqb (e .kind) 1) (eqb (e .kind) 2) h
+notice-left e b q h = go (eqb (e .kind) kindDestroyed) (eqb (e .kind) kindReleased) h
   where
     go : (x y : Bool) → pick x false (not y) ≡ false →
         messagesIn (pick x (destroyed (e .number) (e .slot)) (pick y (released (e .number) (e .slot)) (message (e .number) (record { to = e .slot; user = e .user; payload = b; carried = take (e .nh) (e .carried) }))) ∷ q)
@@ -182,7 +183,7 @@ paired-bytes (e ∷ es) l h = go (look (isMessage e)) (paired-bytes es (drop (by
     go (is-true m) ih = rw (entry-message e (take (bytesIn e) l) m) (omega (arith, size, ih))
     go (is-false m) ih = rw (notice-left e (take (bytesIn e) l) (map entryV (paired es (drop (bytesIn e) l))) m) (omega (arith, notice-bytes e m, ih))
 
-pub queue-bytes : (r : Rings) (t : List ℕ) (p : ℕ) → p < 8 → queuedAll bytes (messagesIn (queueV r t p)) ≡ sumOf (queueOf r p)
+pub queue-bytes : (r : Rings) (t : List ℕ) (p : ℕ) → p < peers → queuedAll bytes (messagesIn (queueV r t p)) ≡ sumOf (queueOf r p)
 unfolding rowsV
 queue-bytes r t p l =
     ap (λ (x : List Entry). queuedAll bytes (messagesIn x)) (queue-own r t p l)
@@ -190,18 +191,20 @@ queue-bytes r t p l =
 
 -- The users' bytes added up are those of the messages.
 pub sound-used : (ms : List Message) (c : Charges) → Sound ms c → usedOf c ≡ queuedAll bytes ms
-unfolding usedOf sumTo
+unfolding usedOf
 sound-used ms c h =
     let keys : sumTo (λ u. queuedBy bytes u ms) users ≡ queuedAll bytes ms =
     load-keys (weightOf bytes) (λ (m : Message). m .user) users ms (all-imp Fine (λ m. m .user < users) (λ m f. f .from) ms (h .fine)) in
-    omega (arith, keys, h .sums bytes 0 (omega arith), h .sums bytes 1 (omega arith), h .sums bytes 2 (omega arith), h .sums bytes 3 (omega arith), sound-within ms c bytes h)
+    let each : sumUsers (λ x. x .bytes) c ≡ sumTo (λ u. queuedBy bytes u ms) users =
+    sum-ext (λ u. getD (c .by) u nothing .bytes) (λ u. queuedBy bytes u ms) users (λ u l. h .sums bytes u l) in
+    omega (arith, keys, each, sound-within ms c bytes h)
 
 -- Each peer's area is filled by its queue: what its users are charged is what its rows have, and that fits.
 pub record Filled (q : Queues) : Type 0 where
-  pub used : (o : ℕ) → o < 8 → usedOf (chargesAt (q .charges) o) ≡ sumOf (queueOf (q .rings) o)
-  pub within : (o : ℕ) → o < 8 → sumOf (queueOf (q .rings) o) ≤ areaSize
+  pub used : (o : ℕ) → o < peers → usedOf (chargesAt (q .charges) o) ≡ sumOf (queueOf (q .rings) o)
+  pub within : (o : ℕ) → o < peers → sumOf (queueOf (q .rings) o) ≤ areaSize
 
-pub filled-view : (q : Queues) → ((o : ℕ) → o < 8 → Sound (messagesIn (queueV (q .rings) (q .pool) o)) (chargesV (q .charges) o)) → Filled q
+pub filled-view : (q : Queues) → ((o : ℕ) → o < peers → Sound (messagesIn (queueV (q .rings) (q .pool) o)) (chargesV (q .charges) o)) → Filled q
 filled-view q h =
     record {
       used =
@@ -239,7 +242,7 @@ module _ (q : Queues) (p : ℕ) (e : Row) (b : List ℕ) where
   unfolding enqueued
   enqueue-other o d = enter-other (q .rings) p e o d
 
-  pub enqueue-length : length (q .rings .ends) ≡ endCount → p < 8 → lengthOf (q .rings .ends) p < ringSize →
+  pub enqueue-length : length (q .rings .ends) ≡ endsSize → p < peers → lengthOf (q .rings .ends) p < ringSize →
       lengthOf (enqueued q p e b .rings .ends) p ≡ lengthOf (q .rings .ends) p + 1
   unfolding enqueued
   enqueue-length n l room = enter-length (q .rings) p e n l room
@@ -249,7 +252,7 @@ module _ (q : Queues) (p : ℕ) (e : Row) (b : List ℕ) where
   enqueue-lengths o d = enter-lengths (q .rings) p e o d
 
   -- The charges as the view shows them.
-  pub enqueue-charges : length (q .charges) ≡ 96 → p < 8 →
+  pub enqueue-charges : length (q .charges) ≡ chargesSize → p < peers →
       chargesV (enqueued q p e b .charges) ≡ upd (chargesV (q .charges)) p (charged (chargesV (q .charges) p) (userIn e) (chargeIn e))
   unfolding enqueued
   enqueue-charges n l =
@@ -261,13 +264,13 @@ module _ (q : Queues) (p : ℕ) (e : Row) (b : List ℕ) where
 
 -- The bytes that the users have at a peer, as the sum of a list; one user is charged.
 used-sum : (c : Charges) → length (c .by) ≡ users → usedOf c ≡ min (sum (each (λ x. x .bytes) c)) areaSize
-unfolding usedOf sumTo
+unfolding usedOf
 used-sum c n =
     let f : Charge → ℕ = λ x. x .bytes in
     let at : (u : ℕ) → getD (each f c) u 0 ≡ getD (c .by) u nothing .bytes = map-at f nothing refl (c .by) in
     let size : length (each f c) ≡ users = length-map (c .by) f ∙ n in
     let all : sumTo (λ u. getD (each f c) u 0) users ≡ sum (each f c) = rw size at (sum-places (each f c)) in
-    omega (arith, all, at 0, at 1, at 2, at 3)
+    ap (λ (k : ℕ). min k areaSize) (sym (sum-ext (λ u. getD (each f c) u 0) (λ u. getD (c .by) u nothing .bytes) users (λ u l. at u)) ∙ all)
 
 used-charged : (c : Charges) (u : User) (a : Charge) → length (c .by) ≡ users → u .0 < users → usedOf c + a .bytes ≤ areaSize →
     usedOf (charged c u a) ≡ usedOf c + a .bytes
@@ -281,8 +284,8 @@ used-charged c u a n l fit =
     omega (arith, used-sum c n, used-sum (charged c u a) (charged-length c u a ∙ n), at, total, at-most-sum (each f c) (u .0))
 
 -- Such a message, where there is room for it, as the view shows it; and the areas are filled by their queues again.
-module _ (q : Queues) (p : ℕ) (e : Row) (b : List ℕ) (s : Sized (q .rings .rows)) (n : length (q .rings .ends) ≡ endCount) (k : length (q .pool) ≡ poolSize) (l : p < 8)
-    (filled : Filled q) (size : bytesIn e ≡ length b) (eight : length (e .carried) ≡ 8)
+module _ (q : Queues) (p : ℕ) (e : Row) (b : List ℕ) (s : Sized (q .rings .rows)) (n : length (q .rings .ends) ≡ endsSize) (k : length (q .pool) ≡ poolSize) (l : p < peers)
+    (filled : Filled q) (size : bytesIn e ≡ length b) (eight : length (e .carried) ≡ carriedFields)
     (fit : sumOf (queueOf (q .rings) p) + length b ≤ areaSize) (room : lengthOf (q .rings .ends) p < ringSize) where
   stored : enqueued q p e b .pool ≡ appended (q .pool) p (sumOf (queueOf (q .rings) p)) b
   unfolding enqueued
@@ -295,7 +298,7 @@ module _ (q : Queues) (p : ℕ) (e : Row) (b : List ℕ) (s : Sized (q .rings .r
       ap (λ (x : List ℕ). areaOf x p (m + length b)) stored ∙ area-bytes t p (m + length b) (omega (arith, append-length (q .pool) b p m))
       ∙ append-own (q .pool) b p m k l fit ∙ ap (λ (x : List ℕ). x ++ b) (sym (area-bytes (q .pool) p m (omega arith)))
 
-  area-other : (o : ℕ) → o < 8 → (p ≡ o → ⊥) → areaOf (enqueued q p e b .pool) o (sumOf (queueOf (q .rings) o)) ≡ areaOf (q .pool) o (sumOf (queueOf (q .rings) o))
+  area-other : (o : ℕ) → o < peers → (p ≡ o → ⊥) → areaOf (enqueued q p e b .pool) o (sumOf (queueOf (q .rings) o)) ≡ areaOf (q .pool) o (sumOf (queueOf (q .rings) o))
   area-other o h d =
       let m = sumOf (queueOf (q .rings) p) in
       let j = sumOf (queueOf (q .rings) o) in
@@ -317,19 +320,19 @@ module _ (q : Queues) (p : ℕ) (e : Row) (b : List ℕ) (s : Sized (q .rings .r
       more-view (q .rings) (enqueued q p e b .rings) (q .pool) (enqueued q p e b .pool) p e b (sym size) enqueue-own area-own l
       (λ o h d. rows-same (q .rings) (enqueued q p e b .rings) (q .pool) (enqueued q p e b .pool) o (enqueue-other q p e b o d) (area-other o h d))
 
-  pub filled-enqueued : length (q .charges) ≡ 96 → isMessage e ≡ true → e .user < users → Filled (enqueued q p e b)
+  pub filled-enqueued : length (q .charges) ≡ chargesSize → isMessage e ≡ true → e .user < users → Filled (enqueued q p e b)
   filled-enqueued h m u = record { used = λ o g. used-go o g (same? p o); within = λ o g. within-go o g (same? p o) }
     where
       c : Charges
       c = chargesV (q .charges) p
 
-      charges : (o : ℕ) → o < 8 → chargesAt (enqueued q p e b .charges) o ≡ upd (chargesV (q .charges)) p (charged c (userIn e) (chargeIn e)) o
+      charges : (o : ℕ) → o < peers → chargesAt (enqueued q p e b .charges) o ≡ upd (chargesV (q .charges)) p (charged c (userIn e) (chargeIn e)) o
       charges o g = sym (charges-is (enqueued q p e b .charges) o g) ∙ ap (λ (f : ℕ → Charges). f o) (enqueue-charges q p e b h l)
 
-      used-before : (o : ℕ) → o < 8 → usedOf (chargesV (q .charges) o) ≡ sumOf (queueOf (q .rings) o)
+      used-before : (o : ℕ) → o < peers → usedOf (chargesV (q .charges) o) ≡ sumOf (queueOf (q .rings) o)
       used-before o g = ap usedOf (charges-is (q .charges) o g) ∙ filled .used o g
 
-      used-go : (o : ℕ) → o < 8 → Same p o → usedOf (chargesAt (enqueued q p e b .charges) o) ≡ sumOf (queueOf (enqueued q p e b .rings) o)
+      used-go : (o : ℕ) → o < peers → Same p o → usedOf (chargesAt (enqueued q p e b .charges) o) ≡ sumOf (queueOf (enqueued q p e b .rings) o)
       used-go o g (same d) =
           rw (← d)
           (ap usedOf (charges p l ∙ upd-same (chargesV (q .charges)) p (charged c (userIn e) (chargeIn e)))
@@ -338,7 +341,7 @@ module _ (q : Queues) (p : ℕ) (e : Row) (b : List ℕ) (s : Sized (q .rings .r
       used-go o g (other d) =
           ap usedOf (charges o g ∙ upd-other (chargesV (q .charges)) p o (charged c (userIn e) (chargeIn e)) d) ∙ used-before o g ∙ ap sumOf (sym (enqueue-other q p e b o d))
 
-      within-go : (o : ℕ) → o < 8 → Same p o → sumOf (queueOf (enqueued q p e b .rings) o) ≤ areaSize
+      within-go : (o : ℕ) → o < peers → Same p o → sumOf (queueOf (enqueued q p e b .rings) o) ≤ areaSize
       within-go o g (same d) = rw (← d) (omega (arith, enqueue-sum))
       within-go o g (other d) = rw (enqueue-other q p e b o d) (filled .within o g)
 
@@ -365,7 +368,7 @@ module _ (q : Queues) (p : ℕ) where
   unfolding emptied emptiedCharges
   empty-size = charges-length (q .charges) p freshCharges
 
-  pub empty-length : length (q .rings .ends) ≡ endCount → p < 8 → lengthOf (emptied q p .rings .ends) p ≡ 0
+  pub empty-length : length (q .rings .ends) ≡ endsSize → p < peers → lengthOf (emptied q p .rings .ends) p ≡ 0
   unfolding emptied
   empty-length n l = clear-length (q .rings) p n l
 
@@ -373,7 +376,7 @@ module _ (q : Queues) (p : ℕ) where
   unfolding emptied
   empty-lengths o d = clear-lengths (q .rings) p o d
 
-  pub empty-view : length (q .rings .ends) ≡ endCount → p < 8 → queueV (emptied q p .rings) (emptied q p .pool) ≡ upd (queueV (q .rings) (q .pool)) p []
+  pub empty-view : length (q .rings .ends) ≡ endsSize → p < peers → queueV (emptied q p .rings) (emptied q p .pool) ≡ upd (queueV (q .rings) (q .pool)) p []
   unfolding emptied
   empty-view n l =
       queue-upd (q .rings) (afterClear (q .rings) p) (q .pool) (q .pool) p [] l (ap (map entryV) none)
@@ -382,7 +385,7 @@ module _ (q : Queues) (p : ℕ) where
       none : rowsV (afterClear (q .rings) p) (q .pool) p ≡ []
       none = rows-none (afterClear (q .rings) p) (q .pool) p (clear-own (q .rings) p n l)
 
-  pub empty-charges : length (q .charges) ≡ 96 → p < 8 → chargesV (emptied q p .charges) ≡ upd (chargesV (q .charges)) p freshCharges
+  pub empty-charges : length (q .charges) ≡ chargesSize → p < peers → chargesV (emptied q p .charges) ≡ upd (chargesV (q .charges)) p freshCharges
   unfolding emptied emptiedCharges
   empty-charges n l = charges-stored (q .charges) p freshCharges l n refl
 

@@ -17,24 +17,25 @@ use Rattle.quota.specs.declared.Charges.{Charges}
 use Rattle.quota.specs.Charges.{users, discharged}
 use Rattle.rings.specs.declared.Entry.{Entry as Row}
 use Rattle.rings.specs.declared.Match.{Match}
-use Rattle.rings.specs.Rings.{slots, ringSize, endCount, Rings, Sized, lengthOf, queueOf, firstOf, bitAt, matches, oneSlot, removed}
+use Rattle.rings.specs.Rings.{releasedBit, noticeBits, allBits, slots, ringSize, endsSize, Rings, Sized, lengthOf, queueOf, firstOf, bitAt, matches, oneSlot, removed}
 use Rattle.rings.specs.Laws.{afterPop, pop-ends, pop-length, pop-lengths, pop-own, pop-other, remove-sized, remove-ends, remove-lengths, remove-length as rings-less, remove-own as rings-own, remove-other as rings-other}
 use Rattle.rings.specs.Matches.{matches-set, matches-one}
 use Rattle.pool.specs.Pool.{areaSize, poolSize, bytesOf, closed, bytesIn, Pair, paired, sumOf, keptPieces}
 use Rattle.pool.specs.Laws.{close-own, close-other, close-length}
 use Rattle.pool.specs.Pairs.{remove-place, remove-own as pool-own, remove-other as pool-other, remove-length as pool-length}
-use Rattle.tables.specs.Charges.{chargesAt, putCharges}
+use Rattle.tables.specs.Charges.{chargesSize, chargesAt, putCharges}
 use Rattle.tables.specs.ChargesView.{chargesV, charges-is, charges-four, charges-length, charges-stored, discharged-length}
 use Rattle.model.specs.State.{Message, Entry, messagesIn}
 use Rattle.model.specs.Changes.{chargeOf, dischargedAll, notReleased, dropped, remains}
 use Rattle.view.specs.View.{entryV, areaOf, rowsV, queueV}
 use Rattle.view.specs.Rows.{area-bytes, queue-own, queue-upd, rows-same}
-use Rattle.queues.specs.Queues.{Queues, Short, usedOf, isMessage, chargeIn, userIn, settledCharges, settledPool, takenOut, lessened, lessenedAll, withdrawn, removedFrom}
+use Rattle.queues.specs.Queues.{Queues, setQueued, Short, usedOf, isMessage, chargeIn, userIn, settledCharges, settledPool, takenOut, lessened, lessenedAll, withdrawn, removedFrom}
 use Rattle.queues.specs.Asking.{messageV, Kind, Kind.is-message, Kind.is-destroyed, Kind.is-released, kind, Whole, rows-whole, charge-view, frontV, rows-front, front-whole}
+use Rattle.ids.specs.Sizes.{peers}
 
 -- No queue has more payload bytes than its area.
 abbrev pub Within : Rings → Type 0
-Within r = (o : ℕ) → o < 8 → sumOf (queueOf r o) ≤ areaSize
+Within r = (o : ℕ) → o < peers → sumOf (queueOf r o) ≤ areaSize
 
 -- The two sides of a test of equality.
 eqb-turn : (a b : ℕ) → eqb a b ≡ eqb b a
@@ -45,11 +46,11 @@ eqb-turn a b = go (same? a b)
     go (other d) = rw (ne-eqb a b d, ne-eqb b a (λ e. d (sym e)))
 
 -- Bytes of an area that a change of the pool leaves.
-area-same : (t t′ : List ℕ) (o n : ℕ) → length t ≡ poolSize → length t′ ≡ poolSize → o < 8 → n ≤ areaSize → bytesOf t′ o n ≡ bytesOf t o n → areaOf t′ o n ≡ areaOf t o n
+area-same : (t t′ : List ℕ) (o n : ℕ) → length t ≡ poolSize → length t′ ≡ poolSize → o < peers → n ≤ areaSize → bytesOf t′ o n ≡ bytesOf t o n → areaOf t′ o n ≡ areaOf t o n
 area-same t t′ o n a b l h e = area-bytes t′ o n (omega arith) ∙ e ∙ sym (area-bytes t o n (omega arith))
 
 -- The charges of a peer stored anew.
-stored-view : (t : List ℕ) (p : ℕ) (c d : Charges) → length t ≡ 96 → p < 8 → length (c .by) ≡ users → c ≡ d → chargesV (putCharges t p c) ≡ upd (chargesV t) p d
+stored-view : (t : List ℕ) (p : ℕ) (c d : Charges) → length t ≡ chargesSize → p < peers → length (c .by) ≡ users → c ≡ d → chargesV (putCharges t p c) ≡ upd (chargesV t) p d
 stored-view t p c d size l four e = charges-stored t p c l size four ∙ ap (upd (chargesV t) p) e
 
 -- The oldest entry taken out.
@@ -59,7 +60,7 @@ module _ (q : Queues) (p : ℕ) (e : Row) where
   unfolding takenOut
   taken-message h = rw h
 
-  pub taken-notice : isMessage e ≡ false → takenOut q p e ≡ record { charges = q .charges; rings = afterPop (q .rings) p; pool = q .pool }
+  pub taken-notice : isMessage e ≡ false → takenOut q p e ≡ setQueued q (afterPop (q .rings) p)
   unfolding takenOut
   taken-notice h = rw h
 
@@ -76,13 +77,13 @@ module _ (q : Queues) (p : ℕ) (e : Row) where
   pub taken-ends : length (takenOut q p e .rings .ends) ≡ length (q .rings .ends)
   taken-ends = rw taken-rings (pop-ends (q .rings) p)
 
-  pub taken-length : length (q .rings .ends) ≡ endCount → p < 8 → lengthOf (takenOut q p e .rings .ends) p ≡ lengthOf (q .rings .ends) p - 1
+  pub taken-length : length (q .rings .ends) ≡ endsSize → p < peers → lengthOf (takenOut q p e .rings .ends) p ≡ lengthOf (q .rings .ends) p - 1
   taken-length size l = rw taken-rings (pop-length (q .rings) p size l)
 
   pub taken-lengths : (o : ℕ) → (p ≡ o → ⊥) → lengthOf (takenOut q p e .rings .ends) o ≡ lengthOf (q .rings .ends) o
   taken-lengths o ne = rw taken-rings (pop-lengths (q .rings) p o ne)
 
-  pub taken-short : length (q .rings .ends) ≡ endCount → p < 8 → Short (q .rings .ends) → Short (takenOut q p e .rings .ends)
+  pub taken-short : length (q .rings .ends) ≡ endsSize → p < peers → Short (q .rings .ends) → Short (takenOut q p e .rings .ends)
   taken-short size l h o k = go (same? p o)
     where
       go : Same p o → lengthOf (takenOut q p e .rings .ends) o ≤ ringSize
@@ -112,7 +113,7 @@ module _ (q : Queues) (p : ℕ) (e : Row) where
   pub taken-same : isMessage e ≡ false → takenOut q p e .charges ≡ q .charges
   taken-same h = ap (λ (x : Queues). x .charges) (taken-notice h)
 
-  pub taken-charges : length (q .charges) ≡ 96 → p < 8 → isMessage e ≡ true →
+  pub taken-charges : length (q .charges) ≡ chargesSize → p < peers → isMessage e ≡ true →
       chargesV (takenOut q p e .charges) ≡ upd (chargesV (q .charges)) p (discharged (chargesV (q .charges) p) (userIn e) (chargeIn e))
   unfolding settledCharges
   taken-charges size l h =
@@ -124,7 +125,7 @@ module _ (q : Queues) (p : ℕ) (e : Row) where
       (ap (λ (c : Charges). discharged c (userIn e) (chargeIn e)) (sym here))
 
 -- The same, of the message that the oldest entry is.
-pub taken-discharged : (q : Queues) (p : ℕ) (e : Row) → length (q .rings .ends) ≡ endCount → length (q .charges) ≡ 96 → p < 8 → 0 < lengthOf (q .rings .ends) p →
+pub taken-discharged : (q : Queues) (p : ℕ) (e : Row) → length (q .rings .ends) ≡ endsSize → length (q .charges) ≡ chargesSize → p < peers → 0 < lengthOf (q .rings .ends) p →
     e ≡ firstOf (q .rings) p → isMessage e ≡ true →
     chargesV (takenOut q p e .charges) ≡ upd (chargesV (q .charges)) p (dischargedAll (chargesV (q .charges) p) (messageV (frontV (q .rings) (q .pool) p) ∷ []))
 taken-discharged q p e ends size l some is h =
@@ -136,7 +137,7 @@ taken-discharged q p e ends size l some is h =
     ∙ ap₂ (λ (u : User) (a : Charge). upd (chargesV (q .charges)) p (discharged (chargesV (q .charges) p) u a)) whose (sym counts)
 
 -- What the queue of p is behind its oldest entry: the rows of a pool that holds their bytes from the area's start on, and the other areas as they were.
-popped-view : (r : Rings) (t t′ : List ℕ) (p : ℕ) → length (r .ends) ≡ endCount → length t ≡ poolSize → length t′ ≡ poolSize → p < 8 → 0 < lengthOf (r .ends) p → Within r →
+popped-view : (r : Rings) (t t′ : List ℕ) (p : ℕ) → length (r .ends) ≡ endsSize → length t ≡ poolSize → length t′ ≡ poolSize → p < peers → 0 < lengthOf (r .ends) p → Within r →
     areaOf t′ p (sumOf (queueOf (afterPop r p) p)) ≡ drop (bytesIn (firstOf r p)) (areaOf t p (sumOf (queueOf r p))) →
     ((o n : ℕ) → (p ≡ o → ⊥) → n ≤ areaSize → bytesOf t′ o n ≡ bytesOf t o n) →
     queueV (afterPop r p) t′ ≡ upd (queueV r t) p (drop 1 (queueV r t p))
@@ -152,13 +153,13 @@ popped-view r t t′ p ends a b l some fit own rest = queue-upd r (afterPop r p)
     here : map entryV (paired behind (areaOf t′ p (sumOf behind))) ≡ drop 1 (queueV r t p)
     here = ap (λ (x : List ℕ). map entryV (paired behind x)) own ∙ sym (ap (drop 1) whole)
 
-    there : (o : ℕ) → o < 8 → (p ≡ o → ⊥) → rowsV (afterPop r p) t′ o ≡ rowsV r t o
+    there : (o : ℕ) → o < peers → (p ≡ o → ⊥) → rowsV (afterPop r p) t′ o ≡ rowsV r t o
     there o k ne =
         rows-same r (afterPop r p) t t′ o (pop-other r p o ne)
         (area-same t t′ o (sumOf (queueOf r o)) a b k (fit o k) (rest o (sumOf (queueOf r o)) ne (fit o k)))
 
 -- The bytes of an area once its first n are taken out.
-closed-front : (t : List ℕ) (p n k used : ℕ) → length t ≡ poolSize → p < 8 → used ≡ n + k → used ≤ areaSize → areaOf (closed t p 0 n used) p k ≡ drop n (areaOf t p used)
+closed-front : (t : List ℕ) (p n k used : ℕ) → length t ≡ poolSize → p < peers → used ≡ n + k → used ≤ areaSize → areaOf (closed t p 0 n used) p k ≡ drop n (areaOf t p used)
 closed-front t p n k used size l e fit =
     let z : used - n ≡ k = omega arith in
     area-bytes (closed t p 0 n used) p k (omega (arith, close-length t p 0 n used))
@@ -170,7 +171,7 @@ closed-front t p n k used size l e fit =
     zero-left : (x : ℕ) → 0 + x ≡ x
     zero-left x = omega arith
 
-pub taken-view : (q : Queues) (p : ℕ) (e : Row) → length (q .rings .ends) ≡ endCount → length (q .pool) ≡ poolSize → p < 8 → 0 < lengthOf (q .rings .ends) p → Within (q .rings) →
+pub taken-view : (q : Queues) (p : ℕ) (e : Row) → length (q .rings .ends) ≡ endsSize → length (q .pool) ≡ poolSize → p < peers → 0 < lengthOf (q .rings .ends) p → Within (q .rings) →
     usedOf (chargesAt (q .charges) p) ≡ sumOf (queueOf (q .rings) p) → e ≡ firstOf (q .rings) p →
     queueV (takenOut q p e .rings) (takenOut q p e .pool) ≡ upd (queueV (q .rings) (q .pool)) p (drop 1 (queueV (q .rings) (q .pool) p))
 unfolding settledPool
@@ -248,7 +249,7 @@ module _ (r : Rings) (p : ℕ) (m : Match) (short : lengthOf (r .ends) p ≤ rin
   unfolding withdrawn
   withdraw-removed = rw (le-leb (lengthOf (r .ends) p) ringSize short)
 
-  pub withdraw-view : (t : List ℕ) (test : Entry → Bool) → Sized (r .rows) → length (r .ends) ≡ endCount → p < 8 →
+  pub withdraw-view : (t : List ℕ) (test : Entry → Bool) → Sized (r .rows) → length (r .ends) ≡ endsSize → p < peers →
       ((x : Pair) → test (entryV x) ≡ not (matches m (x .entry))) → ((e : Row) → matches m e ≡ true → bytesIn e ≡ 0) →
       queueV (withdrawn r p m) t ≡ upd (queueV r t) p (keep test (queueV r t p))
   unfolding rowsV
@@ -271,7 +272,7 @@ module _ (r : Rings) (p : ℕ) (m : Match) (short : lengthOf (r .ends) p ≤ rin
           ∙ sym (keep-map entryV test (λ x. not (matches m (x .entry))) (paired es (areaOf t p (sumOf es))) agree)
           ∙ ap (keep test) (sym (queue-own r t p l))
 
-      there : (o : ℕ) → o < 8 → (p ≡ o → ⊥) → rowsV (removed r p m) t o ≡ rowsV r t o
+      there : (o : ℕ) → o < peers → (p ≡ o → ⊥) → rowsV (removed r p m) t o ≡ rowsV r t o
       there o k ne = rows-same r (removed r p m) t t o (rings-other r p m o ne) refl
 
 module _ (r : Rings) (p : ℕ) (m : Match) where
@@ -283,7 +284,7 @@ module _ (r : Rings) (p : ℕ) (m : Match) where
   unfolding withdrawn
   withdraw-ends = pick-all (λ (x : Rings). length (x .ends) ≡ length (r .ends)) (leb (lengthOf (r .ends) p) ringSize) (removed r p m) r (remove-ends r p m) refl
 
-  pub withdraw-length : length (r .ends) ≡ endCount → p < 8 → lengthOf (withdrawn r p m .ends) p ≤ lengthOf (r .ends) p
+  pub withdraw-length : length (r .ends) ≡ endsSize → p < peers → lengthOf (withdrawn r p m .ends) p ≤ lengthOf (r .ends) p
   unfolding withdrawn
   withdraw-length ends l =
       pick-all (λ (x : Rings). lengthOf (x .ends) p ≤ lengthOf (r .ends) p) (leb (lengthOf (r .ends) p) ringSize) (removed r p m) r (rings-less r p m ends l) (omega arith)
@@ -293,7 +294,7 @@ module _ (r : Rings) (p : ℕ) (m : Match) where
   withdraw-lengths o ne =
       pick-all (λ (x : Rings). lengthOf (x .ends) o ≡ lengthOf (r .ends) o) (leb (lengthOf (r .ends) p) ringSize) (removed r p m) r (remove-lengths r p m o ne) refl
 
-  pub withdraw-short : length (r .ends) ≡ endCount → p < 8 → Short (r .ends) → Short (withdrawn r p m .ends)
+  pub withdraw-short : length (r .ends) ≡ endsSize → p < peers → Short (r .ends) → Short (withdrawn r p m .ends)
   withdraw-short ends l h o k = go (same? p o)
     where
       go : Same p o → lengthOf (withdrawn r p m .ends) o ≤ ringSize
@@ -304,15 +305,15 @@ module _ (r : Rings) (p : ℕ) (m : Match) where
 abbrev pub inMask : ℕ → ℕ → ℕ → Bool
 inMask p mask s = pick (eqb (s / slots) p) (bitAt mask (s % slots)) false
 
-pub release-match : (p mask : ℕ) (x : Pair) → notReleased (inMask p mask) (entryV x) ≡ not (matches (record { kinds = 4; first = p * slots; mask = mask }) (x .entry))
+pub release-match : (p mask : ℕ) (x : Pair) → notReleased (inMask p mask) (entryV x) ≡ not (matches (record { kinds = releasedBit; first = p * slots; mask = mask }) (x .entry))
 release-match p mask x = go (kind x)
   where
-    go : Kind x → notReleased (inMask p mask) (entryV x) ≡ not (matches (record { kinds = 4; first = p * slots; mask = mask }) (x .entry))
+    go : Kind x → notReleased (inMask p mask) (entryV x) ≡ not (matches (record { kinds = releasedBit; first = p * slots; mask = mask }) (x .entry))
     go (is-message h b k f) = rw (f, matches-set 4 p mask (x .entry), k)
     go (is-destroyed h b k f) = rw (f, matches-set 4 p mask (x .entry), k)
     go (is-released h b k f) = rw (f, matches-set 4 p mask (x .entry), k)
 
-pub release-bytes : (p mask : ℕ) (e : Row) → matches (record { kinds = 4; first = p * slots; mask = mask }) e ≡ true → bytesIn e ≡ 0
+pub release-bytes : (p mask : ℕ) (e : Row) → matches (record { kinds = releasedBit; first = p * slots; mask = mask }) e ≡ true → bytesIn e ≡ 0
 release-bytes p mask e h = go (kind (record { entry = e; payload = [] }))
   where
     go : Kind (record { entry = e; payload = [] }) → bytesIn e ≡ 0
@@ -320,15 +321,15 @@ release-bytes p mask e h = go (kind (record { entry = e; payload = [] }))
     go (is-destroyed g b k f) = b
     go (is-released g b k f) = b
 
-pub one-match : (s : ℕ) (x : Pair) → notReleased (eqb s) (entryV x) ≡ not (matches (oneSlot 4 s) (x .entry))
+pub one-match : (s : ℕ) (x : Pair) → notReleased (eqb s) (entryV x) ≡ not (matches (oneSlot releasedBit s) (x .entry))
 one-match s x = go (kind x)
   where
-    go : Kind x → notReleased (eqb s) (entryV x) ≡ not (matches (oneSlot 4 s) (x .entry))
+    go : Kind x → notReleased (eqb s) (entryV x) ≡ not (matches (oneSlot releasedBit s) (x .entry))
     go (is-message h b k f) = rw (f, matches-one 4 s (x .entry), k)
     go (is-destroyed h b k f) = rw (f, matches-one 4 s (x .entry), k)
     go (is-released h b k f) = rw (f, matches-one 4 s (x .entry), k) (ap not (eqb-turn s (x .entry .slot)))
 
-pub one-bytes : (s : ℕ) (e : Row) → matches (oneSlot 4 s) e ≡ true → bytesIn e ≡ 0
+pub one-bytes : (s : ℕ) (e : Row) → matches (oneSlot releasedBit s) e ≡ true → bytesIn e ≡ 0
 one-bytes s e h = go (kind (record { entry = e; payload = [] }))
   where
     go : Kind (record { entry = e; payload = [] }) → bytesIn e ≡ 0
@@ -406,20 +407,20 @@ module _ (q : Queues) (p : ℕ) (m : Match) where
   pub remove-ended : length (removedFrom q p m .rings .ends) ≡ length (q .rings .ends)
   remove-ended = removal-keeps (λ x. length (x .rings .ends) ≡ length (q .rings .ends)) (remove-ends (q .rings) p m) refl
 
-  pub remove-less : length (q .rings .ends) ≡ endCount → p < 8 → lengthOf (removedFrom q p m .rings .ends) p ≤ lengthOf (q .rings .ends) p
+  pub remove-less : length (q .rings .ends) ≡ endsSize → p < peers → lengthOf (removedFrom q p m .rings .ends) p ≤ lengthOf (q .rings .ends) p
   remove-less ends l = removal-keeps (λ x. lengthOf (x .rings .ends) p ≤ lengthOf (q .rings .ends) p) (rings-less (q .rings) p m ends l) (omega arith)
 
   pub remove-others : (o : ℕ) → (p ≡ o → ⊥) → lengthOf (removedFrom q p m .rings .ends) o ≡ lengthOf (q .rings .ends) o
   remove-others o ne = removal-keeps (λ x. lengthOf (x .rings .ends) o ≡ lengthOf (q .rings .ends) o) (remove-lengths (q .rings) p m o ne) refl
 
-  pub remove-short : length (q .rings .ends) ≡ endCount → p < 8 → Short (q .rings .ends) → Short (removedFrom q p m .rings .ends)
+  pub remove-short : length (q .rings .ends) ≡ endsSize → p < peers → Short (q .rings .ends) → Short (removedFrom q p m .rings .ends)
   remove-short ends l h o k = go (same? p o)
     where
       go : Same p o → lengthOf (removedFrom q p m .rings .ends) o ≤ ringSize
       go (same z) = rw (← z) (omega (arith, remove-less ends l, h p l))
       go (other z) = omega (arith, remove-others o z, h o k)
 
-  pub remove-pool : length (q .pool) ≡ poolSize → p < 8 → sumOf (queueOf (q .rings) p) ≤ areaSize → length (removedFrom q p m .pool) ≡ length (q .pool)
+  pub remove-pool : length (q .pool) ≡ poolSize → p < peers → sumOf (queueOf (q .rings) p) ≤ areaSize → length (removedFrom q p m .pool) ≡ length (q .pool)
   remove-pool size l fit =
       removal-keeps (λ x. length (x .pool) ≡ length (q .pool)) (pool-length (q .pool) p m (queueOf (q .rings) p) size l fit) refl
 
@@ -428,7 +429,7 @@ module _ (q : Queues) (p : ℕ) (m : Match) where
       removal-keeps (λ x. length (x .charges) ≡ length (q .charges))
       (charges-length (q .charges) p (lessenedAll (chargesAt (q .charges) p) m (queueOf (q .rings) p))) refl
 
-  pub remove-view : (test : Entry → Bool) → Sized (q .rings .rows) → length (q .rings .ends) ≡ endCount → length (q .pool) ≡ poolSize → p < 8 →
+  pub remove-view : (test : Entry → Bool) → Sized (q .rings .rows) → length (q .rings .ends) ≡ endsSize → length (q .pool) ≡ poolSize → p < peers →
       lengthOf (q .rings .ends) p ≤ ringSize → Within (q .rings) → ((x : Pair) → test (entryV x) ≡ not (matches m (x .entry))) →
       queueV (removedFrom q p m .rings) (removedFrom q p m .pool) ≡ upd (queueV (q .rings) (q .pool)) p (keep test (queueV (q .rings) (q .pool) p))
   unfolding rowsV
@@ -473,12 +474,12 @@ module _ (q : Queues) (p : ℕ) (m : Match) where
           ∙ sym (keep-map entryV test (λ x. not (matches m (x .entry))) (paired es (areaOf t p (sumOf es))) agree)
           ∙ ap (keep test) (sym (queue-own r t p l))
 
-      there : (o : ℕ) → o < 8 → (p ≡ o → ⊥) → rowsV r′ t′ o ≡ rowsV r t o
+      there : (o : ℕ) → o < peers → (p ≡ o → ⊥) → rowsV r′ t′ o ≡ rowsV r t o
       there o k ne =
           rows-same r r′ t t′ o (rings-other r p m o ne)
           (area-same t t′ o (sumOf (queueOf r o)) size size′ k (fit o k) (pool-other t p m es size l (fit p l) o (sumOf (queueOf r o)) ne (fit o k)))
 
-  pub remove-charges : (gone : Message → Bool) → length (q .charges) ≡ 96 → p < 8 → lengthOf (q .rings .ends) p ≤ ringSize →
+  pub remove-charges : (gone : Message → Bool) → length (q .charges) ≡ chargesSize → p < peers → lengthOf (q .rings .ends) p ≤ ringSize →
       ((x : Pair) → isMessage (x .entry) ≡ true → matches m (x .entry) ≡ gone (messageV x)) →
       chargesV (removedFrom q p m .charges)
       ≡ upd (chargesV (q .charges)) p (dischargedAll (chargesV (q .charges) p) (keep gone (messagesIn (queueV (q .rings) (q .pool) p))))
@@ -505,34 +506,34 @@ module _ (q : Queues) (p : ℕ) (m : Match) where
           ∙ ap₂ (λ (c : Charges) (ds : List Entry). dischargedAll c (keep gone (messagesIn ds))) (sym here) (sym (queue-own (q .rings) (q .pool) p l))
 
 -- What goes with the handle of p to the slot s: all notices about it, and where p owns it, the messages for it.
-pub remains-own : (p s : ℕ) → s / slots ≡ p → (x : Pair) → remains p s (entryV x) ≡ not (matches (oneSlot 7 s) (x .entry))
+pub remains-own : (p s : ℕ) → s / slots ≡ p → (x : Pair) → remains p s (entryV x) ≡ not (matches (oneSlot allBits s) (x .entry))
 remains-own p s own x = go (kind x)
   where
-    go : Kind x → remains p s (entryV x) ≡ not (matches (oneSlot 7 s) (x .entry))
+    go : Kind x → remains p s (entryV x) ≡ not (matches (oneSlot allBits s) (x .entry))
     go (is-message h b k f) = rw (f, matches-one 7 s (x .entry), k, eq-eqb (s / slots) p own)
     go (is-destroyed h b k f) = rw (f, matches-one 7 s (x .entry), k)
     go (is-released h b k f) = rw (f, matches-one 7 s (x .entry), k)
 
-pub dropped-own : (p s : ℕ) → s / slots ≡ p → (x : Pair) → isMessage (x .entry) ≡ true → matches (oneSlot 7 s) (x .entry) ≡ dropped p s (messageV x)
+pub dropped-own : (p s : ℕ) → s / slots ≡ p → (x : Pair) → isMessage (x .entry) ≡ true → matches (oneSlot allBits s) (x .entry) ≡ dropped p s (messageV x)
 dropped-own p s own x h = go (kind x)
   where
-    go : Kind x → matches (oneSlot 7 s) (x .entry) ≡ dropped p s (messageV x)
+    go : Kind x → matches (oneSlot allBits s) (x .entry) ≡ dropped p s (messageV x)
     go (is-message g b k f) = rw (matches-one 7 s (x .entry), k, eq-eqb (s / slots) p own)
     go (is-destroyed g b k f) = clash (sym h ∙ g)
     go (is-released g b k f) = clash (sym h ∙ g)
 
-pub remains-other : (p s : ℕ) → (s / slots ≡ p → ⊥) → (x : Pair) → remains p s (entryV x) ≡ not (matches (oneSlot 6 s) (x .entry))
+pub remains-other : (p s : ℕ) → (s / slots ≡ p → ⊥) → (x : Pair) → remains p s (entryV x) ≡ not (matches (oneSlot noticeBits s) (x .entry))
 remains-other p s ne x = go (kind x)
   where
-    go : Kind x → remains p s (entryV x) ≡ not (matches (oneSlot 6 s) (x .entry))
+    go : Kind x → remains p s (entryV x) ≡ not (matches (oneSlot noticeBits s) (x .entry))
     go (is-message h b k f) = rw (f, matches-one 6 s (x .entry), k, ne-eqb (s / slots) p ne)
     go (is-destroyed h b k f) = rw (f, matches-one 6 s (x .entry), k)
     go (is-released h b k f) = rw (f, matches-one 6 s (x .entry), k)
 
-pub dropped-other : (p s : ℕ) → (s / slots ≡ p → ⊥) → (x : Pair) → isMessage (x .entry) ≡ true → matches (oneSlot 6 s) (x .entry) ≡ dropped p s (messageV x)
+pub dropped-other : (p s : ℕ) → (s / slots ≡ p → ⊥) → (x : Pair) → isMessage (x .entry) ≡ true → matches (oneSlot noticeBits s) (x .entry) ≡ dropped p s (messageV x)
 dropped-other p s ne x h = go (kind x)
   where
-    go : Kind x → matches (oneSlot 6 s) (x .entry) ≡ dropped p s (messageV x)
+    go : Kind x → matches (oneSlot noticeBits s) (x .entry) ≡ dropped p s (messageV x)
     go (is-message g b k f) = rw (matches-one 6 s (x .entry), k, ne-eqb (s / slots) p ne)
     go (is-destroyed g b k f) = clash (sym h ∙ g)
     go (is-released g b k f) = clash (sym h ∙ g)

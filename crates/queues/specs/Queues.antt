@@ -7,16 +7,19 @@ use mathlib.Core.List.{List, [], _∷_}
 use lib.ListN.{length, getD, take, drop}
 use lib.Dec.{eqb, ltb, leb}
 use Rattle.laws.specs.Tests.{pick}
+use Rattle.laws.specs.Sums.{sumTo}
 use Rattle.ids.specs.declared.User.{User}
 use Rattle.quota.specs.declared.Charge.{Charge}
 use Rattle.quota.specs.declared.Charges.{Charges}
-use Rattle.quota.specs.Charges.{nothing, freshCharges, charged, discharged}
+use Rattle.quota.specs.Charges.{users, nothing, freshCharges, charged, discharged}
 use Rattle.rings.specs.declared.Entry.{Entry}
 use Rattle.rings.specs.declared.Match.{Match}
-use Rattle.rings.specs.Rings.{peers, ringSize, Rings, ringsOf, lengthOf, queueOf, matches, pushed, popped, removed}
+use Rattle.ids.specs.Sizes.{mostIds}
+use Rattle.rings.specs.Rings.{peers, ringSize, endsSize, kindDestroyed, kindReleased, Rings, ringsOf, setEnds, Sized, lengthOf, queueOf, matches, pushed, popped, removed}
 use Rattle.rings.specs.Rings.{cleared as clearedEnds}
-use Rattle.pool.specs.Pool.{areaSize, appended, closed, keptPieces}
-use Rattle.tables.specs.Charges.{chargesAt, putCharges}
+use Rattle.pool.specs.Pool.{areaSize, poolSize, appended, closed, keptPieces}
+use Rattle.tables.specs.Charges.{chargesSize, chargesAt, putCharges}
+use Rattle.view.specs.View.{Bus, setCharges, setRings, setPool, Shape, shape-charges, shape-rings, shape-pool}
 use Rattle.model.specs.Lists.{either, any, anyBelow}
 
 -- The queues with what belongs to their messages: the users' charges and the payloads.
@@ -28,25 +31,48 @@ pub record Queues : Type 0 where
 abbrev pub queuesOf : List ℕ → List ℕ → List ℕ → List ℕ → List ℕ → List ℕ → Queues
 queuesOf charges ends entries carried numbers pool = record { charges = charges; rings = ringsOf ends entries carried numbers; pool = pool }
 
+-- The queues of a bus with what belongs to their messages; and a bus whose queues have changed.
+abbrev pub queuesIn : Bus → Queues
+queuesIn b = record { charges = b .charges; rings = b .rings; pool = b .pool }
+
+abbrev pub setQueues : Bus → Queues → Bus
+setQueues b q = setPool (setRings (setCharges b (q .charges)) (q .rings)) (q .pool)
+
+-- The buffers keep their lengths.
+pub shape-queues : {b : Bus} {q : Queues} → Shape b → length (q .charges) ≡ chargesSize → length (q .rings .ends) ≡ endsSize → Sized (q .rings .rows) → length (q .pool) ≡ poolSize →
+    Shape (setQueues b q)
+shape-queues s c e r t = shape-pool (shape-rings (shape-charges s c) e r) t
+
+-- The queues with other rings, with other charges.
+abbrev pub setQueued : Queues → Rings → Queues
+setQueued q r = record { charges = q .charges; rings = r; pool = q .pool }
+
+abbrev pub setCharged : Queues → List ℕ → Queues
+setCharged q t = record { charges = t; rings = q .rings; pool = q .pool }
+
 -- No queue is longer than its ring.
 abbrev pub Short : List ℕ → Type 0
 Short ends = (q : ℕ) → q < peers → lengthOf ends q ≤ ringSize
 
+-- The sum over the users of what each has queued at a peer, of one resource.
+abbrev pub sumUsers : (Charge → ℕ) → Charges → ℕ
+sumUsers f c = sumTo (λ u. f (getD (c .by) u nothing)) users
+
 -- The payload bytes that a peer's area uses: the sum of what its users have queued there, at most the area.
 unfoldable pub usedOf : Charges → ℕ
 usedOf c =
-    min (getD (c .by) 0 nothing .bytes + getD (c .by) 1 nothing .bytes + getD (c .by) 2 nothing .bytes + getD (c .by) 3 nothing .bytes) areaSize
+    min (sumUsers (λ x. x .bytes) c) areaSize
 
 -- A kind that is no notice's is a message's.
 abbrev pub messageKind : ℕ → Bool
-messageKind k = pick (eqb k 1) false (not (eqb k 2))
+messageKind k = pick (eqb k kindDestroyed) false (not (eqb k kindReleased))
 
 unfoldable pub isMessage : Entry → Bool
 isMessage e = messageKind (e .kind)
 
 -- What a message counts, of the eight slots of its row at most eight handles, and whom it is counted under.
 abbrev pub chargeIn : Entry → Charge
-chargeIn e = record { messages = 1; bytes = e .nb; handles = min (e .nh) 8 }
+chargeIn e = record { messages = 1; bytes = e .nb; handles = min (e .nh) mostIds }
 
 abbrev pub userIn : Entry → User
 userIn e = record { 0 = e .user }
@@ -74,10 +100,10 @@ settledPool t pool p e = closed pool p 0 (min (e .nb) (usedOf (chargesAt t p))) 
 -- The oldest entry taken out of a queue: a message with its payload and its charge, a notice alone.
 unfoldable pub takenOut : Queues → ℕ → Entry → Queues
 takenOut q p e =
-    let after : Rings = record { ends = popped (q .rings .ends) p; rows = q .rings .rows } in
+    let after = setEnds (q .rings) (popped (q .rings .ends) p) in
     pick (isMessage e)
     (record { charges = settledCharges (q .charges) p e; rings = after; pool = settledPool (q .charges) (q .pool) p e })
-    (record { charges = q .charges; rings = after; pool = q .pool })
+    (setQueued q after)
 
 -- The charges after a message that a removal takes out; after all those of some entries.
 unfoldable pub lessened : Charges → Match → Entry → Charges
@@ -111,11 +137,7 @@ emptiedCharges t p = putCharges t p freshCharges
 
 unfoldable pub emptied : Queues → ℕ → Queues
 emptied q p =
-    record {
-      charges = emptiedCharges (q .charges) p;
-      rings = record { ends = clearedEnds (q .rings .ends) p; rows = q .rings .rows };
-      pool = q .pool;
-    }
+    setCharged (setQueued q (setEnds (q .rings) (clearedEnds (q .rings .ends) p))) (emptiedCharges (q .charges) p)
 
 -- Of the entries from the front that the command n queued, is one a message?
 unfoldable pub leads : ℕ → List Entry → Bool
@@ -132,7 +154,7 @@ namesIn s e = pick (isMessage e) (either (eqb s (e .slot)) (any (eqb s) (take (e
 
 -- The attached handles that are queued at a peer: the sum of what its users have there.
 unfoldable pub attachedOf : Charges → ℕ
-attachedOf c = getD (c .by) 0 nothing .handles + getD (c .by) 1 nothing .handles + getD (c .by) 2 nothing .handles + getD (c .by) 3 nothing .handles
+attachedOf c = sumUsers (λ x. x .handles) c
 
 -- A message in a queue with attached handles names a slot.
 unfoldable pub carriesIn : List ℕ → Rings → ℕ → ℕ → Bool

@@ -15,7 +15,7 @@ use Rattle.quota.specs.declared.Charges.{Charges}
 use Rattle.quota.specs.Charges.{nothing}
 use Rattle.rings.specs.declared.Entry.{Entry as Row}
 use Rattle.rings.specs.declared.Match.{Match}
-use Rattle.rings.specs.Rings.{Rings, rowsOf, ringsOf, entryAt, rowOf, headOf, lengthOf, queueOf, firstOf, bitAt, kindBit, slotIn, matches}
+use Rattle.rings.specs.Rings.{kindMessage, messageBit, Rings, rowsOf, ringsOf, entryAt, rowOf, headOf, lengthOf, queueOf, firstOf, bitAt, kindBit, slotIn, matches}
 use Rattle.rings.specs.Laws.{sets-own, queue-length, queue-at}
 use Rattle.rings.specs.Search.{found-before}
 use Rattle.pool.specs.Pool.{areaSize, pieceOf, bytesIn, Kept, kept, keptPiece, keptPieces}
@@ -25,10 +25,10 @@ use Rattle.queues.specs.Entering.{notice-bytes}
 use Rattle.queues.specs.Asking.{Kind, Kind.is-message, Kind.is-destroyed, Kind.is-released, kind}
 
 -- A message has the bit 0 among the kinds.
-message-kind : (e : Row) → isMessage e ≡ true → kindBit (e .kind) ≡ 0
+message-kind : (e : Row) → isMessage e ≡ true → kindBit (e .kind) ≡ kindMessage
 message-kind e h = go (kind (record { entry = e; payload = [] }))
   where
-    go : Kind (record { entry = e; payload = [] }) → kindBit (e .kind) ≡ 0
+    go : Kind (record { entry = e; payload = [] }) → kindBit (e .kind) ≡ kindMessage
     go (is-message a b k f) = k
     go (is-destroyed a b k f) = clash (sym h ∙ a)
     go (is-released a b k f) = clash (sym h ∙ a)
@@ -42,7 +42,7 @@ spared-kind : (m : Match) (e : Row) → m .kinds % 2 ≡ 0 → Spared m e
 unfolding matches
 spared-kind m e z h = let even : m .kinds / 2 ^ 0 % 2 ≡ 0 = omega arith in rw (message-kind e h, even)
 
-spared-slot : (m : Match) (e : Row) → matches (record { kinds = 1; first = m .first; mask = m .mask }) e ≡ false → Spared m e
+spared-slot : (m : Match) (e : Row) → matches (record { kinds = messageBit; first = m .first; mask = m .mask }) e ≡ false → Spared m e
 unfolding matches
 spared-slot m e f h =
     let no : slotIn (m .first) (m .mask) (e .slot) ≡ false = rw (message-kind e h) at f in
@@ -120,7 +120,7 @@ module _ (g : Rings) (t pool : List ℕ) (p : ℕ) (m : Match) where
 
 module _ (d e c n : List ℕ) (t pool : List ℕ) (p : ℕ) (m : Match) where
   pub messages-none : {h k f : ℕ} → h ≡ headOf d p → k ≡ lengthOf d p →
-      ((c n : List ℕ) → f ≡ first (λ i. matches (record { kinds = 1; first = m .first; mask = m .mask }) (entryAt (rowsOf e c n) (rowOf p h i))) k) → f ≡ k →
+      ((c n : List ℕ) → f ≡ first (λ i. matches (record { kinds = messageBit; first = m .first; mask = m .mask }) (entryAt (rowsOf e c n) (rowOf p h i))) k) → f ≡ k →
       (t ≡ lessenedCharges t p m (queueOf (ringsOf d e c n) p)) × (pool ≡ keptPieces pool p 0 0 m (queueOf (ringsOf d e c n) p) .table)
   messages-none {h} {k} eh ek ef all =
       both-stay (ringsOf d e c n) t pool p m
@@ -128,4 +128,4 @@ module _ (d e c n : List ℕ) (t pool : List ℕ) (p : ℕ) (m : Match) where
       (λ i l.
       rw (← eh)
       (spared-slot m (entryAt (rowsOf e c n) (rowOf p h i))
-      (found-before e c n p h k (record { kinds = 1; first = m .first; mask = m .mask }) ef i (omega arith)))))
+      (found-before e c n p h k (record { kinds = messageBit; first = m .first; mask = m .mask }) ef i (omega arith)))))

@@ -7,12 +7,17 @@ ghost use mathlib.Core.List.{List};
 ghost use Prim.Native.Nat.{ℕ, _*_, _<_, _≤_};
 ghost use lib.ListN.{length, take};
 ghost use Rattle.laws.specs.Rows.{rowIn};
-ghost use Rattle.rings.specs.Rings.{peers, ringSize, rowCount, rowsOf, ringsOf, endCount, Sized, entryAt, lengthOf, queueOf, cleared};
+ghost use Rattle.rings.specs.Rings.{peers, ringSize, rowCount, carriedFields, endsSize, entriesSize, carriedSize, rowsOf, ringsOf, QueueTables, entryAt, lengthOf, queueOf, cleared};
 ghost use Rattle.pool.specs.Pool.{areaSize, keptPieces};
+ghost use Rattle.tables.specs.Charges.{chargesSize};
 ghost use Rattle.model.specs.Lists.{any};
 ghost use lib.Dec.{eqb};
 ghost use Rattle.queues.specs.Queues.{queuesOf, Short, usedOf, messageKind, isMessage, chargeIn, entered, enqueued, settledCharges, settledPool, lessened, lessenedAll, lessenedCharges, withdrawn, removedFrom, emptiedCharges, followsIn, namesIn, attachedOf, carriesIn, namedIn};
 use ids::AREA;
+use ids::CARRIED_FIELDS;
+use ids::ENTRY_FIELDS;
+use ids::MOST_IDS;
+use ids::PEERS;
 use ids::Peer;
 use ids::RING;
 use ids::User;
@@ -20,9 +25,6 @@ use quota::Charge;
 use quota::Charges;
 use rings::Entry;
 use rings::Match;
-
-// The bit of a message among the kinds of a removal.
-const MESSAGE_BIT: u8 = 1;
 
 // The payload bytes that a peer's area uses: what the users have queued there.
 pub fn used(c: Charges) -> usize
@@ -40,10 +42,10 @@ pub fn used(c: Charges) -> usize
 fn is_message_kind(kind: u16) -> bool
     ensures { λ r. ⌜ r ≡ messageKind kind ⌝ }
 {
-    if kind == 1 {
+    if kind == rings::DESTROYED {
         return false;
     }
-    kind != 2
+    kind != rings::RELEASED
 }
 
 // Is the entry a message, and no notice?
@@ -60,7 +62,7 @@ fn charge_of(e: Entry) -> Charge
     Charge {
         messages: 1,
         bytes: e.nb,
-        handles: copies::least(rings::wide(e.nh), 8) as u16,
+        handles: copies::least(rings::wide(e.nh), MOST_IDS) as u16,
     }
 }
 
@@ -73,7 +75,7 @@ pub fn enter(
     p: Peer,
     e: Entry,
 )
-    requires { ⌜ (length (now ends) ≡ endCount) × Sized (rowsOf (now entries) (now carried) (now numbers)) × (p .0 < peers) ⌝ }
+    requires { ⌜ QueueTables (now ends) (now entries) (now carried) (now numbers) × (p .0 < peers) ⌝ }
     ensures { λ _. ⌜ ringsOf (now (ends .exit)) (now (entries .exit)) (now (carried .exit)) (now (numbers .exit)) ≡ entered (ringsOf (now (ends .entry)) (now (entries .entry)) (now (carried .entry)) (now (numbers .entry))) (p .0) e ⌝ }
 {
     if rings::len_of(ends, p) < RING {
@@ -93,7 +95,7 @@ pub fn enqueue(
     e: Entry,
     payload: &[u8],
 )
-    requires { ⌜ (length (now charges) ≡ 96) × (length (now ends) ≡ endCount) × Sized (rowsOf (now entries) (now carried) (now numbers)) × (p .0 < peers) ⌝ }
+    requires { ⌜ (length (now charges) ≡ chargesSize) × QueueTables (now ends) (now entries) (now carried) (now numbers) × (p .0 < peers) ⌝ }
     ensures { λ _. ⌜ queuesOf (now (charges .exit)) (now (ends .exit)) (now (entries .exit)) (now (carried .exit)) (now (numbers .exit)) (now (pool .exit)) ≡ enqueued (queuesOf (now (charges .entry)) (now (ends .entry)) (now (entries .entry)) (now (carried .entry)) (now (numbers .entry)) (now (pool .entry))) (p .0) e (now (payload .entry)) ⌝ }
 {
     let c = tables::load(charges, p);
@@ -108,7 +110,7 @@ pub fn enqueue(
 
 // The oldest message's payload taken out of the pool, and its charge taken off.
 pub fn settle(charges: &mut [u16], pool: &mut [u8], p: Peer, e: Entry)
-    requires { ⌜ (length (now charges) ≡ 96) × (p .0 < peers) ⌝ }
+    requires { ⌜ (length (now charges) ≡ chargesSize) × (p .0 < peers) ⌝ }
     ensures { λ _. ⌜ (now (charges .exit) ≡ settledCharges (now (charges .entry)) (p .0) e) × (now (pool .exit) ≡ settledPool (now (charges .entry)) (now (pool .entry)) (p .0) e) ⌝ }
 {
     let c = tables::load(charges, p);
@@ -145,7 +147,7 @@ fn lessen_all(
     p: Peer,
     m: Match,
 ) -> Charges
-    requires { ⌜ (length (now ends) ≡ endCount) × Sized (rowsOf (now entries) (now carried) (now numbers)) × (p .0 < peers) × (lengthOf (now ends) (p .0) ≤ ringSize) ⌝ }
+    requires { ⌜ QueueTables (now ends) (now entries) (now carried) (now numbers) × (p .0 < peers) × (lengthOf (now ends) (p .0) ≤ ringSize) ⌝ }
     ensures { λ r. ⌜ r ≡ lessenedAll c m (queueOf (ringsOf (now (ends .entry)) (now (entries .entry)) (now (carried .entry)) (now (numbers .entry))) (p .0)) ⌝ }
 {
     let head = rings::head_of(ends, p);
@@ -170,7 +172,7 @@ pub fn withdraw(
     p: Peer,
     m: Match,
 )
-    requires { ⌜ (length (now ends) ≡ endCount) × Sized (rowsOf (now entries) (now carried) (now numbers)) × (p .0 < peers) ⌝ }
+    requires { ⌜ QueueTables (now ends) (now entries) (now carried) (now numbers) × (p .0 < peers) ⌝ }
     ensures { λ _. ⌜ ringsOf (now (ends .exit)) (now (entries .exit)) (now (carried .exit)) (now (numbers .exit)) ≡ withdrawn (ringsOf (now (ends .entry)) (now (entries .entry)) (now (carried .entry)) (now (numbers .entry))) (p .0) m ⌝ }
 {
     if rings::len_of(ends, p) <= RING {
@@ -190,7 +192,7 @@ fn remove_messages(
     p: Peer,
     m: Match,
 )
-    requires { ⌜ (length (now charges) ≡ 96) × (length (now ends) ≡ endCount) × Sized (rowsOf (now entries) (now carried) (now numbers)) × (p .0 < peers) × (lengthOf (now ends) (p .0) ≤ ringSize) ⌝ }
+    requires { ⌜ (length (now charges) ≡ chargesSize) × QueueTables (now ends) (now entries) (now carried) (now numbers) × (p .0 < peers) × (lengthOf (now ends) (p .0) ≤ ringSize) ⌝ }
     ensures { λ _. ⌜ (now (charges .exit) ≡ lessenedCharges (now (charges .entry)) (p .0) m (queueOf (ringsOf (now (ends .entry)) (now (entries .entry)) (now (carried .entry)) (now (numbers .entry))) (p .0))) × (now (pool .exit) ≡ keptPieces (now (pool .entry)) (p .0) 0 0 m (queueOf (ringsOf (now (ends .entry)) (now (entries .entry)) (now (carried .entry)) (now (numbers .entry))) (p .0)) .table) ⌝ }
 {
     if m.kinds % 2 == 0 {
@@ -199,7 +201,7 @@ fn remove_messages(
     let head = rings::head_of(ends, p);
     let len = rings::len_of(ends, p);
     let messages = Match {
-        kinds: MESSAGE_BIT,
+        kinds: rings::MESSAGE_BIT,
         first: m.first,
         mask: m.mask,
     };
@@ -223,7 +225,7 @@ pub fn remove(
     p: Peer,
     m: Match,
 )
-    requires { ⌜ (length (now charges) ≡ 96) × (length (now ends) ≡ endCount) × Sized (rowsOf (now entries) (now carried) (now numbers)) × (p .0 < peers) ⌝ }
+    requires { ⌜ (length (now charges) ≡ chargesSize) × QueueTables (now ends) (now entries) (now carried) (now numbers) × (p .0 < peers) ⌝ }
     ensures { λ _. ⌜ queuesOf (now (charges .exit)) (now (ends .exit)) (now (entries .exit)) (now (carried .exit)) (now (numbers .exit)) (now (pool .exit)) ≡ removedFrom (queuesOf (now (charges .entry)) (now (ends .entry)) (now (entries .entry)) (now (carried .entry)) (now (numbers .entry)) (now (pool .entry))) (p .0) m ⌝ }
 {
     if RING < rings::len_of(ends, p) {
@@ -235,7 +237,7 @@ pub fn remove(
 
 // All entries of a queue dropped, with their charges.
 pub fn empty(charges: &mut [u16], ends: &mut [u16], p: Peer)
-    requires { ⌜ (length (now charges) ≡ 96) × (length (now ends) ≡ endCount) × (p .0 < peers) ⌝ }
+    requires { ⌜ (length (now charges) ≡ chargesSize) × (length (now ends) ≡ endsSize) × (p .0 < peers) ⌝ }
     ensures { λ _. ⌜ (now (charges .exit) ≡ emptiedCharges (now (charges .entry)) (p .0)) × (now (ends .exit) ≡ cleared (now (ends .entry)) (p .0)) ⌝ }
 {
     tables::store(charges, p, Charges::fresh());
@@ -252,7 +254,7 @@ pub fn follows(
     p: Peer,
     n: u64,
 ) -> bool
-    requires { ⌜ (length (now ends) ≡ endCount) × Sized (rowsOf (now entries) (now carried) (now numbers)) × (p .0 < peers) × (lengthOf (now ends) (p .0) ≤ ringSize) ⌝ }
+    requires { ⌜ QueueTables (now ends) (now entries) (now carried) (now numbers) × (p .0 < peers) × (lengthOf (now ends) (p .0) ≤ ringSize) ⌝ }
     ensures { λ r. ⌜ r ≡ followsIn (ringsOf (now (ends .entry)) (now (entries .entry)) (now (carried .entry)) (now (numbers .entry))) (p .0) n ⌝ }
 {
     let head = rings::head_of(ends, p);
@@ -274,10 +276,10 @@ pub fn follows(
 
 // Is the slot among the first n that the row carries?
 fn is_among(carried: &[u8], row: usize, n: usize, s: usize) -> bool
-    requires { ⌜ (length (now carried) ≡ rowCount * 8) × (row < rowCount) × (n ≤ 8) ⌝ }
-    ensures { λ r. ⌜ r ≡ any (eqb s) (take n (rowIn 8 (now (carried .entry)) row)) ⌝ }
+    requires { ⌜ (length (now carried) ≡ carriedSize) × (row < rowCount) × (n ≤ carriedFields) ⌝ }
+    ensures { λ r. ⌜ r ≡ any (eqb s) (take n (rowIn carriedFields (now (carried .entry)) row)) ⌝ }
 {
-    let a = 8 * row;
+    let a = CARRIED_FIELDS * row;
     let mut k = 0;
     while k < n {
         if rings::byte_wide(carried[a + k]) == s {
@@ -290,17 +292,17 @@ fn is_among(carried: &[u8], row: usize, n: usize, s: usize) -> bool
 
 // Is the entry in the row a message that names the slot, as destination or attached? Whatever its number is.
 fn names(entries: &[u16], carried: &[u8], row: usize, s: usize) -> bool
-    requires { ⌜ (length (now entries) ≡ rowCount * 5) × (length (now carried) ≡ rowCount * 8) × (row < rowCount) ⌝ }
+    requires { ⌜ (length (now entries) ≡ entriesSize) × (length (now carried) ≡ carriedSize) × (row < rowCount) ⌝ }
     ensures { λ r. ⌜ ((n : List ℕ) → r ≡ namesIn s (entryAt (rowsOf (now (entries .entry)) (now (carried .entry)) n) row)) ⌝ }
 {
-    let a = 5 * row;
+    let a = ENTRY_FIELDS * row;
     if !is_message_kind(entries[a]) {
         return false;
     }
     if rings::wide(entries[a + 1]) == s {
         return true;
     }
-    let n = copies::least(rings::wide(entries[a + 4]), 8);
+    let n = copies::least(rings::wide(entries[a + 4]), MOST_IDS);
     is_among(carried, row, n, s)
 }
 
@@ -313,7 +315,7 @@ fn named_at(
     p: Peer,
     s: usize,
 ) -> bool
-    requires { ⌜ (length (now ends) ≡ endCount) × Sized (rowsOf (now entries) (now carried) (now numbers)) × (p .0 < peers) × (lengthOf (now ends) (p .0) ≤ ringSize) ⌝ }
+    requires { ⌜ QueueTables (now ends) (now entries) (now carried) (now numbers) × (p .0 < peers) × (lengthOf (now ends) (p .0) ≤ ringSize) ⌝ }
     ensures { λ r. ⌜ r ≡ any (namesIn s) (queueOf (ringsOf (now (ends .entry)) (now (entries .entry)) (now (carried .entry)) (now (numbers .entry))) (p .0)) ⌝ }
 {
     let head = rings::head_of(ends, p);
@@ -350,7 +352,7 @@ fn carries(
     p: Peer,
     s: usize,
 ) -> bool
-    requires { ⌜ (length (now charges) ≡ 96) × (length (now ends) ≡ endCount) × Sized (rowsOf (now entries) (now carried) (now numbers)) × (p .0 < peers) × (lengthOf (now ends) (p .0) ≤ ringSize) ⌝ }
+    requires { ⌜ (length (now charges) ≡ chargesSize) × QueueTables (now ends) (now entries) (now carried) (now numbers) × (p .0 < peers) × (lengthOf (now ends) (p .0) ≤ ringSize) ⌝ }
     ensures { λ r. ⌜ r ≡ carriesIn (now (charges .entry)) (ringsOf (now (ends .entry)) (now (entries .entry)) (now (carried .entry)) (now (numbers .entry))) s (p .0) ⌝ }
 {
     if rings::len_of(ends, p) == 0 {
@@ -371,11 +373,11 @@ pub fn named(
     numbers: &[u64],
     s: usize,
 ) -> bool
-    requires { ⌜ (length (now charges) ≡ 96) × (length (now ends) ≡ endCount) × Sized (rowsOf (now entries) (now carried) (now numbers)) × Short (now ends) ⌝ }
+    requires { ⌜ (length (now charges) ≡ chargesSize) × QueueTables (now ends) (now entries) (now carried) (now numbers) × Short (now ends) ⌝ }
     ensures { λ r. ⌜ r ≡ namedIn (now (charges .entry)) (ringsOf (now (ends .entry)) (now (entries .entry)) (now (carried .entry)) (now (numbers .entry))) s ⌝ }
 {
     let mut q = 0;
-    while q < 8 {
+    while q < PEERS {
         if carries(charges, ends, entries, carried, numbers, Peer(q), s) {
             return true;
         }

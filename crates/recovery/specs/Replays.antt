@@ -32,6 +32,7 @@ use Rattle.journal_model.specs.declared.Recovered.the-variants as found
 use Rattle.journal_model.specs.Journal.{isQuestion, counted, spare, replay, linesIn, usedOf, Recovery, recoveryFrom, recoveryOf, recovered, wholly}
 use Rattle.recovery.specs.Steps.{Tried, triedOf, tried, Stepped, steppedOf, frameStep, readStep, lineStep, haltedAt, onNext, replayFrom}
 use Rattle.journal_model.specs.Exact.{counted-any, uncounted-leaves, spare-large}
+use Rattle.frames.specs.Lengths.{longestFrame}
 
 -- A FRAME
 
@@ -62,15 +63,15 @@ tried-command b f out l {q = q} eq n {o = o} {b′ = b′} d =
 
 -- A LINE
 
-take-least : (fr : List ℕ) (m n : ℕ) → length fr ≡ 646 → n ≡ min m 646 → take n fr ≡ take m fr
-take-least fr m n l e = go (look (ltb 646 m))
+take-least : (fr : List ℕ) (m n : ℕ) → length fr ≡ longestFrame → n ≡ min m longestFrame → take n fr ≡ take m fr
+take-least fr m n l e = go (look (ltb longestFrame m))
   where
-    go : Seen (ltb 646 m) → take n fr ≡ take m fr
-    go (is-false z) = let q : n ≡ m = omega (arith, ltb-false 646 m z) in ap (λ (k : ℕ). take k fr) q
-    go (is-true z) = take-all n fr (omega (arith, ltb-true 646 m z)) ∙ sym (take-all m fr (omega (arith, ltb-true 646 m z)))
+    go : Seen (ltb longestFrame m) → take n fr ≡ take m fr
+    go (is-false z) = let q : n ≡ m = omega (arith, ltb-false longestFrame m z) in ap (λ (k : ℕ). take k fr) q
+    go (is-true z) = take-all n fr (omega (arith, ltb-true longestFrame m z)) ∙ sym (take-all m fr (omega (arith, ltb-true longestFrame m z)))
 
 module _ (b : Bus) (fr : List ℕ) {read : LineRead} where
-  module _ (l : length fr ≡ 646) {m next n : ℕ} (e : read ≡ Frame m next) (en : n ≡ min m 646) {w : Bool} {b′ : Bus} (d : triedOf w b′ ≡ tried b (take n fr)) where
+  module _ (l : length fr ≡ longestFrame) {m next n : ℕ} (e : read ≡ Frame m next) (en : n ≡ min m longestFrame) {w : Bool} {b′ : Bus} (d : triedOf w b′ ≡ tried b (take n fr)) where
     kept-frame : triedOf w b′ ≡ tried b (take m fr)
     kept-frame = d ∙ ap (tried b) (take-least fr m n l en)
 

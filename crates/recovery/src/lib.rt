@@ -4,11 +4,14 @@ ghost use Prim.Native.Nat.{_+_, _≤_};
 ghost use lib.ListN.{length};
 ghost use Rattle.answers.specs.Answer.{answerSize};
 ghost use Rattle.frames.specs.Frame.{parse};
+ghost use Rattle.frames.specs.Lengths.{longestFrame};
 ghost use Rattle.view.specs.View.{busOf};
 ghost use Rattle.journal_model.specs.Journal.{isQuestion, wholly, recoveryFrom, recovered};
 ghost use Rattle.recovery.specs.Steps.{triedOf, tried, steppedOf, readStep, lineStep, haltedAt, replayFrom};
 use frames::Command;
 use frames::Parsed;
+use ids::ANSWER_SIZE;
+use ids::FRAME_SIZE;
 use journal_model::Recovered;
 use lines::LineRead;
 
@@ -75,12 +78,12 @@ fn replay_read(
     read: LineRead,
     out: &mut [u8],
 ) -> Step
-    requires { ⌜ (length (now frame) ≡ 646) × (length (now out) ≡ answerSize) ⌝ }
+    requires { ⌜ (length (now frame) ≡ longestFrame) × (length (now out) ≡ answerSize) ⌝ }
     ensures { λ r. ⌜ steppedOf r (busOf (now (ps .exit)) (now (ns .exit)) (now (hs .exit)) (now (cs .exit)) (now (ends .exit)) (now (es .exit)) (now (carried .exit)) (now (numbers .exit)) (now (pool .exit))) ≡ readStep (busOf (now (ps .entry)) (now (ns .entry)) (now (hs .entry)) (now (cs .entry)) (now (ends .entry)) (now (es .entry)) (now (carried .entry)) (now (numbers .entry)) (now (pool .entry))) (now (frame .entry)) read ⌝ }
 {
     match read {
         LineRead::Frame(m, next) => {
-            let n = copies::least(m, 646);
+            let n = copies::least(m, FRAME_SIZE);
             let part = &frame[..n];
             if !replay_frame(ps, ns, hs, cs, ends, es, carried, numbers, pool, part, out) {
                 return Step::Refused;
@@ -104,7 +107,7 @@ fn replay_line(
     numbers: &mut [u64],
     pool: &mut [u8],
     s: &[u8],
-    frame: &mut [u8; 646],
+    frame: &mut [u8; FRAME_SIZE],
     out: &mut [u8],
 ) -> Step
     requires { ⌜ length (now out) ≡ answerSize ⌝ }
@@ -151,7 +154,7 @@ fn replay_lines(
     numbers: &mut [u64],
     pool: &mut [u8],
     kept: &[u8],
-    frame: &mut [u8; 646],
+    frame: &mut [u8; FRAME_SIZE],
     out: &mut [u8],
     most: usize,
 ) -> Recovered
@@ -200,8 +203,8 @@ pub fn replay(
 ) -> Recovered
     ensures { λ r. ⌜ recoveryFrom r (busOf (now (ps .exit)) (now (ns .exit)) (now (hs .exit)) (now (cs .exit)) (now (ends .exit)) (now (es .exit)) (now (carried .exit)) (now (numbers .exit)) (now (pool .exit))) ≡ replayFrom most 0 0 (busOf (now (ps .entry)) (now (ns .entry)) (now (hs .entry)) (now (cs .entry)) (now (ends .entry)) (now (es .entry)) (now (carried .entry)) (now (numbers .entry)) (now (pool .entry))) (now (kept .entry)) ⌝ }
 {
-    let mut frame = [0u8; 646];
-    let mut out = [0u8; 591];
+    let mut frame = [0u8; FRAME_SIZE];
+    let mut out = [0u8; ANSWER_SIZE];
     replay_lines(
         ps,
         ns,

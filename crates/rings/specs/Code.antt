@@ -11,20 +11,21 @@ use lib.Pow.{pow-lt}
 use borrow.Author.Tests.{lt-ltb, le-ltb, le-leb, lt-leb}
 use Rattle.laws.specs.Tests.{pick, pick-all}
 use Rattle.laws.specs.Rows.{rowIn, row5, row8, stores5}
-use Rattle.rings.specs.Rings.{ringSize, slots, Rows, rowsOf, ringsOf, fieldsOf, entryAt, putAt, rowOf, headOf, lengthOf, queueOf, firstOf, pushed, popped, cleared, bitAt, kindBit, slotIn, matchesOf, matches, oneSlot, removed, Swept, swept, keptEntry, keptEntries}
+use Rattle.rings.specs.Rings.{kindMessage, kindCount, ringSize, slots, Rows, rowsOf, ringsOf, fieldsOf, entryAt, putAt, rowOf, headOf, lengthOf, queueOf, firstOf, pushed, popped, cleared, bitAt, kindBit, slotIn, matchesOf, matches, oneSlot, removed, Swept, swept, keptEntry, keptEntries}
 use Rattle.rings.specs.declared.Entry.{Entry}
 use Rattle.rings.specs.declared.Match.{Match}
+use Rattle.ids.specs.Sizes.{endFields, entryFields, carriedFields}
 
 pub entry-read : (e c n : List ℕ) (r : ℕ) →
     record {
-      kind = getD e (5 * r) 0;
-      slot = getD e (5 * r + 1) 0;
-      user = getD e (5 * r + 2) 0;
-      nb = getD e (5 * r + 3) 0;
-      nh = getD e (5 * r + 4) 0;
+      kind = getD e (entryFields * r) 0;
+      slot = getD e (entryFields * r + 1) 0;
+      user = getD e (entryFields * r + 2) 0;
+      nb = getD e (entryFields * r + 3) 0;
+      nh = getD e (entryFields * r + 4) 0;
       carried =
-          getD c (8 * r) 0 ∷ getD c (8 * r + 1) 0 ∷ getD c (8 * r + 2) 0 ∷ getD c (8 * r + 3) 0 ∷ getD c (8 * r + 4) 0 ∷ getD c (8 * r + 5) 0 ∷ getD c (8 * r + 6) 0
-          ∷ getD c (8 * r + 7) 0 ∷ [];
+          getD c (carriedFields * r) 0 ∷ getD c (carriedFields * r + 1) 0 ∷ getD c (carriedFields * r + 2) 0 ∷ getD c (carriedFields * r + 3) 0 ∷ getD c (carriedFields * r + 4) 0 ∷ getD c (carriedFields * r + 5) 0 ∷ getD c (carriedFields * r + 6) 0
+          ∷ getD c (carriedFields * r + 7) 0 ∷ [];
       number = getD n r 0;
     }
     ≡ entryAt (rowsOf e c n) r
@@ -36,17 +37,17 @@ pub fields-put : (b : List ℕ) (t : ℕ) (e : Entry) →
 unfolding fieldsOf
 fields-put b t e = stores5 b t _ _ _ _ _
 
-pub entry-put : (e c n : List ℕ) (r : ℕ) (x : Entry) {e′ c′ : List ℕ} → e′ ≡ sets e (5 * r) (fieldsOf x) → c′ ≡ sets c (8 * r) (rowIn 8 (x .carried) 0) →
+pub entry-put : (e c n : List ℕ) (r : ℕ) (x : Entry) {e′ c′ : List ℕ} → e′ ≡ sets e (entryFields * r) (fieldsOf x) → c′ ≡ sets c (carriedFields * r) (rowIn carriedFields (x .carried) 0) →
     rowsOf e′ c′ (set n r (x .number)) ≡ putAt (rowsOf e c n) r x
 unfolding putAt
 entry-put e c n r x p q = rw (p, q)
 
 pub push-made : (d e c n : List ℕ) (p : ℕ) (x : Entry) {h k r : ℕ} {e′ c′ n′ : List ℕ} → h ≡ headOf d p → k ≡ lengthOf d p → r ≡ rowOf p h k →
-    rowsOf e′ c′ n′ ≡ putAt (rowsOf e c n) r x → ringsOf (set d (p * 2 + 1) (k + 1)) e′ c′ n′ ≡ pushed (ringsOf d e c n) p x
+    rowsOf e′ c′ n′ ≡ putAt (rowsOf e c n) r x → ringsOf (set d (p * endFields + 1) (k + 1)) e′ c′ n′ ≡ pushed (ringsOf d e c n) p x
 unfolding pushed
 push-made d e c n p x eh ek er t = rw (← eh, ← ek, ← er, ← t)
 
-pub pop-made : (d : List ℕ) (p : ℕ) {h k l : ℕ} → h ≡ headOf d p → k ≡ lengthOf d p → l ≡ k - 1 → set (set d (p * 2) ((h + 1) % ringSize)) (p * 2 + 1) l ≡ popped d p
+pub pop-made : (d : List ℕ) (p : ℕ) {h k l : ℕ} → h ≡ headOf d p → k ≡ lengthOf d p → l ≡ k - 1 → set (set d (p * endFields) ((h + 1) % ringSize)) (p * endFields + 1) l ≡ popped d p
 unfolding popped
 pop-made d p eh ek el = rw (← eh, ← ek, el)
 
@@ -54,16 +55,16 @@ pub first-made : (d e c n : List ℕ) (p : ℕ) {h r : ℕ} {x : Entry} → h �
 unfolding firstOf
 first-made d e c n p eh er ex = rw (← eh, ← er) ex
 
-pub clear-made : (d : List ℕ) (p : ℕ) → set d (p * 2 + 1) 0 ≡ cleared d p
+pub clear-made : (d : List ℕ) (p : ℕ) → set d (p * endFields + 1) 0 ≡ cleared d p
 unfolding cleared
 clear-made d p = refl
 
 -- The test of a removal, by its returns.
-pub kind-own : (k : ℕ) → k < 3 → (k ≡ kindBit k) × (k < 3)
-kind-own k h = (rw (lt-ltb k 3 h), h)
+pub kind-own : (k : ℕ) → k < kindCount → (k ≡ kindBit k) × (k < kindCount)
+kind-own k h = (rw (lt-ltb k kindCount h), h)
 
-pub kind-message : (k : ℕ) → 3 ≤ k → (0 ≡ kindBit k) × (0 < 3)
-kind-message k h = (rw (le-ltb k 3 h), omega arith)
+pub kind-message : (k : ℕ) → kindCount ≤ k → (kindMessage ≡ kindBit k) × (kindMessage < kindCount)
+kind-message k h = (rw (le-ltb k kindCount h), omega arith)
 
 module _ (first mask s : ℕ) where
   pub slot-before : s < first → false ≡ slotIn first mask s
@@ -96,7 +97,7 @@ pub match-entry : (m : Match) (e : Entry) {b : Bool} → b ≡ matchesOf m (e .k
 unfolding matches
 match-entry m e h = h
 
-pub match-row : (m : Match) (e : List ℕ) (r : ℕ) {b : Bool} → b ≡ matchesOf m (getD e (5 * r) 0) (getD e (5 * r + 1) 0) → (c n : List ℕ) → b ≡ matches m (entryAt (rowsOf e c n) r)
+pub match-row : (m : Match) (e : List ℕ) (r : ℕ) {b : Bool} → b ≡ matchesOf m (getD e (entryFields * r) 0) (getD e (entryFields * r + 1) 0) → (c n : List ℕ) → b ≡ matches m (entryAt (rowsOf e c n) r)
 unfolding matches entryAt
 match-row m e r h c n = rw row5 h
 
@@ -126,7 +127,7 @@ module _ (t : Rows) (p h i w : ℕ) (m : Match) {from : ℕ} {e : Entry} {b : Bo
   entry-kept n et eq = rw (← tested, n, eq, et, ee, ef)
 
 pub remove-made : (d e c n : List ℕ) (p : ℕ) (m : Match) {h k w : ℕ} {e′ c′ n′ : List ℕ} → h ≡ headOf d p → k ≡ lengthOf d p →
-    swept w (rowsOf e′ c′ n′) ≡ keptEntries (rowsOf e c n) p h k m → ringsOf (set d (p * 2 + 1) w) e′ c′ n′ ≡ removed (ringsOf d e c n) p m
+    swept w (rowsOf e′ c′ n′) ≡ keptEntries (rowsOf e c n) p h k m → ringsOf (set d (p * endFields + 1) w) e′ c′ n′ ≡ removed (ringsOf d e c n) p m
 unfolding removed queueOf keptEntries
 remove-made d e c n p m eh ek s =
     let a = ap (λ (z : Swept). z .count) s in

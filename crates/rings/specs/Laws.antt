@@ -11,21 +11,22 @@ use lib.Seq.{sets, length-sets, getD-set-same, getD-set-other, set-getD}
 use Rattle.laws.specs.Weights.{All, all-keep, keep, keep-le}
 use Rattle.laws.specs.Build.{build, build-ext, build-snoc, build-length, build-at}
 use Rattle.laws.specs.Rows.{rowIn, row-length, row-self, row5, row-put, row-put-other, all-build}
-use Rattle.rings.specs.Rings.{peers, ringSize, rowCount, endCount, Rows, Rings, Sized, fieldsOf, entryOf, entryAt, putAt, rowOf, headOf, lengthOf, entriesFrom, queueOf, firstOf, pushed, popped, cleared, storedFrom, matches, others, removed}
+use Rattle.rings.specs.Rings.{peers, ringSize, rowCount, endsSize, Rows, Rings, setEnds, Sized, fieldsOf, entryOf, entryAt, putAt, rowOf, headOf, lengthOf, entriesFrom, queueOf, firstOf, pushed, popped, cleared, storedFrom, matches, others, removed}
 use Rattle.rings.specs.declared.Entry.{Entry}
 use Rattle.rings.specs.declared.Match.{Match}
+use Rattle.ids.specs.Sizes.{endFields, entryFields, carriedFields}
 
 -- One row: its tables keep their sizes, it holds what was put there, another row what it had.
 pub put-sized : (t : Rows) (r : ℕ) (e : Entry) → Sized t → Sized (putAt t r e)
 unfolding putAt
 put-sized t r e s =
     record {
-      entries = length-sets (t .entries) (5 * r) (fieldsOf e) ∙ s .entries;
-      carried = length-sets (t .carried) (8 * r) (rowIn 8 (e .carried) 0) ∙ s .carried;
+      entries = length-sets (t .entries) (entryFields * r) (fieldsOf e) ∙ s .entries;
+      carried = length-sets (t .carried) (carriedFields * r) (rowIn carriedFields (e .carried) 0) ∙ s .carried;
       numbers = length-set (t .numbers) r (e .number) ∙ s .numbers;
     }
 
-fields-length : (e : Entry) → length (fieldsOf e) ≡ 5
+fields-length : (e : Entry) → length (fieldsOf e) ≡ entryFields
 unfolding fieldsOf
 fields-length e = refl
 
@@ -33,19 +34,19 @@ fields-made : (e : Entry) → entryOf (fieldsOf e) (e .carried) (e .number) ≡ 
 unfolding fieldsOf
 fields-made e = refl
 
-pub get-put-same : (t : Rows) (r : ℕ) (e : Entry) → Sized t → r < rowCount → length (e .carried) ≡ 8 → entryAt (putAt t r e) r ≡ e
+pub get-put-same : (t : Rows) (r : ℕ) (e : Entry) → Sized t → r < rowCount → length (e .carried) ≡ carriedFields → entryAt (putAt t r e) r ≡ e
 unfolding entryAt putAt
 get-put-same t r e s h l =
-    let a = row-put 5 (t .entries) r (fieldsOf e) (fields-length e) (omega (arith, s .entries)) in
-    let b = row-put 8 (t .carried) r (rowIn 8 (e .carried) 0) (row-length 8 (e .carried) 0) (omega (arith, s .carried)) in
+    let a = row-put entryFields (t .entries) r (fieldsOf e) (fields-length e) (omega (arith, s .entries)) in
+    let b = row-put carriedFields (t .carried) r (rowIn carriedFields (e .carried) 0) (row-length carriedFields (e .carried) 0) (omega (arith, s .carried)) in
     let d = getD-set-same (t .numbers) r (e .number) 0 (omega (arith, s .numbers)) in
-    rw (a, b, d, row-self 8 (e .carried) l) (fields-made e)
+    rw (a, b, d, row-self carriedFields (e .carried) l) (fields-made e)
 
 pub get-put-other : (t : Rows) (r q : ℕ) (e : Entry) → (r ≡ q → ⊥) → entryAt (putAt t r e) q ≡ entryAt t q
 unfolding entryAt putAt
 get-put-other t r q e ne =
-    let a = row-put-other 5 (t .entries) r q (fieldsOf e) (fields-length e) ne in
-    let b = row-put-other 8 (t .carried) r q (rowIn 8 (e .carried) 0) (row-length 8 (e .carried) 0) ne in
+    let a = row-put-other entryFields (t .entries) r q (fieldsOf e) (fields-length e) ne in
+    let b = row-put-other carriedFields (t .carried) r q (rowIn carriedFields (e .carried) 0) (row-length carriedFields (e .carried) 0) ne in
     let d = getD-set-other (t .numbers) r q (e .number) 0 (λ f. ne (sym f)) in
     rw (a, b, d)
 
@@ -66,14 +67,14 @@ row-at w l r k lt = build-at (λ j. getD l (w * r + j) 0) w k 0 lt
 row-own : (w : ℕ) (l : List ℕ) (r : ℕ) → sets l (w * r) (rowIn w l r) ≡ l
 row-own w l r = sets-own l (w * r) (rowIn w l r) (λ k lt. row-at w l r k (omega (arith, row-length w l r)))
 
-fields-row : (l c : List ℕ) (n r : ℕ) → fieldsOf (entryOf (rowIn 5 l r) c n) ≡ rowIn 5 l r
+fields-row : (l c : List ℕ) (n r : ℕ) → fieldsOf (entryOf (rowIn entryFields l r) c n) ≡ rowIn entryFields l r
 unfolding fieldsOf
 fields-row l c n r = rw row5
 
 pub put-own : (t : Rows) (r : ℕ) → putAt t r (entryAt t r) ≡ t
 unfolding entryAt putAt
 put-own t r =
-    rw (fields-row (t .entries) (rowIn 8 (t .carried) r) (getD (t .numbers) r 0) r, row-self 8 (rowIn 8 (t .carried) r) (row-length 8 (t .carried) r), row-own 5 (t .entries) r, row-own 8 (t .carried) r, set-getD (t .numbers) r 0)
+    rw (fields-row (t .entries) (rowIn carriedFields (t .carried) r) (getD (t .numbers) r 0) r, row-self carriedFields (rowIn carriedFields (t .carried) r) (row-length carriedFields (t .carried) r), row-own entryFields (t .entries) r, row-own carriedFields (t .carried) r, set-getD (t .numbers) r 0)
 
 -- The places of a ring: no two of one peer's are the same row, nor two of two peers'.
 row-apart : (p h i j : ℕ) → i < ringSize → j < ringSize → (i ≡ j → ⊥) → rowOf p h i ≡ rowOf p h j → ⊥
@@ -115,7 +116,7 @@ pub entries-length : (t : Rows) (p h n : ℕ) → length (entriesFrom t p h n) �
 unfolding entriesFrom
 entries-length t p h n = build-length _ n
 
-entries-put : (t : Rows) (p h n : ℕ) (e : Entry) → Sized t → p < peers → n < ringSize → length (e .carried) ≡ 8 →
+entries-put : (t : Rows) (p h n : ℕ) (e : Entry) → Sized t → p < peers → n < ringSize → length (e .carried) ≡ carriedFields →
     entriesFrom (putAt t (rowOf p h n) e) p h (suc n) ≡ entriesFrom t p h n ++ (e ∷ [])
 entries-put t p h n e s hp room l =
     entries-snoc (putAt t (rowOf p h n) e) p h n
@@ -135,24 +136,24 @@ pub queue-at : (q : Rings) (p i : ℕ) (d : Entry) → i < lengthOf (q .ends) p 
 unfolding queueOf entriesFrom
 queue-at q p i d h = build-at (λ j. entryAt (q .rows) (rowOf p (headOf (q .ends) p) j)) (lengthOf (q .ends) p) i d h
 
-entries-eight : (t : Rows) (p h n : ℕ) → All (λ e. length (e .carried) ≡ 8) (entriesFrom t p h n)
+entries-eight : (t : Rows) (p h n : ℕ) → All (λ e. length (e .carried) ≡ carriedFields) (entriesFrom t p h n)
 unfolding entriesFrom entryAt
-entries-eight t p h n = all-build (λ e. length (e .carried) ≡ 8) (λ i. entryAt t (rowOf p h i)) n (λ j. row-length 8 (t .carried) (rowOf p h j))
+entries-eight t p h n = all-build (λ e. length (e .carried) ≡ carriedFields) (λ i. entryAt t (rowOf p h i)) n (λ j. row-length carriedFields (t .carried) (rowOf p h j))
 
-pub queue-eight : (q : Rings) (p : ℕ) → All (λ e. length (e .carried) ≡ 8) (queueOf q p)
+pub queue-eight : (q : Rings) (p : ℕ) → All (λ e. length (e .carried) ≡ carriedFields) (queueOf q p)
 unfolding queueOf
 queue-eight q p = entries-eight (q .rows) p (headOf (q .ends) p) (lengthOf (q .ends) p)
 
 -- A new length of one peer: every head stays, and every other length.
 module _ (d : List ℕ) (p n : ℕ) where
-  head-kept : (o : ℕ) → headOf (set d (p * 2 + 1) n) o ≡ headOf d o
-  head-kept o = getD-set-other d (p * 2 + 1) (o * 2) n 0 (λ x. absurd (omega arith))
+  head-kept : (o : ℕ) → headOf (set d (p * endFields + 1) n) o ≡ headOf d o
+  head-kept o = getD-set-other d (p * endFields + 1) (o * endFields) n 0 (λ x. absurd (omega arith))
 
-  length-kept : (o : ℕ) → (p ≡ o → ⊥) → lengthOf (set d (p * 2 + 1) n) o ≡ lengthOf d o
-  length-kept o ne = getD-set-other d (p * 2 + 1) (o * 2 + 1) n 0 (λ x. ne (omega arith))
+  length-kept : (o : ℕ) → (p ≡ o → ⊥) → lengthOf (set d (p * endFields + 1) n) o ≡ lengthOf d o
+  length-kept o ne = getD-set-other d (p * endFields + 1) (o * endFields + 1) n 0 (λ x. ne (omega arith))
 
-  length-new : length d ≡ endCount → p < peers → lengthOf (set d (p * 2 + 1) n) p ≡ n
-  length-new h hp = getD-set-same d (p * 2 + 1) n 0 (omega arith)
+  length-new : length d ≡ endsSize → p < peers → lengthOf (set d (p * endFields + 1) n) p ≡ n
+  length-new h hp = getD-set-same d (p * endFields + 1) n 0 (omega arith)
 
 -- An entry appended.
 module _ (q : Rings) (p : ℕ) (e : Entry) where
@@ -162,13 +163,13 @@ module _ (q : Rings) (p : ℕ) (e : Entry) where
 
   pub push-ends : length (pushed q p e .ends) ≡ length (q .ends)
   unfolding pushed
-  push-ends = length-set (q .ends) (p * 2 + 1) (lengthOf (q .ends) p + 1)
+  push-ends = length-set (q .ends) (p * endFields + 1) (lengthOf (q .ends) p + 1)
 
   pub push-heads : (o : ℕ) → headOf (pushed q p e .ends) o ≡ headOf (q .ends) o
   unfolding pushed
   push-heads o = head-kept (q .ends) p (lengthOf (q .ends) p + 1) o
 
-  pub push-length : length (q .ends) ≡ endCount → p < peers → lengthOf (pushed q p e .ends) p ≡ lengthOf (q .ends) p + 1
+  pub push-length : length (q .ends) ≡ endsSize → p < peers → lengthOf (pushed q p e .ends) p ≡ lengthOf (q .ends) p + 1
   unfolding pushed
   push-length hs hp = length-new (q .ends) p (lengthOf (q .ends) p + 1) hs hp
 
@@ -183,19 +184,19 @@ module _ (q : Rings) (p : ℕ) (e : Entry) where
       rw (head-kept (q .ends) p n o, length-kept (q .ends) p n o ne)
       (put-other (q .rows) p o (headOf (q .ends) p) (headOf (q .ends) o) _ (lengthOf (q .ends) o) e ne)
 
-  pub push-own : Sized (q .rows) → length (q .ends) ≡ endCount → p < peers → lengthOf (q .ends) p < ringSize → length (e .carried) ≡ 8 →
+  pub push-own : Sized (q .rows) → length (q .ends) ≡ endsSize → p < peers → lengthOf (q .ends) p < ringSize → length (e .carried) ≡ carriedFields →
       queueOf (pushed q p e) p ≡ queueOf q p ++ (e ∷ [])
   unfolding queueOf pushed
   push-own s hs hp room l =
       let h = headOf (q .ends) p in
       let n = lengthOf (q .ends) p in
-      let a : lengthOf (set (q .ends) (p * 2 + 1) (n + 1)) p ≡ suc n = length-new (q .ends) p (n + 1) hs hp ∙ add-one n in
+      let a : lengthOf (set (q .ends) (p * endFields + 1) (n + 1)) p ≡ suc n = length-new (q .ends) p (n + 1) hs hp ∙ add-one n in
       rw (head-kept (q .ends) p (n + 1) p, a) (entries-put (q .rows) p h n e s hp room l)
 
 -- The first entry dropped.
 module _ (q : Rings) (p : ℕ) where
   abbrev pub afterPop : Rings
-  afterPop = record { ends = popped (q .ends) p; rows = q .rows }
+  afterPop = setEnds q (popped (q .ends) p)
 
   pub pop-ends : length (popped (q .ends) p) ≡ length (q .ends)
   unfolding popped
@@ -205,31 +206,31 @@ module _ (q : Rings) (p : ℕ) where
   unfolding popped
   pop-heads o ne =
       let h = (headOf (q .ends) p + 1) % ringSize in
-      head-kept (set (q .ends) (p * 2) h) p (lengthOf (q .ends) p - 1) o ∙ getD-set-other (q .ends) (p * 2) (o * 2) h 0 (λ x. ne (omega arith))
+      head-kept (set (q .ends) (p * endFields) h) p (lengthOf (q .ends) p - 1) o ∙ getD-set-other (q .ends) (p * endFields) (o * endFields) h 0 (λ x. ne (omega arith))
 
   pub pop-lengths : (o : ℕ) → (p ≡ o → ⊥) → lengthOf (popped (q .ends) p) o ≡ lengthOf (q .ends) o
   unfolding popped
   pop-lengths o ne =
       let h = (headOf (q .ends) p + 1) % ringSize in
-      length-kept (set (q .ends) (p * 2) h) p (lengthOf (q .ends) p - 1) o ne ∙ getD-set-other (q .ends) (p * 2) (o * 2 + 1) h 0 (λ x. absurd (omega arith))
+      length-kept (set (q .ends) (p * endFields) h) p (lengthOf (q .ends) p - 1) o ne ∙ getD-set-other (q .ends) (p * endFields) (o * endFields + 1) h 0 (λ x. absurd (omega arith))
 
-  pub pop-head : length (q .ends) ≡ endCount → p < peers → headOf (popped (q .ends) p) p ≡ (headOf (q .ends) p + 1) % ringSize
+  pub pop-head : length (q .ends) ≡ endsSize → p < peers → headOf (popped (q .ends) p) p ≡ (headOf (q .ends) p + 1) % ringSize
   unfolding popped
   pop-head hs hp =
       let h = (headOf (q .ends) p + 1) % ringSize in
-      head-kept (set (q .ends) (p * 2) h) p (lengthOf (q .ends) p - 1) p ∙ getD-set-same (q .ends) (p * 2) h 0 (omega arith)
+      head-kept (set (q .ends) (p * endFields) h) p (lengthOf (q .ends) p - 1) p ∙ getD-set-same (q .ends) (p * endFields) h 0 (omega arith)
 
-  pub pop-length : length (q .ends) ≡ endCount → p < peers → lengthOf (popped (q .ends) p) p ≡ lengthOf (q .ends) p - 1
+  pub pop-length : length (q .ends) ≡ endsSize → p < peers → lengthOf (popped (q .ends) p) p ≡ lengthOf (q .ends) p - 1
   unfolding popped
   pop-length hs hp =
       let h = (headOf (q .ends) p + 1) % ringSize in
-      length-new (set (q .ends) (p * 2) h) p (lengthOf (q .ends) p - 1) (length-set (q .ends) (p * 2) h ∙ hs) hp
+      length-new (set (q .ends) (p * endFields) h) p (lengthOf (q .ends) p - 1) (length-set (q .ends) (p * endFields) h ∙ hs) hp
 
   pub pop-other : (o : ℕ) → (p ≡ o → ⊥) → queueOf afterPop o ≡ queueOf q o
   unfolding queueOf
   pop-other o ne = rw (pop-heads o ne, pop-lengths o ne)
 
-  pub pop-own : length (q .ends) ≡ endCount → p < peers → 0 < lengthOf (q .ends) p → queueOf q p ≡ firstOf q p ∷ queueOf afterPop p
+  pub pop-own : length (q .ends) ≡ endsSize → p < peers → 0 < lengthOf (q .ends) p → queueOf q p ≡ firstOf q p ∷ queueOf afterPop p
   unfolding queueOf firstOf
   pop-own hs hp some =
       let h = headOf (q .ends) p in
@@ -240,17 +241,17 @@ module _ (q : Rings) (p : ℕ) where
 -- All entries dropped.
 module _ (q : Rings) (p : ℕ) where
   abbrev pub afterClear : Rings
-  afterClear = record { ends = cleared (q .ends) p; rows = q .rows }
+  afterClear = setEnds q (cleared (q .ends) p)
 
   pub clear-ends : length (cleared (q .ends) p) ≡ length (q .ends)
   unfolding cleared
-  clear-ends = length-set (q .ends) (p * 2 + 1) 0
+  clear-ends = length-set (q .ends) (p * endFields + 1) 0
 
   pub clear-heads : (o : ℕ) → headOf (cleared (q .ends) p) o ≡ headOf (q .ends) o
   unfolding cleared
   clear-heads o = head-kept (q .ends) p 0 o
 
-  pub clear-length : length (q .ends) ≡ endCount → p < peers → lengthOf (cleared (q .ends) p) p ≡ 0
+  pub clear-length : length (q .ends) ≡ endsSize → p < peers → lengthOf (cleared (q .ends) p) p ≡ 0
   unfolding cleared
   clear-length hs hp = length-new (q .ends) p 0 hs hp
 
@@ -262,7 +263,7 @@ module _ (q : Rings) (p : ℕ) where
   unfolding queueOf
   clear-other o ne = rw (clear-heads o, clear-lengths o ne)
 
-  pub clear-own : length (q .ends) ≡ endCount → p < peers → queueOf afterClear p ≡ []
+  pub clear-own : length (q .ends) ≡ endsSize → p < peers → queueOf afterClear p ≡ []
   clear-own hs hp = queue-empty afterClear p (clear-length hs hp)
 
 -- A list stored over a queue.
@@ -298,7 +299,7 @@ module _ (p h : ℕ) where
   store-more t es e = let z : 0 + length es ≡ length es = omega arith in rw z at (store-snoc t 0 es e)
 
   -- what was stored is what the queue then holds
-  store-entries : (t : Rows) (i : ℕ) (es : List Entry) → Sized t → p < peers → i + length es ≤ ringSize → All (λ e. length (e .carried) ≡ 8) es →
+  store-entries : (t : Rows) (i : ℕ) (es : List Entry) → Sized t → p < peers → i + length es ≤ ringSize → All (λ e. length (e .carried) ≡ carriedFields) es →
       entriesFrom (storedFrom t p h i es) p h (i + length es) ≡ entriesFrom t p h i ++ es
   unfolding storedFrom
   store-entries t i [] s hp fit l = let z : i + 0 ≡ i = omega arith in rw z (sym (append-nil (entriesFrom t p h i)))
@@ -309,7 +310,7 @@ module _ (p h : ℕ) where
       ∙ ap (λ (x : List Entry). x ++ es) (entries-put t p h i e s hp (omega arith) (l .0))
       ∙ append-assoc (entriesFrom t p h i) (e ∷ []) es)
 
-  store-whole : (t : Rows) (es : List Entry) → Sized t → p < peers → length es ≤ ringSize → All (λ e. length (e .carried) ≡ 8) es →
+  store-whole : (t : Rows) (es : List Entry) → Sized t → p < peers → length es ≤ ringSize → All (λ e. length (e .carried) ≡ carriedFields) es →
       entriesFrom (storedFrom t p h 0 es) p h (length es) ≡ es
   unfolding entriesFrom build
   store-whole t es s hp fit l = let z : 0 + length es ≡ length es = omega arith in rw z at (store-entries t 0 es s hp (omega arith) l)
@@ -322,13 +323,13 @@ module _ (q : Rings) (p : ℕ) (m : Match) where
 
   pub remove-ends : length (removed q p m .ends) ≡ length (q .ends)
   unfolding removed
-  remove-ends = length-set (q .ends) (p * 2 + 1) (length (others m (queueOf q p)))
+  remove-ends = length-set (q .ends) (p * endFields + 1) (length (others m (queueOf q p)))
 
   pub remove-heads : (o : ℕ) → headOf (removed q p m .ends) o ≡ headOf (q .ends) o
   unfolding removed
   remove-heads o = head-kept (q .ends) p (length (others m (queueOf q p))) o
 
-  pub remove-length : length (q .ends) ≡ endCount → p < peers → lengthOf (removed q p m .ends) p ≤ lengthOf (q .ends) p
+  pub remove-length : length (q .ends) ≡ endsSize → p < peers → lengthOf (removed q p m .ends) p ≤ lengthOf (q .ends) p
   unfolding removed others
   remove-length hs hp =
       let f : Entry → Bool = λ e. not (matches m e) in
@@ -345,7 +346,7 @@ module _ (q : Rings) (p : ℕ) (m : Match) where
       rw (head-kept (q .ends) p (length es) o, length-kept (q .ends) p (length es) o ne)
       (store-other p (headOf (q .ends) p) (q .rows) 0 es o (headOf (q .ends) o) (lengthOf (q .ends) o) ne)
 
-  pub remove-own : Sized (q .rows) → length (q .ends) ≡ endCount → p < peers → lengthOf (q .ends) p ≤ ringSize →
+  pub remove-own : Sized (q .rows) → length (q .ends) ≡ endsSize → p < peers → lengthOf (q .ends) p ≤ ringSize →
       queueOf (removed q p m) p ≡ keep (λ e. not (matches m e)) (queueOf q p)
   unfolding queueOf removed others
   remove-own s hs hp fit =

@@ -9,15 +9,15 @@ use lib.Dec.{eqb, ltb, leb}
 use lib.Pow.{pow-lt, pow-add, shl-shr}
 use borrow.Author.Tests.{eqb-true, eqb-false, leb-true, leb-false, ltb-true, ltb-false, eq-eqb, ne-eqb, le-ltb}
 use Rattle.laws.specs.Tests.{pick, Seen, Seen.is-true, Seen.is-false, look}
-use Rattle.rings.specs.Rings.{slots, bitAt, kindBit, slotIn, matches, oneSlot}
+use Rattle.rings.specs.Rings.{kindMessage, kindDestroyed, kindReleased, kindCount, slots, bitAt, kindBit, slotIn, matches, oneSlot}
 use Rattle.rings.specs.declared.Entry.{Entry}
 
 -- A kind that is no notice's is a message's.
-pub kind-other : (k : ℕ) → (k ≡ 1 → ⊥) → (k ≡ 2 → ⊥) → kindBit k ≡ 0
+pub kind-other : (k : ℕ) → (k ≡ kindDestroyed → ⊥) → (k ≡ kindReleased → ⊥) → kindBit k ≡ kindMessage
 kind-other zero a b = refl
 kind-other (suc zero) a b = absurd (a refl)
 kind-other (suc (suc zero)) a b = absurd (b refl)
-kind-other (suc (suc (suc k))) a b = rw (le-ltb (suc (suc (suc k))) 3 (omega arith))
+kind-other (suc (suc (suc k))) a b = rw (le-ltb (suc (suc (suc k))) kindCount (omega arith))
 
 -- A mask of one bit.
 pub bit-one : (a b : ℕ) → bitAt (2 ^ a) b ≡ eqb b a

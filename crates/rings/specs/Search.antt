@@ -13,6 +13,7 @@ use Rattle.rings.specs.Rings.{ringSize, rowsOf, ringsOf, Sized, entryAt,
 use Rattle.rings.specs.Sweep.{sweep-from, sweep-done}
 use Rattle.rings.specs.Code.{remove-made}
 use Rattle.rings.specs.declared.Match.{Match}
+use Rattle.ids.specs.Sizes.{endFields}
 
 -- Of the n entries i are read, and none of these matches.
 pub record Passing (e : List ℕ) (p h n : ℕ) (m : Match) (i : ℕ) : Type 0 where
@@ -49,5 +50,5 @@ module _ (e c n : List ℕ) (p h k : ℕ) (m : Match) {f : ℕ} (ef : (c n : Lis
   pub remove-none : (d : List ℕ) → Sized (rowsOf e c n) → k ≤ ringSize → h ≡ headOf d p → k ≡ lengthOf d p → f ≡ k → ringsOf d e c n ≡ removed (ringsOf d e c n) p m
   remove-none d s fit eh ek all =
       let v = sweep-from (rowsOf e c n) p h k m k s (omega arith) fit (λ j l. found-before j (omega arith)) in
-      let same : set d (p * 2 + 1) k ≡ d = ap (set d (p * 2 + 1)) ek ∙ set-getD d (p * 2 + 1) 0 in
+      let same : set d (p * endFields + 1) k ≡ d = ap (set d (p * endFields + 1)) ek ∙ set-getD d (p * endFields + 1) 0 in
       ap (λ (x : List ℕ). ringsOf x e c n) (sym same) ∙ remove-made d e c n p m eh ek (sweep-done v refl .0)

@@ -9,13 +9,34 @@ ghost use lib.ListN.{length};
 ghost use lib.Seq.{sets};
 ghost use Rattle.laws.specs.Rows.{rowIn};
 ghost use Rattle.laws.specs.Search.{first};
-ghost use Rattle.rings.specs.Rings.{peers, ringSize, rowCount, endCount, rowsOf, ringsOf, Sized, fieldsOf, entryAt, putAt, rowOf, headOf, lengthOf, firstOf, pushed, popped, cleared, bitAt, kindBit, slotIn, matchesOf, matches, oneSlot, removed, swept, keptEntry, keptEntries};
+ghost use Rattle.rings.specs.Rings.{kindCount, peers, ringSize, rowCount, entryFields, carriedFields, endsSize, entriesSize, carriedSize, rowsOf, ringsOf, Sized, QueueTables, fieldsOf, entryAt, putAt, rowOf, headOf, lengthOf, firstOf, pushed, popped, cleared, bitAt, kindBit, slotIn, matchesOf, matches, oneSlot, removed, swept, keptEntry, keptEntries};
+use ids::CARRIED_FIELDS;
+use ids::END_FIELDS;
+use ids::ENTRY_FIELDS;
 use ids::Peer;
 use ids::RING;
 use ids::SLOTS;
 
-// A queued entry. Kind 1 is a destroy notice, 2 a release notice, anything else a message with its destination's slot,
-// its sender's user, its payload bytes, its attached handles and their slots.
+// The kinds of entry: a message (so is any other number), a destroy notice, a release notice; and how many there are.
+pub const MESSAGE: u16 = 0;
+
+pub const DESTROYED: u16 = 1;
+
+pub const RELEASED: u16 = 2;
+
+const KINDS: u16 = 3;
+
+// The bit of each kind among those that a removal takes out; those of the notices, and all.
+pub const MESSAGE_BIT: u8 = 1 << MESSAGE;
+
+pub const RELEASED_BIT: u8 = 1 << RELEASED;
+
+pub const NOTICE_BITS: u8 = (1 << DESTROYED) + (1 << RELEASED);
+
+pub const ALL_BITS: u8 = MESSAGE_BIT + NOTICE_BITS;
+
+// A queued entry: a message has its destination's slot, its sender's user, its payload bytes, its attached handles and
+// their slots; a notice has the slot that it is about.
 pub struct Entry {
     pub kind: u16,
     pub slot: u16,
@@ -26,8 +47,8 @@ pub struct Entry {
     pub number: u64,
 }
 
-// Which entries a removal takes out: those of a kind whose bit is set (0 messages, 1 destroy notices, 2 release
-// notices) and of a slot whose bit is set, of the 16 slots from `first` on.
+// Which entries a removal takes out: those of a kind whose bit is set and of a slot whose bit is set, of the 16 slots from
+// `first` on.
 pub struct Match {
     pub kinds: u8,
     pub first: usize,
@@ -50,17 +71,17 @@ pub fn row_of(p: Peer, head: usize, i: usize) -> usize
 }
 
 pub fn head_of(ends: &[u16], p: Peer) -> usize
-    requires { ⌜ (length (now ends) ≡ endCount) × (p .0 < peers) ⌝ }
+    requires { ⌜ (length (now ends) ≡ endsSize) × (p .0 < peers) ⌝ }
     ensures { λ r. ⌜ (r ≡ headOf (now (ends .entry)) (p .0)) × (r < 65536) ⌝ }
 {
-    wide(ends[p.0 * 2])
+    wide(ends[p.0 * END_FIELDS])
 }
 
 pub fn len_of(ends: &[u16], p: Peer) -> usize
-    requires { ⌜ (length (now ends) ≡ endCount) × (p .0 < peers) ⌝ }
+    requires { ⌜ (length (now ends) ≡ endsSize) × (p .0 < peers) ⌝ }
     ensures { λ r. ⌜ (r ≡ lengthOf (now (ends .entry)) (p .0)) × (r < 65536) ⌝ }
 {
-    wide(ends[p.0 * 2 + 1])
+    wide(ends[p.0 * END_FIELDS + 1])
 }
 
 // The entry in a row of the tables.
@@ -68,8 +89,8 @@ pub fn get_entry(entries: &[u16], carried: &[u8], numbers: &[u64], row: usize) -
     requires { ⌜ Sized (rowsOf (now entries) (now carried) (now numbers)) × (row < rowCount) ⌝ }
     ensures { λ e. ⌜ e ≡ entryAt (rowsOf (now (entries .entry)) (now (carried .entry)) (now (numbers .entry))) row ⌝ }
 {
-    let a = 5 * row;
-    let c = 8 * row;
+    let a = ENTRY_FIELDS * row;
+    let c = CARRIED_FIELDS * row;
     Entry {
         kind: entries[a],
         slot: entries[a + 1],
@@ -91,10 +112,10 @@ pub fn get_entry(entries: &[u16], carried: &[u8], numbers: &[u64], row: usize) -
 }
 
 fn put_fields(entries: &mut [u16], row: usize, e: Entry)
-    requires { ⌜ (length (now entries) ≡ rowCount * 5) × (row < rowCount) ⌝ }
-    ensures { λ _. ⌜ now (entries .exit) ≡ sets (now (entries .entry)) (5 * row) (fieldsOf e) ⌝ }
+    requires { ⌜ (length (now entries) ≡ entriesSize) × (row < rowCount) ⌝ }
+    ensures { λ _. ⌜ now (entries .exit) ≡ sets (now (entries .entry)) (entryFields * row) (fieldsOf e) ⌝ }
 {
-    let a = 5 * row;
+    let a = ENTRY_FIELDS * row;
     entries[a] = e.kind;
     entries[a + 1] = e.slot;
     entries[a + 2] = e.user;
@@ -103,10 +124,10 @@ fn put_fields(entries: &mut [u16], row: usize, e: Entry)
 }
 
 fn put_carried(carried: &mut [u8], row: usize, v: [u8; 8])
-    requires { ⌜ (length (now carried) ≡ rowCount * 8) × (row < rowCount) ⌝ }
-    ensures { λ _. ⌜ now (carried .exit) ≡ sets (now (carried .entry)) (8 * row) (rowIn 8 v 0) ⌝ }
+    requires { ⌜ (length (now carried) ≡ carriedSize) × (row < rowCount) ⌝ }
+    ensures { λ _. ⌜ now (carried .exit) ≡ sets (now (carried .entry)) (carriedFields * row) (rowIn carriedFields v 0) ⌝ }
 {
-    let c = 8 * row;
+    let c = CARRIED_FIELDS * row;
     carried[c] = v[0];
     carried[c + 1] = v[1];
     carried[c + 2] = v[2];
@@ -130,7 +151,7 @@ pub fn put_entry(entries: &mut [u16], carried: &mut [u8], numbers: &mut [u64], r
 
 // The oldest entry of a queue, or what its place holds where the queue is empty.
 pub fn first_entry(ends: &[u16], entries: &[u16], carried: &[u8], numbers: &[u64], p: Peer) -> Entry
-    requires { ⌜ (length (now ends) ≡ endCount) × Sized (rowsOf (now entries) (now carried) (now numbers)) × (p .0 < peers) ⌝ }
+    requires { ⌜ QueueTables (now ends) (now entries) (now carried) (now numbers) × (p .0 < peers) ⌝ }
     ensures { λ e. ⌜ e ≡ firstOf (ringsOf (now (ends .entry)) (now (entries .entry)) (now (carried .entry)) (now (numbers .entry))) (p .0) ⌝ }
 {
     let head = head_of(ends, p);
@@ -147,14 +168,14 @@ pub fn push(
     p: Peer,
     e: Entry,
 )
-    requires { ⌜ (length (now ends) ≡ endCount) × Sized (rowsOf (now entries) (now carried) (now numbers)) × (p .0 < peers) × (lengthOf (now ends) (p .0) < ringSize) ⌝ }
+    requires { ⌜ QueueTables (now ends) (now entries) (now carried) (now numbers) × (p .0 < peers) × (lengthOf (now ends) (p .0) < ringSize) ⌝ }
     ensures { λ _. ⌜ ringsOf (now (ends .exit)) (now (entries .exit)) (now (carried .exit)) (now (numbers .exit)) ≡ pushed (ringsOf (now (ends .entry)) (now (entries .entry)) (now (carried .entry)) (now (numbers .entry))) (p .0) e ⌝ }
 {
     let head = head_of(ends, p);
     let len = len_of(ends, p);
     let row = row_of(p, head, len);
     put_entry(entries, carried, numbers, row, e);
-    let at = p.0 * 2 + 1;
+    let at = p.0 * END_FIELDS + 1;
     ends[at] = (len + 1) as u16;
 }
 
@@ -167,22 +188,22 @@ fn one_less(n: usize) -> usize
 
 // The oldest entry dropped; of an empty queue, nothing but its place.
 pub fn pop(ends: &mut [u16], p: Peer)
-    requires { ⌜ (length (now ends) ≡ endCount) × (p .0 < peers) ⌝ }
+    requires { ⌜ (length (now ends) ≡ endsSize) × (p .0 < peers) ⌝ }
     ensures { λ _. ⌜ now (ends .exit) ≡ popped (now (ends .entry)) (p .0) ⌝ }
 {
     let head = head_of(ends, p);
     let len = len_of(ends, p);
-    let at = p.0 * 2;
+    let at = p.0 * END_FIELDS;
     ends[at] = ((head + 1) % RING) as u16;
     ends[at + 1] = one_less(len) as u16;
 }
 
 // All entries dropped.
 pub fn clear(ends: &mut [u16], p: Peer)
-    requires { ⌜ (length (now ends) ≡ endCount) × (p .0 < peers) ⌝ }
+    requires { ⌜ (length (now ends) ≡ endsSize) × (p .0 < peers) ⌝ }
     ensures { λ _. ⌜ now (ends .exit) ≡ cleared (now (ends .entry)) (p .0) ⌝ }
 {
-    let at = p.0 * 2 + 1;
+    let at = p.0 * END_FIELDS + 1;
     ends[at] = 0;
 }
 
@@ -196,9 +217,9 @@ pub fn bit(x: usize, k: usize) -> bool
 
 // The bit of an entry's kind among a removal's kinds.
 fn kind_bit(kind: u16) -> usize
-    ensures { λ r. ⌜ (r ≡ kindBit kind) × (r < 3) ⌝ }
+    ensures { λ r. ⌜ (r ≡ kindBit kind) × (r < kindCount) ⌝ }
 {
-    if kind < 3 { kind as usize } else { 0 }
+    if kind < KINDS { kind as usize } else { 0 }
 }
 
 fn has_slot(first: usize, mask: usize, slot: usize) -> bool
@@ -255,16 +276,16 @@ pub fn is_match(m: Match, e: Entry) -> bool
 
 // Does a removal take out the entry in the row? Its kind and its slot say so, whatever the other tables hold.
 fn is_match_at(entries: &[u16], row: usize, m: Match) -> bool
-    requires { ⌜ (length (now entries) ≡ rowCount * 5) × (row < rowCount) ⌝ }
+    requires { ⌜ (length (now entries) ≡ entriesSize) × (row < rowCount) ⌝ }
     ensures { λ r. ⌜ ((c n : List ℕ) → r ≡ matches m (entryAt (rowsOf (now (entries .entry)) c n) row)) ⌝ }
 {
-    let a = 5 * row;
+    let a = ENTRY_FIELDS * row;
     takes(m, entries[a], entries[a + 1])
 }
 
 // The place in a queue of the first entry that a removal takes out, or the length where it takes none.
 pub fn first_match(entries: &[u16], p: Peer, head: usize, len: usize, m: Match) -> usize
-    requires { ⌜ (length (now entries) ≡ rowCount * 5) × (p .0 < peers) × (head < 65536) × (len ≤ ringSize) ⌝ }
+    requires { ⌜ (length (now entries) ≡ entriesSize) × (p .0 < peers) × (head < 65536) × (len ≤ ringSize) ⌝ }
     ensures { λ r. ⌜ ((c n : List ℕ) → r ≡ first (λ i. matches m (entryAt (rowsOf (now (entries .entry)) c n) (rowOf (p .0) head i))) len) ⌝ }
 {
     let mut i = 0;
@@ -350,7 +371,7 @@ pub fn remove(
     p: Peer,
     m: Match,
 )
-    requires { ⌜ (length (now ends) ≡ endCount) × Sized (rowsOf (now entries) (now carried) (now numbers)) × (p .0 < peers) × (lengthOf (now ends) (p .0) ≤ ringSize) ⌝ }
+    requires { ⌜ QueueTables (now ends) (now entries) (now carried) (now numbers) × (p .0 < peers) × (lengthOf (now ends) (p .0) ≤ ringSize) ⌝ }
     ensures { λ _. ⌜ ringsOf (now (ends .exit)) (now (entries .exit)) (now (carried .exit)) (now (numbers .exit)) ≡ removed (ringsOf (now (ends .entry)) (now (entries .entry)) (now (carried .entry)) (now (numbers .entry))) (p .0) m ⌝ }
 {
     let head = head_of(ends, p);
@@ -360,6 +381,6 @@ pub fn remove(
         return;
     }
     let kept = sweep(entries, carried, numbers, p, head, len, m, from);
-    let at = p.0 * 2 + 1;
+    let at = p.0 * END_FIELDS + 1;
     ends[at] = kept as u16;
 }

@@ -1,8 +1,8 @@
 -- Document 01, "The program reads lines .. one answer line each": the answer of a line on a bus, the text of the answers of many lines, and what a program that
 -- reads chunks has written after each of them. The statements stand at the end; Laws proves each under the same name in small letters.
 -- Assumes nothing.
-use Prim.Native.Nat.{ℕ, _+_, _-_, _≤_, _<_}
-use mathlib.Core.Path.{_≡_}
+use Prim.Native.Nat.{ℕ, _+_, _-_, _*_, _≤_, _<_}
+use mathlib.Core.Path.{_≡_, refl}
 use mathlib.Core.Bool.{Bool, true, false}
 use mathlib.Core.List.{List, [], _∷_, _++_, map, flatten}
 use lib.ListN.{length, take, drop, replicate}
@@ -10,6 +10,7 @@ use lib.Seq.{sets}
 use lib.Dec.{eqb, leb}
 use Rattle.laws.specs.Tests.{pick}
 use Rattle.ids.specs.Refusals.{EINVAL}
+use Rattle.frames.specs.Lengths.{longestFrame}
 use Rattle.answers.specs.Answer.{answerSize}
 use Rattle.lines.specs.Line.{answerLine, carriedOf}
 use Rattle.lines.specs.Chunks.{split, Found, Found.frame, Found.bad, found, foundAtEnd, linesOf, NoLf}
@@ -72,7 +73,10 @@ pub record Served (b : Bus) (s : List ℕ) (from start : ℕ) (t : List ℕ) (c 
 
 -- The longest answer line: the digits of 591 bytes, and its LF.
 abbrev pub longest : ℕ
-longest = 1183
+longest = 2 * answerSize + 1
+
+pub longest-is : longest ≡ 1183
+longest-is = refl
 
 -- Where the answering stops: at the piece behind the last LF, or where the next answer line might not fit.
 pub record Stopped (s t : List ℕ) (next at : ℕ) (more : Bool) : Type 0 where
@@ -108,7 +112,7 @@ PutRead b f (Piece place) t at c u next = (c ≡ b) × ((u ≡ t) × (next ≡ a
 
 -- A frame lies within its buffer.
 abbrev pub Holds : LineRead → Type 0
-Holds (Frame m n) = m ≤ 646
+Holds (Frame m n) = m ≤ longestFrame
 Holds (Bad place n) = Unit {0}
 Holds (Piece place) = Unit {0}
 

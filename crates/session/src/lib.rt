@@ -8,14 +8,18 @@ ghost use lib.Seq.{sets};
 ghost use lib.Dec.{ltb};
 ghost use Rattle.lines.specs.Line.{answerLine};
 ghost use Rattle.lines.specs.Chunks.{Found.frame, Found.bad};
+ghost use Rattle.frames.specs.Lengths.{longestFrame};
+ghost use Rattle.answers.specs.Answer.{answerSize};
 ghost use Rattle.view.specs.View.{busOf};
-ghost use Rattle.session.specs.Session.{Served, Stopped, Put, PutRead, Holds, usedBy, Turned, goesOn};
+ghost use Rattle.session.specs.Session.{longest, Served, Stopped, Put, PutRead, Holds, usedBy, Turned, goesOn};
+use ids::ANSWER_SIZE;
 use ids::EINVAL;
+use ids::FRAME_SIZE;
 use lines::LineRead;
 use lines::Written;
 
 // The longest answer line: the digits of 591 bytes, and its LF.
-const LONGEST: usize = 1183;
+const LONGEST: usize = 2 * ANSWER_SIZE + 1;
 
 // Writes the answer line of some bytes from `at` on. Where the next one goes. There is room for it, so the last arm is
 // never reached.
@@ -45,7 +49,7 @@ fn answer_frame(
     text: &mut [u8],
     at: usize,
 ) -> usize
-    requires { ⌜ (length (now out) ≡ 591) × (at + 1183 ≤ length (now text)) ⌝ }
+    requires { ⌜ (length (now out) ≡ answerSize) × (at + longest ≤ length (now text)) ⌝ }
     ensures { λ r. ⌜ Put (busOf (now (peers .entry)) (now (nodes .entry)) (now (handles .entry)) (now (charges .entry)) (now (ends .entry)) (now (entries .entry)) (now (carried .entry)) (now (numbers .entry)) (now (pool .entry))) (frame (now (f .entry))) (now (text .entry)) at (busOf (now (peers .exit)) (now (nodes .exit)) (now (handles .exit)) (now (charges .exit)) (now (ends .exit)) (now (entries .exit)) (now (carried .exit)) (now (numbers .exit)) (now (pool .exit))) (now (text .exit)) r ⌝ }
 {
     let o = bus::command(
@@ -66,7 +70,7 @@ fn answer_frame(
 
 // The answer line of a line that is no frame.
 fn refuse(text: &mut [u8], at: usize) -> usize
-    requires { ⌜ at + 1183 ≤ length (now text) ⌝ }
+    requires { ⌜ at + longest ≤ length (now text) ⌝ }
     ensures { λ r. ⌜ (now (text .exit) ≡ sets (now (text .entry)) at (answerLine (22 ∷ []))) × (r ≡ at + 3) ⌝ }
 {
     let answer = [EINVAL];
@@ -90,7 +94,7 @@ fn answer_read(
     text: &mut [u8],
     at: usize,
 ) -> usize
-    requires { ⌜ (length (now out) ≡ 591) × (at + 1183 ≤ length (now text)) × (length (now f) ≡ 646) × Holds read ⌝ }
+    requires { ⌜ (length (now out) ≡ answerSize) × (at + longest ≤ length (now text)) × (length (now f) ≡ longestFrame) × Holds read ⌝ }
     ensures { λ r. ⌜ PutRead (busOf (now (peers .entry)) (now (nodes .entry)) (now (handles .entry)) (now (charges .entry)) (now (ends .entry)) (now (entries .entry)) (now (carried .entry)) (now (numbers .entry)) (now (pool .entry))) (now (f .entry)) read (now (text .entry)) at (busOf (now (peers .exit)) (now (nodes .exit)) (now (handles .exit)) (now (charges .exit)) (now (ends .exit)) (now (entries .exit)) (now (carried .exit)) (now (numbers .exit)) (now (pool .exit))) (now (text .exit)) r ⌝ }
 {
     match read {
@@ -150,12 +154,12 @@ fn answer_line(
     numbers: &mut [u64],
     pool: &mut [u8],
     s: &[u8],
-    f: &mut [u8; 646],
+    f: &mut [u8; FRAME_SIZE],
     out: &mut [u8],
     text: &mut [u8],
     t: Turn,
 ) -> Turn
-    requires { ⌜ (t .from ≤ length (now s)) × (length (now out) ≡ 591) × (t .at + 1183 ≤ length (now text)) ⌝ }
+    requires { ⌜ (t .from ≤ length (now s)) × (length (now out) ≡ answerSize) × (t .at + longest ≤ length (now text)) ⌝ }
     ensures { λ r. ⌜ Turned (busOf (now (peers .entry)) (now (nodes .entry)) (now (handles .entry)) (now (charges .entry)) (now (ends .entry)) (now (entries .entry)) (now (carried .entry)) (now (numbers .entry)) (now (pool .entry))) (now (s .entry)) (t .from) (t .at) (now (text .entry)) (busOf (now (peers .exit)) (now (nodes .exit)) (now (handles .exit)) (now (charges .exit)) (now (ends .exit)) (now (entries .exit)) (now (carried .exit)) (now (numbers .exit)) (now (pool .exit))) (now (text .exit)) (r .from) (r .used) (r .at) ⌝ }
 {
     let from = t.from;
@@ -228,8 +232,8 @@ pub fn answer_lines(
     requires { ⌜ from ≤ length (now s) ⌝ }
     ensures { λ r. ⌜ Served (busOf (now (peers .entry)) (now (nodes .entry)) (now (handles .entry)) (now (charges .entry)) (now (ends .entry)) (now (entries .entry)) (now (carried .entry)) (now (numbers .entry)) (now (pool .entry))) (now (s .entry)) from 0 (now (text .entry)) (busOf (now (peers .exit)) (now (nodes .exit)) (now (handles .exit)) (now (charges .exit)) (now (ends .exit)) (now (entries .exit)) (now (carried .exit)) (now (numbers .exit)) (now (pool .exit))) (now (text .exit)) (r .from) (r .at) × Stopped (now (s .entry)) (now (text .entry)) (r .from) (r .at) (r .more) ⌝ }
 {
-    let mut f = [0u8; 646];
-    let mut out = [0u8; 591];
+    let mut f = [0u8; FRAME_SIZE];
+    let mut out = [0u8; ANSWER_SIZE];
     let mut t = turned(from, 1, 0);
     while goes_on(t, text.len()) {
         t = answer_line(

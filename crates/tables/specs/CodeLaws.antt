@@ -20,30 +20,31 @@ use Rattle.tables.specs.declared.Span.{Span}
 use Rattle.laws.specs.Build.{build}
 use Rattle.quota.specs.declared.Charge.{Charge}
 use Rattle.quota.specs.declared.Charges.{Charges}
-use Rattle.quota.specs.Charges.{nothing}
+use Rattle.quota.specs.Charges.{users, nothing}
 use Rattle.tables.specs.declared.Found.{Found}
 use Rattle.tables.specs.declared.Found.the-variants.{At, Nothing}
 use Rattle.laws.specs.Bits.{bits}
 use Rattle.ids.specs.Refusals.{EBADF, ESHUTDOWN}
-use Rattle.tables.specs.Peers.{modulus, statusAt, standingAt}
+use Rattle.tables.specs.Peers.{peerRow, modulus, statusAt, standingAt}
 use Rattle.model.specs.Numbers.{nodes}
-use Rattle.tables.specs.Handles.{listBlock, lengthBlock, mostReads, halvings, listReads, idAt, countAt, hasIn, hasAt, foundBy, foundOwn, listLength, listedId, wordAt, listedSlot, guess, atLeast, placeIn, spot, foundAmong, foundListed, lookup, totalBelow, totalAt, bitAt, holdersBelow, holdersAt, putHandle, clearBelow, clearPeer, enlisted, shifted, takenOut, unlisted, raised, reduced}
+use Rattle.tables.specs.Handles.{ownStep, handleRow, listBlock, lengthBlock, mostReads, halvings, listReads, idAt, countAt, hasIn, hasAt, foundBy, foundOwn, listLength, listedId, wordAt, listedSlot, guess, atLeast, placeIn, spot, foundAmong, foundListed, lookup, totalBelow, totalAt, bitAt, holdersBelow, holdersAt, putHandle, clearBelow, clearPeer, enlisted, shifted, takenOut, unlisted, raised, reduced}
 use Rattle.tables.specs.Charges.{chargeAt, chargesAt, putCharge, putBelow, putCharges}
+use Rattle.ids.specs.Sizes.{peers, slots, handleFields}
 
 -- standing
 module _ (ps : List ℕ) (p : ℕ) where
-  pub standing-open : getD ps (1 + 3 * p) 0 ≡ 1 → 0 ≡ standingAt ps p
+  pub standing-open : getD ps (peerRow p) 0 ≡ 1 → 0 ≡ standingAt ps p
   unfolding standingAt statusAt
   standing-open e = rw e
 
-  module _ (ne : getD ps (1 + 3 * p) 0 ≡ 1 → ⊥) where
-    pub standing-left : getD ps (1 + 3 * p) 0 ≡ 2 → ESHUTDOWN ≡ standingAt ps p
+  module _ (ne : getD ps (peerRow p) 0 ≡ 1 → ⊥) where
+    pub standing-left : getD ps (peerRow p) 0 ≡ 2 → ESHUTDOWN ≡ standingAt ps p
     unfolding standingAt statusAt
     standing-left e = rw e
 
-    pub standing-none : (getD ps (1 + 3 * p) 0 ≡ 2 → ⊥) → EBADF ≡ standingAt ps p
+    pub standing-none : (getD ps (peerRow p) 0 ≡ 2 → ⊥) → EBADF ≡ standingAt ps p
     unfolding standingAt statusAt
-    standing-none nf = rw (ne-eqb (getD ps (1 + 3 * p) 0) 1 ne, ne-eqb (getD ps (1 + 3 * p) 0) 2 nf)
+    standing-none nf = rw (ne-eqb (getD ps (peerRow p) 0) 1 ne, ne-eqb (getD ps (peerRow p) 0) 2 nf)
 
 -- holds, find
 module _ (h : List ℕ) (i at : ℕ) where
@@ -71,9 +72,9 @@ module _ (h : List ℕ) (i at : ℕ) where
     holds-this q = (ap (λ (y : ℕ). not (eqb (y % modulus) 0)) (e .1) ∙ holds-some (sym (e .0) ∙ q), e .2)
 
 -- the place of an own slot's handle
-pub own-row : (h : List ℕ) (p i k : ℕ) → hasIn h i (p * 288 + 2 * k) ≡ hasAt h p i (p * 16 + k)
+pub own-row : (h : List ℕ) (p i k : ℕ) → hasIn h i (p * ownStep + handleFields * k) ≡ hasAt h p i (p * slots + k)
 unfolding hasAt
-own-row h p i k = let e : p * 288 + 2 * k ≡ p * 256 + 2 * (p * 16 + k) = omega arith in ap (hasIn h i) e
+own-row h p i k = let e : p * ownStep + handleFields * k ≡ handleRow p (p * slots + k) = omega arith in ap (hasIn h i) e
 
 module _ (h : List ℕ) (p i : ℕ) (at : ℕ → ℕ) (n : ℕ) where
   pub found-at : (k : ℕ) → k < n → ((j : ℕ) → j < k → hasAt h p i (at j) ≡ false) → hasAt h p i (at k) ≡ true → At (at k) ≡ foundBy h p i at n
@@ -90,13 +91,13 @@ module _ (h : List ℕ) (p i : ℕ) (at : ℕ → ℕ) (n : ℕ) where
 
 -- seek_own
 module _ (h : List ℕ) (p i : ℕ) where
-  pub own-at : (k : ℕ) → k < 16 → ((j : ℕ) → j < k → hasAt h p i (p * 16 + j) ≡ false) → hasAt h p i (p * 16 + k) ≡ true → At (p * 16 + k) ≡ foundOwn h p i
+  pub own-at : (k : ℕ) → k < slots → ((j : ℕ) → j < k → hasAt h p i (p * slots + j) ≡ false) → hasAt h p i (p * slots + k) ≡ true → At (p * slots + k) ≡ foundOwn h p i
   unfolding foundOwn
-  own-at k l before here = found-at h p i (λ j. p * 16 + j) 16 k l before here
+  own-at k l before here = found-at h p i (λ j. p * slots + j) slots k l before here
 
-  pub own-nothing : ((j : ℕ) → j < 16 → hasAt h p i (p * 16 + j) ≡ false) → Nothing ≡ foundOwn h p i
+  pub own-nothing : ((j : ℕ) → j < slots → hasAt h p i (p * slots + j) ≡ false) → Nothing ≡ foundOwn h p i
   unfolding foundOwn
-  own-nothing before = found-nothing h p i (λ j. p * 16 + j) 16 before
+  own-nothing before = found-nothing h p i (λ j. p * slots + j) slots before
 
 -- find
 module _ (h : List ℕ) (p i : ℕ) {r : Found} where
@@ -328,7 +329,7 @@ module _ (h : List ℕ) (s : ℕ) where
   unfolding totalBelow sumTo
   total-more q e f = rw (add-one, e, f)
 
-  pub total-all : (q : ℕ) {t : ℕ} → t ≡ totalBelow h s q → q ≡ 8 → t ≡ totalAt h s
+  pub total-all : (q : ℕ) {t : ℕ} → t ≡ totalBelow h s q → q ≡ peers → t ≡ totalAt h s
   unfolding totalAt
   total-all q e f = rw (← f) e
 
@@ -356,7 +357,7 @@ module _ (h : List ℕ) (s : ℕ) where
   unfolding holdersBelow bits sumTo
   holders-none = record { peers = omega arith; power = refl; byte = omega arith; below = omega arith; sum = refl }
 
-  pub holders-more : (q bit set : ℕ) {b : ℕ} → Holders h s q bit set → q < 8 → (b ≡ bitAt h s q bit) × (b ≤ bit) → Holders h s (q + 1) (2 * bit) (b + set)
+  pub holders-more : (q bit set : ℕ) {b : ℕ} → Holders h s q bit set → q < peers → (b ≡ bitAt h s q bit) × (b ≤ bit) → Holders h s (q + 1) (2 * bit) (b + set)
   unfolding holdersBelow bits sumTo
   holders-more q bit set {b} g l e =
       let x : 2 ^ (q + 1) ≡ 2 * 2 ^ q = rw add-one (omega arith) in
@@ -369,7 +370,7 @@ module _ (h : List ℕ) (s : ℕ) where
         sum = rw (add-one, e .0, g .power, g .sum);
       }
 
-  pub holders-all : (q : ℕ) {bit set : ℕ} → Holders h s q bit set → q ≡ 8 → set ≡ holdersAt h s
+  pub holders-all : (q : ℕ) {bit set : ℕ} → Holders h s q bit set → q ≡ peers → set ≡ holdersAt h s
   unfolding holdersAt
   holders-all q g f = rw (← f) (g .sum)
 
@@ -387,19 +388,19 @@ module _ (h : List ℕ) (p : ℕ) where
   unfolding clearBelow
   clear-more s e f = rw (add-one, ← e) f
 
-  pub clear-all : (s : ℕ) {h₁ h₂ : List ℕ} → h₁ ≡ clearBelow h p s → s ≡ 128 → h₂ ≡ putHandle h₁ lengthBlock p 0 0 → h₂ ≡ clearPeer h p
+  pub clear-all : (s : ℕ) {h₁ h₂ : List ℕ} → h₁ ≡ clearBelow h p s → s ≡ nodes → h₂ ≡ putHandle h₁ lengthBlock p 0 0 → h₂ ≡ clearPeer h p
   unfolding clearPeer
   clear-all s e f g = rw (← f, ← e) g
 
 -- load, store
 pub loaded : (t : List ℕ) (p : ℕ) {a b c d : Charge} →
-    a ≡ chargeAt t (4 * p) → b ≡ chargeAt t (4 * p + 1) → c ≡ chargeAt t (4 * p + 2) → d ≡ chargeAt t (4 * p + 3) →
+    a ≡ chargeAt t (users * p) → b ≡ chargeAt t (users * p + 1) → c ≡ chargeAt t (users * p + 2) → d ≡ chargeAt t (users * p + 3) →
     record { by = a ∷ b ∷ c ∷ d ∷ [] } ≡ chargesAt t p
 unfolding chargesAt build
 loaded t p ea eb ec ed = rw (ea, eb, ec, ed, add-zero)
 
 pub stored : (t : List ℕ) (p : ℕ) (c : Charges) {t₁ t₂ t₃ t₄ : List ℕ} →
-    t₁ ≡ putCharge t (4 * p) (getD (c .by) 0 nothing) → t₂ ≡ putCharge t₁ (4 * p + 1) (getD (c .by) 1 nothing) →
-    t₃ ≡ putCharge t₂ (4 * p + 2) (getD (c .by) 2 nothing) → t₄ ≡ putCharge t₃ (4 * p + 3) (getD (c .by) 3 nothing) → t₄ ≡ putCharges t p c
+    t₁ ≡ putCharge t (users * p) (getD (c .by) 0 nothing) → t₂ ≡ putCharge t₁ (users * p + 1) (getD (c .by) 1 nothing) →
+    t₃ ≡ putCharge t₂ (users * p + 2) (getD (c .by) 2 nothing) → t₄ ≡ putCharge t₃ (users * p + 3) (getD (c .by) 3 nothing) → t₄ ≡ putCharges t p c
 unfolding putCharges putBelow
 stored t p c e₁ e₂ e₃ e₄ = rw (add-zero, ← e₁, ← e₂, ← e₃) e₄

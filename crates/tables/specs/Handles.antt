@@ -15,7 +15,9 @@ use Rattle.laws.specs.Halving.{halve}
 use Rattle.tables.specs.declared.Found.{Found}
 use Rattle.tables.specs.declared.Found.the-variants.{At, Nothing}
 use Rattle.laws.specs.Bits.{bits}
-use Rattle.model.specs.Numbers.{peers, nodes}
+use Rattle.model.specs.Numbers.{peers, slots, nodes}
+use Rattle.ids.specs.Sizes.{handleFields}
+pub use Rattle.ids.specs.Sizes.{handlesSize}
 use Rattle.tables.specs.Peers.{modulus}
 
 -- The block of a peer's list, and the block of which each peer has one record: the length of its list and the ID of the last entry. With it the table ends.
@@ -25,11 +27,16 @@ listBlock p = peers + p
 abbrev pub lengthBlock : ℕ
 lengthBlock = peers + peers
 
-abbrev pub handlesSize : ℕ
-handlesSize = 2 * (lengthBlock * nodes + peers)
+-- The numbers of a block.
+abbrev pub blockSize : ℕ
+blockSize = handleFields * nodes
 
-pub handles-size : handlesSize ≡ 4112
-handles-size = refl
+-- From the handles of one peer to its own nodes to those of the next.
+abbrev pub ownStep : ℕ
+ownStep = blockSize + handleFields * slots
+
+pub blocks-fill : handlesSize ≡ lengthBlock * blockSize + handleFields * peers
+blocks-fill = refl
 
 -- Document 02, No. 3: "at most 16 entries in all, of any table". A record of the table is an entry.
 abbrev pub mostReads : ℕ
@@ -45,7 +52,7 @@ listReads = 1 + 1 + halvings + 1
 
 -- The place of a handle's ID; its count stands behind it.
 abbrev pub handleRow : ℕ → ℕ → ℕ
-handleRow p s = p * 256 + 2 * s
+handleRow p s = p * blockSize + handleFields * s
 
 abbrev pub idAt : List ℕ → ℕ → ℕ → ℕ
 idAt h p s = getD h (handleRow p s) 0
@@ -67,7 +74,7 @@ foundBy h p i at n = let k = first (λ j. hasAt h p i (at j)) n in pick (ltb k n
 
 -- Among the peer's own slots.
 unfoldable pub foundOwn : List ℕ → ℕ → ℕ → Found
-foundOwn h p i = foundBy h p i (λ k. p * 16 + k) 16
+foundOwn h p i = foundBy h p i (λ k. p * slots + k) slots
 
 -- The list of the handles given to a peer: how many there are, and the ID and the slot of each.
 abbrev pub listLength : List ℕ → ℕ → ℕ
@@ -113,7 +120,7 @@ lookup h p i = pick (eqb (i % 4) 0) (foundOwn h p i) (foundListed h p i)
 -- What was found as a number, 128 where it is nothing.
 abbrev pub slotFound : Found → ℕ
 slotFound (At s) = s
-slotFound Nothing = 128
+slotFound Nothing = nodes
 
 unfoldable pub findAt : List ℕ → ℕ → ℕ → ℕ
 findAt h p i = slotFound (lookup h p i)
@@ -123,7 +130,7 @@ unfoldable pub totalBelow : List ℕ → ℕ → ℕ → ℕ
 totalBelow h s n = sumTo (λ q. countAt h q s) n
 
 unfoldable pub totalAt : List ℕ → ℕ → ℕ
-totalAt h s = totalBelow h s 8
+totalAt h s = totalBelow h s peers
 
 -- The peer holds a handle to the slot's node.
 abbrev pub heldAt : List ℕ → ℕ → ℕ → Bool
@@ -137,7 +144,7 @@ unfoldable pub holdersBelow : List ℕ → ℕ → ℕ → ℕ
 holdersBelow h s n = bits (λ q. heldAt h q s) n
 
 unfoldable pub holdersAt : List ℕ → ℕ → ℕ
-holdersAt h s = holdersBelow h s 8
+holdersAt h s = holdersBelow h s peers
 
 unfoldable pub putHandle : List ℕ → ℕ → ℕ → ℕ → ℕ → List ℕ
 putHandle h p s i c = set (set h (handleRow p s) i) (handleRow p s + 1) c
@@ -148,7 +155,7 @@ clearBelow h p zero = h
 clearBelow h p (suc n) = putHandle (clearBelow h p n) p n 0 0
 
 unfoldable pub clearPeer : List ℕ → ℕ → List ℕ
-clearPeer h p = putHandle (clearBelow h p 128) lengthBlock p 0 0
+clearPeer h p = putHandle (clearBelow h p nodes) lengthBlock p 0 0
 
 -- A new entry behind the list's last.
 unfoldable pub enlisted : List ℕ → ℕ → ℕ → ℕ → List ℕ

@@ -28,74 +28,75 @@ use Rattle.tables.specs.declared.Found.the-variants.{At, Nothing}
 use Rattle.laws.specs.Bits.{bit, bits, bits-ext, bits-first}
 use Rattle.laws.specs.Guards.{upto, upto-at, upto-ext, upto-upd}
 use Rattle.tables.specs.Peers.{modulus}
-use Rattle.tables.specs.Handles.{listBlock, lengthBlock, handlesSize, idAt, countAt, hasIn, hasAt, foundBy, foundOwn, listLength, listedId, wordAt, guessed, placeIn, spot, foundAmong, foundListed, lookup, slotFound, findAt, totalBelow, totalAt, heldAt, holdersBelow, holdersAt, putHandle, clearBelow, clearPeer, enlisted, shifted, takenOut, unlisted, raised, reduced}
+use Rattle.tables.specs.Handles.{handleRow, listBlock, lengthBlock, handlesSize, idAt, countAt, hasIn, hasAt, foundBy, foundOwn, listLength, listedId, wordAt, guessed, placeIn, spot, foundAmong, foundListed, lookup, slotFound, findAt, totalBelow, totalAt, heldAt, holdersBelow, holdersAt, putHandle, clearBelow, clearPeer, enlisted, shifted, takenOut, unlisted, raised, reduced}
+use Rattle.ids.specs.Sizes.{slots}
 
 abbrev pub handleIn : List ℕ → ℕ → ℕ → Handle
 handleIn h p s = handleOf (idAt h p s) (countAt h p s)
 
 -- A peer's handles; past the last slot there are none.
 unfoldable pub handlesOf : List ℕ → ℕ → ℕ → Handle
-handlesOf h p = upto 128 none (handleIn h p)
+handlesOf h p = upto nodes none (handleIn h p)
 
 -- The accessor: past the last peer there are none.
 unfoldable pub handleV : List ℕ → ℕ → ℕ → Handle
-handleV h = upto 8 (λ s. none) (handlesOf h)
+handleV h = upto peers (λ s. none) (handlesOf h)
 
-handles-of : (h : List ℕ) (p : ℕ) → p < 8 → handleV h p ≡ handlesOf h p
+handles-of : (h : List ℕ) (p : ℕ) → p < peers → handleV h p ≡ handlesOf h p
 unfolding handleV
-handles-of h p l = upto-at 8 (λ s. none) (handlesOf h) p l
+handles-of h p l = upto-at peers (λ s. none) (handlesOf h) p l
 
 -- One store: no other handle's two numbers are these two.
 pub odd : (a b : ℕ) → 2 * a + 1 ≡ 2 * b → ⊥
 odd a b e = omega arith
 
-pub place : (p s q t : ℕ) → s < 128 → t < 128 → p * 128 + s ≡ q * 128 + t → (p ≡ q) × (s ≡ t)
+pub place : (p s q t : ℕ) → s < nodes → t < nodes → p * nodes + s ≡ q * nodes + t → (p ≡ q) × (s ≡ t)
 place p s q t a b e = let x : p ≡ q = omega arith in (x, omega arith)
 
-module _ (h : List ℕ) (size : length h ≡ handlesSize) (p s i c : ℕ) (lp : p < 8) (ls : s < 128) (lc : c < modulus) where
+module _ (h : List ℕ) (size : length h ≡ handlesSize) (p s i c : ℕ) (lp : p < peers) (ls : s < nodes) (lc : c < modulus) where
   put-here : handleIn (putHandle h p s i c) p s ≡ handleOf i c
   unfolding putHandle
   put-here =
-      let old = set h (p * 256 + 2 * s) i in
+      let old = set h (handleRow p s) i in
       let m : c % modulus ≡ c = omega arith in
       rw (
-        getD-set-other old (p * 256 + 2 * s + 1) (p * 256 + 2 * s) c 0 (λ x. absurd (omega arith)),
-        getD-set-same h (p * 256 + 2 * s) i 0 (omega arith),
-        getD-set-same old (p * 256 + 2 * s + 1) c 0 (omega (arith, length-set h (p * 256 + 2 * s) i)),
+        getD-set-other old (handleRow p s + 1) (handleRow p s) c 0 (λ x. absurd (omega arith)),
+        getD-set-same h (handleRow p s) i 0 (omega arith),
+        getD-set-same old (handleRow p s + 1) c 0 (omega (arith, length-set h (handleRow p s) i)),
         m,
       )
 
-  pub put-else : (a : ℕ) → (p * 256 + 2 * s ≡ a → ⊥) → (p * 256 + 2 * s + 1 ≡ a → ⊥) → getD (putHandle h p s i c) a 0 ≡ getD h a 0
+  pub put-else : (a : ℕ) → (handleRow p s ≡ a → ⊥) → (handleRow p s + 1 ≡ a → ⊥) → getD (putHandle h p s i c) a 0 ≡ getD h a 0
   unfolding putHandle
   put-else a e f =
-      getD-set-other (set h (p * 256 + 2 * s) i) (p * 256 + 2 * s + 1) a c 0 (λ x. f (sym x)) ∙ getD-set-other h (p * 256 + 2 * s) a i 0 (λ x. e (sym x))
+      getD-set-other (set h (handleRow p s) i) (handleRow p s + 1) a c 0 (λ x. f (sym x)) ∙ getD-set-other h (handleRow p s) a i 0 (λ x. e (sym x))
 
-  put-there : (q t : ℕ) → t < 128 → (p ≡ q → s ≡ t → ⊥) → handleIn (putHandle h p s i c) q t ≡ handleIn h q t
+  put-there : (q t : ℕ) → t < nodes → (p ≡ q → s ≡ t → ⊥) → handleIn (putHandle h p s i c) q t ≡ handleIn h q t
   put-there q t lt ne =
       rw (
-        put-else (q * 256 + 2 * t) (λ x. let y = place p s q t ls lt (omega arith) in ne (y .0) (y .1)) (λ x. odd (p * 128 + s) (q * 128 + t) (omega arith)),
-        put-else (q * 256 + 2 * t + 1) (λ x. odd (q * 128 + t) (p * 128 + s) (omega arith)) (λ x. let y = place p s q t ls lt (omega arith) in ne (y .0) (y .1)),
+        put-else (handleRow q t) (λ x. let y = place p s q t ls lt (omega arith) in ne (y .0) (y .1)) (λ x. odd (p * nodes + s) (q * nodes + t) (omega arith)),
+        put-else (handleRow q t + 1) (λ x. odd (q * nodes + t) (p * nodes + s) (omega arith)) (λ x. let y = place p s q t ls lt (omega arith) in ne (y .0) (y .1)),
       )
 
   put-own : handlesOf (putHandle h p s i c) p ≡ upd (handlesOf h p) s (handleOf i c)
   unfolding handlesOf
   put-own =
-      upto-ext 128 none (handleIn (putHandle h p s i c) p) (upd (handleIn h p) s (handleOf i c)) (λ t lt. go t lt (same? s t))
-      ∙ upto-upd 128 none (handleIn h p) s (handleOf i c) ls
+      upto-ext nodes none (handleIn (putHandle h p s i c) p) (upd (handleIn h p) s (handleOf i c)) (λ t lt. go t lt (same? s t))
+      ∙ upto-upd nodes none (handleIn h p) s (handleOf i c) ls
     where
-      go : (t : ℕ) → t < 128 → Same s t → handleIn (putHandle h p s i c) p t ≡ upd (handleIn h p) s (handleOf i c) t
+      go : (t : ℕ) → t < nodes → Same s t → handleIn (putHandle h p s i c) p t ≡ upd (handleIn h p) s (handleOf i c) t
       go t lt (same e) = rw (← e, upd-same) put-here
       go t lt (other e) = rw (upd-other (handleIn h p) s t (handleOf i c) e) (put-there p t lt (λ _ y. e y))
 
   put-peer : (q : ℕ) → (p ≡ q → ⊥) → handlesOf (putHandle h p s i c) q ≡ handlesOf h q
   unfolding handlesOf
-  put-peer q e = upto-ext 128 none (handleIn (putHandle h p s i c) q) (handleIn h q) (λ t lt. put-there q t lt (λ y _. e y))
+  put-peer q e = upto-ext nodes none (handleIn (putHandle h p s i c) q) (handleIn h q) (λ t lt. put-there q t lt (λ y _. e y))
 
   pub handle-put : handleV (putHandle h p s i c) ≡ upd (handleV h) p (upd (handleV h p) s (handleOf i c))
   unfolding handleV
   handle-put =
-      ap (upto 8 (λ s. none)) (fun-ext (λ q. go q (same? p q)))
-      ∙ upto-upd 8 (λ s. none) (handlesOf h) p (upd (handlesOf h p) s (handleOf i c)) lp
+      ap (upto peers (λ s. none)) (fun-ext (λ q. go q (same? p q)))
+      ∙ upto-upd peers (λ s. none) (handlesOf h) p (upd (handlesOf h p) s (handleOf i c)) lp
       ∙ ap (λ (f : ℕ → Handle). upd (handleV h) p (upd f s (handleOf i c))) (sym (handles-of h p lp))
     where
       go : (q : ℕ) → Same p q → handlesOf (putHandle h p s i c) q ≡ upd (handlesOf h) p (upd (handlesOf h p) s (handleOf i c)) q
@@ -103,20 +104,20 @@ module _ (h : List ℕ) (size : length h ≡ handlesSize) (p s i c : ℕ) (lp : 
       go q (other e) = rw (upd-other (handlesOf h) p q (upd (handlesOf h p) s (handleOf i c)) e) (put-peer q e)
 
 -- A record behind the handles.
-module _ (h : List ℕ) (b k i c : ℕ) (far : 8 ≤ b) where
+module _ (h : List ℕ) (b k i c : ℕ) (far : peers ≤ b) where
   far-else : (a : ℕ) → a < 2048 → getD (putHandle h b k i c) a 0 ≡ getD h a 0
   unfolding putHandle
   far-else a l =
-      getD-set-other (set h (b * 256 + 2 * k) i) (b * 256 + 2 * k + 1) a c 0 (λ x. absurd (omega arith)) ∙ getD-set-other h (b * 256 + 2 * k) a i 0 (λ x. absurd (omega arith))
+      getD-set-other (set h (handleRow b k) i) (handleRow b k + 1) a c 0 (λ x. absurd (omega arith)) ∙ getD-set-other h (handleRow b k) a i 0 (λ x. absurd (omega arith))
 
-  far-own : (p : ℕ) → p < 8 → handlesOf (putHandle h b k i c) p ≡ handlesOf h p
+  far-own : (p : ℕ) → p < peers → handlesOf (putHandle h b k i c) p ≡ handlesOf h p
   unfolding handlesOf
   far-own p lp =
-      upto-ext 128 none (handleIn (putHandle h b k i c) p) (handleIn h p) (λ t lt. rw (far-else (p * 256 + 2 * t) (omega arith), far-else (p * 256 + 2 * t + 1) (omega arith)))
+      upto-ext nodes none (handleIn (putHandle h b k i c) p) (handleIn h p) (λ t lt. rw (far-else (handleRow p t) (omega arith), far-else (handleRow p t + 1) (omega arith)))
 
   pub handle-far : handleV (putHandle h b k i c) ≡ handleV h
   unfolding handleV
-  handle-far = upto-ext 8 (λ s. none) (handlesOf (putHandle h b k i c)) (handlesOf h) far-own
+  handle-far = upto-ext peers (λ s. none) (handlesOf (putHandle h b k i c)) (handlesOf h) far-own
 
 -- What is read.
 pub of-has : (a c i : ℕ) → hasId i (handleOf a c) ≡ pick (eqb c 0) false (eqb a i)
@@ -143,10 +144,10 @@ pub of-some : (a c : ℕ) → (c ≡ 0 → ⊥) → handleOf a c ≡ some a c
 of-some a zero n = absurd (n refl)
 of-some a (suc c) n = refl
 
-module _ (h : List ℕ) (p s : ℕ) (lp : p < 8) (ls : s < 128) where
+module _ (h : List ℕ) (p s : ℕ) (lp : p < peers) (ls : s < nodes) where
   pub handle-is : handleV h p s ≡ handleOf (idAt h p s) (countAt h p s)
   unfolding handlesOf
-  handle-is = rw (handles-of h p lp) (upto-at 128 none (handleIn h p) s ls)
+  handle-is = rw (handles-of h p lp) (upto-at nodes none (handleIn h p) s ls)
 
   pub count-is : countAt h p s ≡ count (handleV h p s)
   count-is = rw handle-is (sym (of-count (idAt h p s) (countAt h p s)))
@@ -204,15 +205,15 @@ module _ (h : List ℕ) (p i : ℕ) where
       go (is-true f) = absurd (not-at (rw f at e))
       go (is-false f) = let m : n ≤ k = ltb-false k n f in first-before t n j (omega (arith, m))
 
-  pub own-some : p < 8 → (s : ℕ) → foundOwn h p i ≡ At s → (s < 128) × (hasAt h p i s ≡ true)
+  pub own-some : p < peers → (s : ℕ) → foundOwn h p i ≡ At s → (s < nodes) × (hasAt h p i s ≡ true)
   unfolding foundOwn
-  own-some lp s e = let x = by-some (λ k. p * 16 + k) 16 s e in (omega (arith, x .1, x .2), x .3)
+  own-some lp s e = let x = by-some (λ k. p * slots + k) slots s e in (omega (arith, x .1, x .2), x .3)
 
-  pub own-none : foundOwn h p i ≡ Nothing → (k : ℕ) → k < 16 → hasAt h p i (p * 16 + k) ≡ false
+  pub own-none : foundOwn h p i ≡ Nothing → (k : ℕ) → k < slots → hasAt h p i (p * slots + k) ≡ false
   unfolding foundOwn
-  own-none e = by-none (λ k. p * 16 + k) 16 e
+  own-none e = by-none (λ k. p * slots + k) slots e
 
-  listed-small : (s : ℕ) → foundListed h p i ≡ At s → s < 128
+  listed-small : (s : ℕ) → foundListed h p i ≡ At s → s < nodes
   unfolding foundListed foundAmong
   listed-small s e = go (look (eqb n 0)) (look (eqb (listedId h p g) i)) (look (ltb k n)) (look (eqb (listedId h p k) i))
     where
@@ -225,25 +226,25 @@ module _ (h : List ℕ) (p i : ℕ) where
       k : ℕ
       k = placeIn h p i n
 
-      small : (x : ℕ) → At (x % 128) ≡ At s → s < 128
-      small x q = let y : x % 128 ≡ s = cc in omega arith
+      small : (x : ℕ) → At (x % nodes) ≡ At s → s < nodes
+      small x q = let y : x % nodes ≡ s = cc in omega arith
 
-      go : Seen (eqb n 0) → Seen (eqb (listedId h p g) i) → Seen (ltb k n) → Seen (eqb (listedId h p k) i) → s < 128
+      go : Seen (eqb n 0) → Seen (eqb (listedId h p g) i) → Seen (ltb k n) → Seen (eqb (listedId h p k) i) → s < nodes
       go (is-true z) x y w = absurd (not-nothing (rw z at e))
       go (is-false z) (is-true x) y w = small (wordAt h (listBlock p) g) (rw (z, x) at e)
       go (is-false z) (is-false x) (is-false y) w = absurd (not-nothing (rw (z, x, y) at e))
       go (is-false z) (is-false x) (is-true y) (is-true w) = small (wordAt h (listBlock p) k) (rw (z, x, y, w) at e)
       go (is-false z) (is-false x) (is-true y) (is-false w) = absurd (not-nothing (rw (z, x, y, w) at e))
 
-  lookup-small : p < 8 → (s : ℕ) → lookup h p i ≡ At s → s < 128
+  lookup-small : p < peers → (s : ℕ) → lookup h p i ≡ At s → s < nodes
   unfolding lookup
   lookup-small lp s e = go (look (eqb (i % 4) 0))
     where
-      go : Seen (eqb (i % 4) 0) → s < 128
+      go : Seen (eqb (i % 4) 0) → s < nodes
       go (is-true f) = own-some lp s (rw f at e) .0
       go (is-false f) = listed-small s (rw f at e)
 
-  pub lookup-at : p < 8 → (s : ℕ) → lookup h p i ≡ At s → (s ≡ findAt h p i) × (s < 128)
+  pub lookup-at : p < peers → (s : ℕ) → lookup h p i ≡ At s → (s ≡ findAt h p i) × (s < nodes)
   unfolding findAt
   lookup-at lp s e = (rw e, lookup-small lp s e)
 
@@ -261,14 +262,14 @@ any-bits t (suc n) = go (look (t n)) (any-bits t n)
     go (is-false e) ih = rw (e, zero-add) ih
 
 -- Sums over the peers are the model's.
-module _ (h : List ℕ) (s : ℕ) (ls : s < 128) where
+module _ (h : List ℕ) (s : ℕ) (ls : s < nodes) where
   pub total-is : totalAt h s ≡ total (handleV h) s
   unfolding totalAt totalBelow total
-  total-is = sum-ext (λ q. countAt h q s) (λ q. count (handleV h q s)) 8 (λ q lq. count-is h q s lq ls)
+  total-is = sum-ext (λ q. countAt h q s) (λ q. count (handleV h q s)) peers (λ q lq. count-is h q s lq ls)
 
   pub holders-are : holdersAt h s ≡ bits (λ q. held (handleV h q s)) peers
   unfolding holdersAt holdersBelow
-  holders-are = bits-ext (λ q. heldAt h q s) (λ q. held (handleV h q s)) 8 (λ q lq. sym (held-is h q s lq ls))
+  holders-are = bits-ext (λ q. heldAt h q s) (λ q. held (handleV h q s)) peers (λ q lq. sym (held-is h q s lq ls))
 
   pub holders-is : (b : State) → b .handle ≡ handleV h → holdersAt h s ≡ holdersOf b s
   unfolding holdersOf bits
@@ -276,11 +277,11 @@ module _ (h : List ℕ) (s : ℕ) (ls : s < 128) where
 
   -- the lowest bit is that of the first holder; there is none where nobody holds
   pub holders-first : trailingZeros 8 (holdersAt h s) ≡ first (λ q. held (handleV h q s)) peers
-  holders-first = rw holders-are (bits-first (λ q. held (handleV h q s)) 8)
+  holders-first = rw holders-are (bits-first (λ q. held (handleV h q s)) peers)
 
   pub holders-any : heldByAny (handleV h) s ≡ not (eqb (holdersAt h s) 0)
   unfolding heldByAny
-  holders-any = rw holders-are (any-bits (λ q. held (handleV h q s)) 8)
+  holders-any = rw holders-are (any-bits (λ q. held (handleV h q s)) peers)
 
 -- All handles of a peer gone.
 pub put-length : (h : List ℕ) (p s i c : ℕ) → length (putHandle h p s i c) ≡ length h
@@ -294,9 +295,9 @@ clear-below-length h p (suc n) = put-length (clearBelow h p n) p n 0 0 ∙ clear
 
 pub clear-length : (h : List ℕ) (p : ℕ) → length (clearPeer h p) ≡ length h
 unfolding clearPeer
-clear-length h p = put-length (clearBelow h p 128) lengthBlock p 0 0 ∙ clear-below-length h p 128
+clear-length h p = put-length (clearBelow h p nodes) lengthBlock p 0 0 ∙ clear-below-length h p nodes
 
-past : (h : List ℕ) (p t : ℕ) → ltb t 128 ≡ false → handlesOf h p t ≡ none
+past : (h : List ℕ) (p t : ℕ) → ltb t nodes ≡ false → handlesOf h p t ≡ none
 unfolding handlesOf upto
 past h p t e = rw e
 
@@ -315,8 +316,8 @@ above-more n f = fun-ext (λ t. go t (same? n t))
         again (is-true x) = let y : t < n = ltb-true t n x in rw (x, lt-ltb t (suc n) (omega arith))
         again (is-false x) = let y : n ≤ t = ltb-false t n x in rw (x, le-ltb t (suc n) (omega arith))
 
-module _ (h : List ℕ) (size : length h ≡ handlesSize) (p : ℕ) (lp : p < 8) where
-  clear-below : (n : ℕ) → n ≤ 128 → handleV (clearBelow h p n) ≡ upd (handleV h) p (above n (handleV h p))
+module _ (h : List ℕ) (size : length h ≡ handlesSize) (p : ℕ) (lp : p < peers) where
+  clear-below : (n : ℕ) → n ≤ nodes → handleV (clearBelow h p n) ≡ upd (handleV h) p (above n (handleV h p))
   unfolding clearBelow
   clear-below zero l = sym (upd-self (handleV h) p (above 0 (handleV h p)) (fun-ext (λ t. rw (le-ltb t 0 (omega arith)))))
   clear-below (suc n) l =
@@ -327,9 +328,9 @@ module _ (h : List ℕ) (size : length h ≡ handlesSize) (p : ℕ) (lp : p < 8)
 
   pub handle-clear : handleV (clearPeer h p) ≡ upd (handleV h) p (λ s. none)
   unfolding clearPeer
-  handle-clear = handle-far (clearBelow h p 128) lengthBlock p 0 0 (omega arith) ∙ clear-below 128 (omega arith) ∙ ap (upd (handleV h) p) (fun-ext (λ t. go t (look (ltb t 128))))
+  handle-clear = handle-far (clearBelow h p nodes) lengthBlock p 0 0 (omega arith) ∙ clear-below nodes (omega arith) ∙ ap (upd (handleV h) p) (fun-ext (λ t. go t (look (ltb t nodes))))
     where
-      go : (t : ℕ) → Seen (ltb t 128) → above 128 (handleV h p) t ≡ none
+      go : (t : ℕ) → Seen (ltb t nodes) → above nodes (handleV h p) t ≡ none
       go t (is-true e) = rw e
       go t (is-false e) = rw (e, handles-of h p lp) (past h p t e)
 
@@ -373,7 +374,7 @@ module _ (h : List ℕ) (p i : ℕ) where
   unlist-length = unlist-cases (λ x. length x ≡ length h) refl (λ k n. put-length (shifted h p k (n - 1 - k)) lengthBlock p (n - 1) (listedId (shifted h p k (n - 1 - k)) p (n - 1 - 1)) ∙ shift-length h p k (n - 1 - k))
 
 -- One reference more, and one less, seen.
-module _ (h : List ℕ) (size : length h ≡ handlesSize) (p s : ℕ) (lp : p < 8) (ls : s < 128) where
+module _ (h : List ℕ) (size : length h ≡ handlesSize) (p s : ℕ) (lp : p < peers) (ls : s < nodes) where
   pub handle-raised : (i : ℕ) → countAt h p s + 1 < modulus → handleV (raised h p s i) ≡ upd (handleV h) p (upd (handleV h p) s (handleOf i (countAt h p s + 1)))
   unfolding raised
   handle-raised i lc =

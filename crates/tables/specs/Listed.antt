@@ -24,6 +24,7 @@ use Rattle.tables.specs.Peers.{modulus}
 use Rattle.tables.specs.Handles.{listBlock, lengthBlock, handlesSize, halvings, handleRow, idAt, countAt, hasIn, hasAt, foundOwn, listLength, listedId, wordAt, listedSlot, guess, guessed, atLeast, placeIn, spot, foundAmong, foundListed, lookup, slotFound, findAt, putHandle, clearBelow, clearPeer, enlisted, shifted, takenOut, unlisted, raised, reduced}
 use Rattle.tables.specs.HandlesView.{handleV, handle-is, handle-put, handle-far, of-has, own-some, own-none, put-else, place, odd, put-length, enlist-handles, unlist-handles, shift-handles, shift-length, not-nothing, not-at, of-some, handle-clear, clear-below-length}
 use Rattle.tables.specs.Fresh.{handle-fresh}
+use Rattle.ids.specs.Sizes.{slots}
 
 -- A handle that the bus gave: not both low bits of its ID are clear.
 abbrev pub isGiven : Handle → ℕ
@@ -32,17 +33,17 @@ isGiven (some i c) = pick (eqb (i % 4) 0) 0 1
 
 -- A list of n IDs and slots, ascending, has exactly the given ones of the handles f.
 pub record Lists (n : ℕ) (ids slots : ℕ → ℕ) (f : ℕ → Handle) : Type 0 where
-  pub number : n ≡ sumTo (λ s. isGiven (f s)) 128
+  pub number : n ≡ sumTo (λ s. isGiven (f s)) nodes
   pub rising : (j k : ℕ) → j < k → k < n → ids j < ids k
-  pub sound : (k : ℕ) → k < n → (slots k < 128) × (eqb (ids k % 4) 0 ≡ false) × ((c : ℕ) × (f (slots k) ≡ some (ids k) c))
-  pub complete : (s i c : ℕ) → s < 128 → f s ≡ some i c → (i % 4 ≡ 0 → ⊥) → (k : ℕ) × (k < n) × (slots k ≡ s)
+  pub sound : (k : ℕ) → k < n → (slots k < nodes) × (eqb (ids k % 4) 0 ≡ false) × ((c : ℕ) × (f (slots k) ≡ some (ids k) c))
+  pub complete : (s i c : ℕ) → s < nodes → f s ≡ some i c → (i % 4 ≡ 0 → ⊥) → (k : ℕ) × (k < n) × (slots k ≡ s)
 
 -- The list of the peer p in the table.
 abbrev pub Listed : List ℕ → ℕ → Type 0
 Listed h p = Lists (idAt h lengthBlock p) (listedId h p) (listedSlot h p) (handleV h p)
 
 abbrev pub AllListed : List ℕ → Type 0
-AllListed h = (p : ℕ) → p < 8 → Listed h p
+AllListed h = (p : ℕ) → p < peers → Listed h p
 
 -- Of handles: the same ID, no other.
 some-id : {i j c d : ℕ} → some i c ≡ some j d → i ≡ j
@@ -72,7 +73,7 @@ none-sum (suc k) = omega (arith, none-sum k)
 pub lists-none : (ids slots : ℕ → ℕ) → Lists 0 ids slots (λ s. none)
 lists-none ids slots =
     record {
-      number = sym (none-sum 128);
+      number = sym (none-sum nodes);
       rising = λ j k l m. absurd (omega arith);
       sound = λ k l. absurd (omega arith);
       complete = λ s i c l e g. absurd (not-some e);
@@ -89,20 +90,20 @@ module _ {n : ℕ} {ids slots : ℕ → ℕ} {f : ℕ → Handle} (w : Lists n i
         complete = λ s i c l e g. let x = w .complete s i c l e g in (x .0, x .1, b (x .0) (x .1) ∙ x .2);
       }
 
-  pub lists-few : n ≤ 128
-  lists-few = omega (arith, w .number, sum-most (λ s. isGiven (f s)) 128 (λ j. given-few (f j)))
+  pub lists-few : n ≤ nodes
+  lists-few = omega (arith, w .number, sum-most (λ s. isGiven (f s)) nodes (λ j. given-few (f j)))
 
-  sum-changed : (s : ℕ) (x : Handle) → s < 128 → sumTo (λ t. isGiven (upd f s x t)) 128 + isGiven (f s) ≡ n + isGiven x
+  sum-changed : (s : ℕ) (x : Handle) → s < nodes → sumTo (λ t. isGiven (upd f s x t)) nodes + isGiven (f s) ≡ n + isGiven x
   sum-changed s x ls =
-      ap (λ (g : ℕ → ℕ). sumTo g 128 + isGiven (f s)) (upd-map isGiven f s x) ∙ sum-upd (λ t. isGiven (f t)) s (isGiven x) 128 ls ∙ ap (λ (m : ℕ). m + isGiven x) (sym (w .number))
+      ap (λ (g : ℕ → ℕ). sumTo g nodes + isGiven (f s)) (upd-map isGiven f s x) ∙ sum-upd (λ t. isGiven (f t)) s (isGiven x) nodes ls ∙ ap (λ (m : ℕ). m + isGiven x) (sym (w .number))
 
   -- a slot without a given handle leaves room
-  pub lists-room : (s : ℕ) → s < 128 → isGiven (f s) ≡ 0 → n < 128
+  pub lists-room : (s : ℕ) → s < nodes → isGiven (f s) ≡ 0 → n < nodes
   lists-room s ls z =
-      omega (arith, sum-changed s (some 1 1) ls, z, sum-most (λ t. isGiven (upd f s (some 1 1) t)) 128 (λ j. given-few (upd f s (some 1 1) j)))
+      omega (arith, sum-changed s (some 1 1) ls, z, sum-most (λ t. isGiven (upd f s (some 1 1) t)) nodes (λ j. given-few (upd f s (some 1 1) j)))
 
   -- a change of a handle's count
-  pub lists-count : (s i c d : ℕ) → s < 128 → f s ≡ some i c → Lists n ids slots (upd f s (some i d))
+  pub lists-count : (s i c d : ℕ) → s < nodes → f s ≡ some i c → Lists n ids slots (upd f s (some i d))
   lists-count s i c d ls e =
       record {
         number = omega (arith, sum-changed s (some i d) ls, ap isGiven e);
@@ -117,7 +118,7 @@ module _ {n : ℕ} {ids slots : ℕ → ℕ} {f : ℕ → Handle} (w : Lists n i
           (d, rw (← q, upd-same) (ap (λ (v : ℕ). some v d) y))
       here k x (other q) = (x .0, upd-other f s (slots k) (some i d) q ∙ x .1)
 
-      there : (t j b : ℕ) → t < 128 → upd f s (some i d) t ≡ some j b → (j % 4 ≡ 0 → ⊥) → Same s t → (k : ℕ) × (k < n) × (slots k ≡ t)
+      there : (t j b : ℕ) → t < nodes → upd f s (some i d) t ≡ some j b → (j % 4 ≡ 0 → ⊥) → Same s t → (k : ℕ) × (k < n) × (slots k ≡ t)
       there t j b lt q g (same y) =
           let z : i ≡ j = some-id (sym (upd-same f s (some i d)) ∙ ap (upd f s (some i d)) y ∙ q) in
           let x = w .complete s i c ls e (rw z g) in
@@ -125,7 +126,7 @@ module _ {n : ℕ} {ids slots : ℕ → ℕ} {f : ℕ → Handle} (w : Lists n i
       there t j b lt q g (other y) = w .complete t j b lt (sym (upd-other f s t (some i d) y) ∙ q) g
 
   -- a change between handles that the bus did not give
-  pub lists-chosen : (s : ℕ) (x : Handle) → s < 128 → isGiven (f s) ≡ 0 → isGiven x ≡ 0 → Lists n ids slots (upd f s x)
+  pub lists-chosen : (s : ℕ) (x : Handle) → s < nodes → isGiven (f s) ≡ 0 → isGiven x ≡ 0 → Lists n ids slots (upd f s x)
   lists-chosen s x ls z v =
       record {
         number = omega (arith, sum-changed s x ls);
@@ -134,18 +135,18 @@ module _ {n : ℕ} {ids slots : ℕ → ℕ} {f : ℕ → Handle} (w : Lists n i
         complete = λ t j b lt q g. there t j b lt q g (same? s t);
       }
     where
-      here : (k : ℕ) → (slots k < 128) × (eqb (ids k % 4) 0 ≡ false) × ((c : ℕ) × (f (slots k) ≡ some (ids k) c)) → Same s (slots k) → (b : ℕ) × (upd f s x (slots k) ≡ some (ids k) b)
+      here : (k : ℕ) → (slots k < nodes) × (eqb (ids k % 4) 0 ≡ false) × ((c : ℕ) × (f (slots k) ≡ some (ids k) c)) → Same s (slots k) → (b : ℕ) × (upd f s x (slots k) ≡ some (ids k) b)
       here k y (same q) = absurd (omega (arith, z, ap (λ (t : ℕ). isGiven (f t)) q, given-one (f (slots k)) (ids k) (y .2 .0) (y .2 .1) (y .1)))
       here k y (other q) = (y .2 .0, upd-other f s (slots k) x q ∙ y .2 .1)
 
-      there : (t j b : ℕ) → t < 128 → upd f s x t ≡ some j b → (j % 4 ≡ 0 → ⊥) → Same s t → (k : ℕ) × (k < n) × (slots k ≡ t)
+      there : (t j b : ℕ) → t < nodes → upd f s x t ≡ some j b → (j % 4 ≡ 0 → ⊥) → Same s t → (k : ℕ) × (k < n) × (slots k ≡ t)
       there t j b lt q g (same y) =
           let u : x ≡ some j b = sym (upd-same f s x) ∙ ap (upd f s x) y ∙ q in
           absurd (omega (arith, v, given-one x j b u (ne-eqb (j % 4) 0 g)))
       there t j b lt q g (other y) = w .complete t j b lt (sym (upd-other f s t x y) ∙ q) g
 
   -- a new ID above all that are listed
-  pub lists-enter : (s i c : ℕ) → s < 128 → f s ≡ none → eqb (i % 4) 0 ≡ false → ((k : ℕ) → k < n → ids k < i) →
+  pub lists-enter : (s i c : ℕ) → s < nodes → f s ≡ none → eqb (i % 4) 0 ≡ false → ((k : ℕ) → k < n → ids k < i) →
       (ids′ slots′ : ℕ → ℕ) → ((k : ℕ) → k < n → ids′ k ≡ ids k) → ids′ n ≡ i → ((k : ℕ) → k < n → slots′ k ≡ slots k) → slots′ n ≡ s →
       Lists (n + 1) ids′ slots′ (upd f s (some i c))
   lists-enter s i c ls e odd above ids′ slots′ a a′ b b′ =
@@ -160,7 +161,7 @@ module _ {n : ℕ} {ids slots : ℕ → ℕ} {f : ℕ → Handle} (w : Lists n i
       up j k l m (same q) = rw (q, a′, a j (omega arith)) (above j (omega arith))
       up j k l m (other q) = let v : k < n = omega (arith, q) in rw (a j (omega arith), a k v) (w .rising j k l v)
 
-      right : (k : ℕ) → k < n + 1 → Same k n → (slots′ k < 128) × (eqb (ids′ k % 4) 0 ≡ false) × ((d : ℕ) × (upd f s (some i c) (slots′ k) ≡ some (ids′ k) d))
+      right : (k : ℕ) → k < n + 1 → Same k n → (slots′ k < nodes) × (eqb (ids′ k % 4) 0 ≡ false) × ((d : ℕ) × (upd f s (some i c) (slots′ k) ≡ some (ids′ k) d))
       right k m (same q) = rw (q, a′, b′) (ls, odd, (c, upd-same f s (some i c)))
       right k m (other q) =
           let v : k < n = omega (arith, q) in
@@ -168,7 +169,7 @@ module _ {n : ℕ} {ids slots : ℕ → ℕ} {f : ℕ → Handle} (w : Lists n i
           rw (a k v, b k v)
           (x .0, x .1, (x .2 .0, upd-other f s (slots k) (some i c) (λ y. not-some (sym e ∙ ap f y ∙ x .2 .1)) ∙ x .2 .1))
 
-      there : (t j d : ℕ) → t < 128 → upd f s (some i c) t ≡ some j d → (j % 4 ≡ 0 → ⊥) → Same s t → (k : ℕ) × (k < n + 1) × (slots′ k ≡ t)
+      there : (t j d : ℕ) → t < nodes → upd f s (some i c) t ≡ some j d → (j % 4 ≡ 0 → ⊥) → Same s t → (k : ℕ) × (k < n + 1) × (slots′ k ≡ t)
       there t j d lt q g (same y) = (n, omega arith, b′ ∙ y)
       there t j d lt q g (other y) =
           let x = w .complete t j d lt (sym (upd-other f s t (some i c) y) ∙ q) g in
@@ -213,7 +214,7 @@ module _ {n : ℕ} {ids slots : ℕ → ℕ} {f : ℕ → Handle} (w : Lists n i
       held-still : (j : ℕ) → j < n → (j ≡ k → ⊥) → (d : ℕ) × (upd f s none (slots j) ≡ some (ids j) d)
       held-still j l ne = let x = w .sound j l in (x .2 .0, upd-other f s (slots j) none (apart j l ne) ∙ x .2 .1)
 
-      right : (j : ℕ) → j < n - 1 → Seen (ltb j k) → (slots′ j < 128) × (eqb (ids′ j % 4) 0 ≡ false) × ((d : ℕ) × (upd f s none (slots′ j) ≡ some (ids′ j) d))
+      right : (j : ℕ) → j < n - 1 → Seen (ltb j k) → (slots′ j < nodes) × (eqb (ids′ j % 4) 0 ≡ false) × ((d : ℕ) × (upd f s none (slots′ j) ≡ some (ids′ j) d))
       right j m (is-true x) =
           let l : j < n = omega arith in
           let lt : j < k = ltb-true j k x in
@@ -223,7 +224,7 @@ module _ {n : ℕ} {ids slots : ℕ → ℕ} {f : ℕ → Handle} (w : Lists n i
           let ge : k ≤ j = ltb-false j k x in
           rw (a′ j ge m, b′ j ge m) (w .sound (j + 1) l .0, w .sound (j + 1) l .1, held-still (j + 1) l (λ q. absurd (omega arith)))
 
-      there : (t j d : ℕ) → t < 128 → upd f s none t ≡ some j d → (j % 4 ≡ 0 → ⊥) → Same s t → (m : ℕ) × (m < n - 1) × (slots′ m ≡ t)
+      there : (t j d : ℕ) → t < nodes → upd f s none t ≡ some j d → (j % 4 ≡ 0 → ⊥) → Same s t → (m : ℕ) × (m < n - 1) × (slots′ m ≡ t)
       there t j d lt q g (same y) = absurd (not-some (sym (upd-same f s none) ∙ ap (upd f s none) y ∙ q))
       there t j d lt q g (other y) =
           let x = w .complete t j d lt (sym (upd-other f s t none y) ∙ q) g in
@@ -259,8 +260,8 @@ spot-of h p i l k lk e = go (look (eqb (listedId h p g) i))
     go (is-false x) = rw x (place-of h p i l (idAt h lengthBlock p) k (omega arith) lk e)
 
 -- On a bus of a run the lookup is the model's: two handles of a peer have two IDs, an ID with its two low bits clear is that of an own node, and any other is listed.
-module _ (h : List ℕ) (p g : ℕ) (lp : p < 8) (w : Handles p g (handleV h p)) (l : Listed h p) (i : ℕ) where
-  has-is : (s : ℕ) → s < 128 → hasAt h p i s ≡ hasId i (handleV h p s)
+module _ (h : List ℕ) (p g : ℕ) (lp : p < peers) (w : Handles p g (handleV h p)) (l : Listed h p) (i : ℕ) where
+  has-is : (s : ℕ) → s < nodes → hasAt h p i s ≡ hasId i (handleV h p s)
   unfolding hasAt hasIn
   has-is s ls = rw (handle-is h p s lp ls) (sym (of-has (idAt h p s) (countAt h p s) i))
 
@@ -270,9 +271,9 @@ module _ (h : List ℕ) (p g : ℕ) (lp : p < 8) (w : Handles p g (handleV h p))
   has-some (some j c) e = let y : j ≡ i = eqb-true j i e in (c, rw y)
 
   -- the slot of the ID, if it is held
-  slot-is : (s : ℕ) → s < 128 → hasId i (handleV h p s) ≡ true → s ≡ slotOf (handleV h p) i
+  slot-is : (s : ℕ) → s < nodes → hasId i (handleV h p s) ≡ true → s ≡ slotOf (handleV h p) i
   unfolding slotOf
-  slot-is s ls e = first-is (λ t. hasId i (handleV h p t)) 128 s (omega arith) (λ t lt. go t lt (look (hasId i (handleV h p t)))) (λ _. e)
+  slot-is s ls e = first-is (λ t. hasId i (handleV h p t)) nodes s (omega arith) (λ t lt. go t lt (look (hasId i (handleV h p t)))) (λ _. e)
     where
       go : (t : ℕ) → t < s → Seen (hasId i (handleV h p t)) → hasId i (handleV h p t) ≡ false
       go t lt (is-true f) =
@@ -282,15 +283,15 @@ module _ (h : List ℕ) (p g : ℕ) (lp : p < 8) (w : Handles p g (handleV h p))
       go t lt (is-false f) = f
 
   -- no slot has it
-  slot-none : ((s : ℕ) → s < 128 → hasId i (handleV h p s) ≡ false) → 128 ≡ slotOf (handleV h p) i
+  slot-none : ((s : ℕ) → s < nodes → hasId i (handleV h p s) ≡ false) → nodes ≡ slotOf (handleV h p) i
   unfolding slotOf
-  slot-none none-has = first-is (λ t. hasId i (handleV h p t)) 128 128 (omega arith) none-has (λ l. absurd (omega arith))
+  slot-none none-has = first-is (λ t. hasId i (handleV h p t)) nodes nodes (omega arith) none-has (λ l. absurd (omega arith))
 
   -- a chosen ID is that of an own node
-  own-place : i % 4 ≡ 0 → (s : ℕ) → hasId i (handleV h p s) ≡ true → s / 16 ≡ p
-  own-place e s f = go (same? (s / 16) p)
+  own-place : i % 4 ≡ 0 → (s : ℕ) → hasId i (handleV h p s) ≡ true → s / slots ≡ p
+  own-place e s f = go (same? (s / slots) p)
     where
-      go : Same (s / 16) p → s / 16 ≡ p
+      go : Same (s / slots) p → s / slots ≡ p
       go (same o) = o
       go (other ne) =
           let x = has-some (handleV h p s) f in
@@ -301,13 +302,13 @@ module _ (h : List ℕ) (p g : ℕ) (lp : p < 8) (w : Handles p g (handleV h p))
   all-of-it = omega (arith, lists-few l)
 
   -- the slot of an entry has its ID
-  entry-has : (k : ℕ) → k < idAt h lengthBlock p → listedId h p k ≡ i → (listedSlot h p k < 128) × (hasId i (handleV h p (listedSlot h p k)) ≡ true)
+  entry-has : (k : ℕ) → k < idAt h lengthBlock p → listedId h p k ≡ i → (listedSlot h p k < nodes) × (hasId i (handleV h p (listedSlot h p k)) ≡ true)
   entry-has k lk e = let x = l .sound k lk in (x .0, ap (hasId i) (x .2 .1) ∙ eq-eqb (listedId h p k) i e)
 
   place-is : (m k : ℕ) → m ≤ idAt h lengthBlock p → k < m → listedId h p k ≡ i → placeIn h p i m ≡ k
   place-is = place-of h p i l
 
-  listed-some : (s : ℕ) → foundListed h p i ≡ At s → (s < 128) × (hasId i (handleV h p s) ≡ true)
+  listed-some : (s : ℕ) → foundListed h p i ≡ At s → (s < nodes) × (hasId i (handleV h p s) ≡ true)
   unfolding foundListed foundAmong
   listed-some s e = go (look (eqb n 0)) (look (eqb (listedId h p x) i)) (look (ltb k n)) (look (eqb (listedId h p k) i))
     where
@@ -320,13 +321,13 @@ module _ (h : List ℕ) (p g : ℕ) (lp : p < 8) (w : Handles p g (handleV h p))
       k : ℕ
       k = placeIn h p i n
 
-      entry : (j : ℕ) → j < n → eqb (listedId h p j) i ≡ true → At (listedSlot h p j) ≡ At s → (s < 128) × (hasId i (handleV h p s) ≡ true)
+      entry : (j : ℕ) → j < n → eqb (listedId h p j) i ≡ true → At (listedSlot h p j) ≡ At s → (s < nodes) × (hasId i (handleV h p s) ≡ true)
       entry j lj f q =
           let y : listedSlot h p j ≡ s = cc in
           let v = entry-has j (omega (arith, all-of-it)) (eqb-true (listedId h p j) i f) in
           rw (← y) v
 
-      go : Seen (eqb n 0) → Seen (eqb (listedId h p x) i) → Seen (ltb k n) → Seen (eqb (listedId h p k) i) → (s < 128) × (hasId i (handleV h p s) ≡ true)
+      go : Seen (eqb n 0) → Seen (eqb (listedId h p x) i) → Seen (ltb k n) → Seen (eqb (listedId h p k) i) → (s < nodes) × (hasId i (handleV h p s) ≡ true)
       go (is-true z) q y w = absurd (not-nothing (rw z at e))
       go (is-false z) (is-true q) y w = entry x (omega (arith, eqb-false n 0 z)) q (rw (z, q) at e)
       go (is-false z) (is-false q) (is-false y) w = absurd (not-nothing (rw (z, q, y) at e))
@@ -348,15 +349,15 @@ module _ (h : List ℕ) (p g : ℕ) (lp : p < 8) (w : Handles p g (handleV h p))
           let c : placeIn h p i n ≡ j = place-is n j (omega (arith, all-of-it)) m q in
           not-at (rw (z, x, c, lt-ltb j n m, eq-eqb (listedId h p j) i q) at e)
 
-  missed-own : i % 4 ≡ 0 → foundOwn h p i ≡ Nothing → (s : ℕ) → s < 128 → Seen (hasId i (handleV h p s)) → hasId i (handleV h p s) ≡ false
+  missed-own : i % 4 ≡ 0 → foundOwn h p i ≡ Nothing → (s : ℕ) → s < nodes → Seen (hasId i (handleV h p s)) → hasId i (handleV h p s) ≡ false
   missed-own c n s ls (is-false f) = f
   missed-own c n s ls (is-true f) =
-      let o : s / 16 ≡ p = own-place c s f in
-      let y : p * 16 + s % 16 ≡ s = omega arith in
-      let x : hasAt h p i s ≡ false = rw y at (own-none h p i n (s % 16) (omega arith)) in
+      let o : s / slots ≡ p = own-place c s f in
+      let y : p * slots + s % slots ≡ s = omega arith in
+      let x : hasAt h p i s ≡ false = rw y at (own-none h p i n (s % slots) (omega arith)) in
       sym (has-is s ls) ∙ x
 
-  missed-listed : (i % 4 ≡ 0 → ⊥) → foundListed h p i ≡ Nothing → (s : ℕ) → s < 128 → Seen (hasId i (handleV h p s)) → hasId i (handleV h p s) ≡ false
+  missed-listed : (i % 4 ≡ 0 → ⊥) → foundListed h p i ≡ Nothing → (s : ℕ) → s < nodes → Seen (hasId i (handleV h p s)) → hasId i (handleV h p s) ≡ false
   missed-listed c n s ls (is-false f) = f
   missed-listed c n s ls (is-true f) =
       let x = has-some (handleV h p s) f in
@@ -375,30 +376,30 @@ module _ (h : List ℕ) (p g : ℕ) (lp : p < 8) (w : Handles p g (handleV h p))
       go (is-false f) x d Nothing e = rw (f, e) (slot-none (λ s ls. missed-listed (eqb-false (i % 4) 0 f) e s ls (look (hasId i (handleV h p s)))))
 
 -- Stores of one record.
-module _ (h : List ℕ) (b k x y : ℕ) (lk : k < 128) where
+module _ (h : List ℕ) (b k x y : ℕ) (lk : k < nodes) where
   record-else : (a : ℕ) → (handleRow b k ≡ a → ⊥) → (handleRow b k + 1 ≡ a → ⊥) → getD (putHandle h b k x y) a 0 ≡ getD h a 0
   unfolding putHandle
   record-else a e f =
-      getD-set-other (set h (b * 256 + 2 * k) x) (b * 256 + 2 * k + 1) a y 0 (λ q. f (sym q)) ∙ getD-set-other h (b * 256 + 2 * k) a x 0 (λ q. e (sym q))
+      getD-set-other (set h (handleRow b k) x) (handleRow b k + 1) a y 0 (λ q. f (sym q)) ∙ getD-set-other h (handleRow b k) a x 0 (λ q. e (sym q))
 
-  record-kept : (c j : ℕ) → j < 128 → (b ≡ c → k ≡ j → ⊥) → (idAt (putHandle h b k x y) c j ≡ idAt h c j) × (wordAt (putHandle h b k x y) c j ≡ wordAt h c j)
+  record-kept : (c j : ℕ) → j < nodes → (b ≡ c → k ≡ j → ⊥) → (idAt (putHandle h b k x y) c j ≡ idAt h c j) × (wordAt (putHandle h b k x y) c j ≡ wordAt h c j)
   record-kept c j lj ne = (
-    record-else (c * 256 + 2 * j) (λ q. let z = place b k c j lk lj (omega arith) in ne (z .0) (z .1)) (λ q. odd (b * 128 + k) (c * 128 + j) (omega arith)),
-    record-else (c * 256 + 2 * j + 1) (λ q. odd (c * 128 + j) (b * 128 + k) (omega arith)) (λ q. let z = place b k c j lk lj (omega arith) in ne (z .0) (z .1)),
+    record-else (handleRow c j) (λ q. let z = place b k c j lk lj (omega arith) in ne (z .0) (z .1)) (λ q. odd (b * nodes + k) (c * nodes + j) (omega arith)),
+    record-else (handleRow c j + 1) (λ q. odd (c * nodes + j) (b * nodes + k) (omega arith)) (λ q. let z = place b k c j lk lj (omega arith) in ne (z .0) (z .1)),
   )
 
   record-put : handleRow b k + 1 < length h → (idAt (putHandle h b k x y) b k ≡ x) × (wordAt (putHandle h b k x y) b k ≡ y)
   unfolding putHandle
   record-put l =
-      let old = set h (b * 256 + 2 * k) x in (
-        getD-set-other old (b * 256 + 2 * k + 1) (b * 256 + 2 * k) y 0 (λ q. absurd (omega arith)) ∙ getD-set-same h (b * 256 + 2 * k) x 0 (omega arith),
-        getD-set-same old (b * 256 + 2 * k + 1) y 0 (omega (arith, length-set h (b * 256 + 2 * k) x)),
+      let old = set h (handleRow b k) x in (
+        getD-set-other old (handleRow b k + 1) (handleRow b k) y 0 (λ q. absurd (omega arith)) ∙ getD-set-same h (handleRow b k) x 0 (omega arith),
+        getD-set-same old (handleRow b k + 1) y 0 (omega (arith, length-set h (handleRow b k) x)),
       )
 
 -- Two tables with the same list of a peer.
 pub record SameList (h h′ : List ℕ) (q : ℕ) : Type 0 where
   pub size : idAt h′ lengthBlock q ≡ idAt h lengthBlock q
-  pub entry : (k : ℕ) → k < 128 → (listedId h′ q k ≡ listedId h q k) × (wordAt h′ (listBlock q) k ≡ wordAt h (listBlock q) k)
+  pub entry : (k : ℕ) → k < nodes → (listedId h′ q k ≡ listedId h q k) × (wordAt h′ (listBlock q) k ≡ wordAt h (listBlock q) k)
 
 list-refl : (h : List ℕ) (q : ℕ) → SameList h h q
 list-refl h q = record { size = refl; entry = λ k l. (refl, refl) }
@@ -406,7 +407,7 @@ list-refl h q = record { size = refl; entry = λ k l. (refl, refl) }
 list-then : {h h′ h″ : List ℕ} {q : ℕ} → SameList h h′ q → SameList h′ h″ q → SameList h h″ q
 list-then a b = record { size = b .size ∙ a .size; entry = λ k l. (b .entry k l .0 ∙ a .entry k l .0, b .entry k l .1 ∙ a .entry k l .1) }
 
-list-kept : (h : List ℕ) (b k x y : ℕ) → k < 128 → (q : ℕ) → q < 8 → (b ≡ listBlock q → ⊥) → (b ≡ lengthBlock → k ≡ q → ⊥) → SameList h (putHandle h b k x y) q
+list-kept : (h : List ℕ) (b k x y : ℕ) → k < nodes → (q : ℕ) → q < peers → (b ≡ listBlock q → ⊥) → (b ≡ lengthBlock → k ≡ q → ⊥) → SameList h (putHandle h b k x y) q
 list-kept h b k x y lk q lq ne nf =
     record {
       size = record-kept h b k x y lk lengthBlock q (omega arith) nf .0;
@@ -416,11 +417,11 @@ list-kept h b k x y lk q lq ne nf =
 listed-from : {h h′ : List ℕ} (q : ℕ) → Listed h q → SameList h h′ q → handleV h′ q ≡ handleV h q → Listed h′ q
 listed-from {h} {h′} q w a e =
     rw (a .size, e)
-    (lists-ext w (listedId h′ q) (listedSlot h′ q) (λ k l. a .entry k (omega (arith, lists-few w)) .0) (λ k l. ap (λ (x : ℕ). x % 128) (a .entry k (omega (arith, lists-few w)) .1)))
+    (lists-ext w (listedId h′ q) (listedSlot h′ q) (λ k l. a .entry k (omega (arith, lists-few w)) .0) (λ k l. ap (λ (x : ℕ). x % nodes) (a .entry k (omega (arith, lists-few w)) .1)))
 
 -- The other peers' lists.
 abbrev Others : List ℕ → ℕ → Type 0
-Others h p = (q : ℕ) → q < 8 → (p ≡ q → ⊥) → Listed h q
+Others h p = (q : ℕ) → q < peers → (p ≡ q → ⊥) → Listed h q
 
 both-peers : (h : List ℕ) (p : ℕ) → Others h p → Listed h p → AllListed h
 both-peers h p o l q lq = go (same? p q)
@@ -430,8 +431,8 @@ both-peers h p o l q lq = go (same? p q)
     go (other e) = o q lq e
 
 -- A handle stored: the lists stay.
-module _ (h : List ℕ) (size : length h ≡ handlesSize) (p s i c : ℕ) (lp : p < 8) (ls : s < 128) (lc : c < modulus) where
-  put-list : (q : ℕ) → q < 8 → SameList h (putHandle h p s i c) q
+module _ (h : List ℕ) (size : length h ≡ handlesSize) (p s i c : ℕ) (lp : p < peers) (ls : s < nodes) (lc : c < modulus) where
+  put-list : (q : ℕ) → q < peers → SameList h (putHandle h p s i c) q
   put-list q lq = list-kept h p s i c ls q lq (λ e. absurd (omega arith)) (λ e d. absurd (omega arith))
 
   put-others : AllListed h → Others (putHandle h p s i c) p
@@ -449,14 +450,14 @@ module _ (h : List ℕ) (size : length h ≡ handlesSize) (p s i c : ℕ) (lp : 
       let a = put-list p lp in
       rw (a .size)
       (lists-ext w (listedId (putHandle h p s i c) p) (listedSlot (putHandle h p s i c) p) (λ k l. a .entry k (omega (arith, lists-few w)) .0)
-      (λ k l. ap (λ (x : ℕ). x % 128) (a .entry k (omega (arith, lists-few w)) .1)))
+      (λ k l. ap (λ (x : ℕ). x % nodes) (a .entry k (omega (arith, lists-few w)) .1)))
 
   pub listed-put : AllListed h → Lists (idAt h lengthBlock p) (listedId h p) (listedSlot h p) (upd (handleV h p) s (handleOf i c)) → AllListed (putHandle h p s i c)
   listed-put a w = both-peers (putHandle h p s i c) p (put-others a) (rw put-own (put-lists w))
 
 -- A new entry.
-module _ (h : List ℕ) (size : length h ≡ handlesSize) (p : ℕ) (lp : p < 8) (o : Others h p) where
-  pub listed-enlisted : {f : ℕ → Handle} → Lists (idAt h lengthBlock p) (listedId h p) (listedSlot h p) f → (s i c : ℕ) → s < 128 → f s ≡ none → eqb (i % 4) 0 ≡ false →
+module _ (h : List ℕ) (size : length h ≡ handlesSize) (p : ℕ) (lp : p < peers) (o : Others h p) where
+  pub listed-enlisted : {f : ℕ → Handle} → Lists (idAt h lengthBlock p) (listedId h p) (listedSlot h p) f → (s i c : ℕ) → s < nodes → f s ≡ none → eqb (i % 4) 0 ≡ false →
       ((k : ℕ) → k < idAt h lengthBlock p → listedId h p k < i) → handleV h p ≡ upd f s (some i c) → AllListed (enlisted h p i s)
   unfolding enlisted
   listed-enlisted {f} w s i c ls e odd above v = both-peers h₂ p others own
@@ -470,13 +471,13 @@ module _ (h : List ℕ) (size : length h ≡ handlesSize) (p : ℕ) (lp : p < 8)
       h₂ : List ℕ
       h₂ = putHandle h₁ lengthBlock p (n + 1) i
 
-      room : idAt h lengthBlock p < 128
+      room : idAt h lengthBlock p < nodes
       room = lists-room w s ls (ap isGiven e)
 
       whole : n ≡ idAt h lengthBlock p
       whole = omega (arith, room)
 
-      ln : n < 128
+      ln : n < nodes
       ln = omega (arith, room, whole)
 
       far : handleV h₂ ≡ handleV h
@@ -491,7 +492,7 @@ module _ (h : List ℕ) (size : length h ≡ handlesSize) (p : ℕ) (lp : p < 8)
       inside : handleRow lengthBlock p + 1 < length h₁
       inside = omega (arith, size, put-length h (listBlock p) n i s)
 
-      older : (k : ℕ) → k < 128 → (n ≡ k → ⊥) → (listedId h₂ p k ≡ listedId h p k) × (wordAt h₂ (listBlock p) k ≡ wordAt h (listBlock p) k)
+      older : (k : ℕ) → k < nodes → (n ≡ k → ⊥) → (listedId h₂ p k ≡ listedId h p k) × (wordAt h₂ (listBlock p) k ≡ wordAt h (listBlock p) k)
       older k lk ne =
           let a = record-kept h₁ lengthBlock p (n + 1) i (omega arith) (listBlock p) k lk (λ z y. absurd (omega arith)) in
           let b = record-kept h (listBlock p) n i s ln (listBlock p) k lk (λ z y. ne y) in
@@ -510,18 +511,18 @@ module _ (h : List ℕ) (size : length h ≡ handlesSize) (p : ℕ) (lp : p < 8)
           rw (z, y)
           (lists-enter w s i c ls e odd above (listedId h₂ p) (listedSlot h₂ p) (λ k l. older k (omega (arith, room)) (λ q. absurd (omega (arith, whole))) .0)
           (ap (listedId h₂ p) (sym whole) ∙ newest .0)
-          (λ k l. ap (λ (x : ℕ). x % 128) (older k (omega (arith, room)) (λ q. absurd (omega (arith, whole))) .1))
-          (ap (listedSlot h₂ p) (sym whole) ∙ ap (λ (x : ℕ). x % 128) (newest .1) ∙ small))
+          (λ k l. ap (λ (x : ℕ). x % nodes) (older k (omega (arith, room)) (λ q. absurd (omega (arith, whole))) .1))
+          (ap (listedSlot h₂ p) (sym whole) ∙ ap (λ (x : ℕ). x % nodes) (newest .1) ∙ small))
         where
-          small : s % 128 ≡ s
+          small : s % nodes ≡ s
           small = omega (arith, ls)
 
 -- Entries shifted down.
-module _ (h : List ℕ) (size : length h ≡ handlesSize) (p k : ℕ) (lp : p < 8) where
+module _ (h : List ℕ) (size : length h ≡ handlesSize) (p k : ℕ) (lp : p < peers) where
   abbrev Entry : List ℕ → ℕ → ℕ → Type 0
   Entry g j i = (listedId g p j ≡ listedId h p i) × (wordAt g (listBlock p) j ≡ wordAt h (listBlock p) i)
 
-  shift-before : (m : ℕ) → k + m < 128 → (j : ℕ) → j < k → Entry (shifted h p k m) j j
+  shift-before : (m : ℕ) → k + m < nodes → (j : ℕ) → j < k → Entry (shifted h p k m) j j
   unfolding shifted
   shift-before zero l j lj = (refl, refl)
   shift-before (suc m) l j lj =
@@ -530,7 +531,7 @@ module _ (h : List ℕ) (size : length h ≡ handlesSize) (p k : ℕ) (lp : p < 
       let b = shift-before m (omega arith) j lj in
       (a .0 ∙ b .0, a .1 ∙ b .1)
 
-  shift-after : (m : ℕ) → k + m < 128 → (j : ℕ) → j < 128 → k + m ≤ j → Entry (shifted h p k m) j j
+  shift-after : (m : ℕ) → k + m < nodes → (j : ℕ) → j < nodes → k + m ≤ j → Entry (shifted h p k m) j j
   unfolding shifted
   shift-after zero l j lj le = (refl, refl)
   shift-after (suc m) l j lj le =
@@ -539,7 +540,7 @@ module _ (h : List ℕ) (size : length h ≡ handlesSize) (p k : ℕ) (lp : p < 
       let b = shift-after m (omega arith) j lj (omega arith) in
       (a .0 ∙ b .0, a .1 ∙ b .1)
 
-  shift-moved : (m : ℕ) → k + m < 128 → (j : ℕ) → k ≤ j → j < k + m → Entry (shifted h p k m) j (j + 1)
+  shift-moved : (m : ℕ) → k + m < nodes → (j : ℕ) → k ≤ j → j < k + m → Entry (shifted h p k m) j (j + 1)
   unfolding shifted
   shift-moved zero l j ge lt = absurd (omega arith)
   shift-moved (suc m) l j ge lt = go (same? (k + m) j) (shift-moved m)
@@ -547,7 +548,7 @@ module _ (h : List ℕ) (size : length h ≡ handlesSize) (p k : ℕ) (lp : p < 
       g : List ℕ
       g = shifted h p k m
 
-      go : Same (k + m) j → (k + m < 128 → (j : ℕ) → k ≤ j → j < k + m → Entry (shifted h p k m) j (j + 1)) → Entry (shifted h p k (suc m)) j (j + 1)
+      go : Same (k + m) j → (k + m < nodes → (j : ℕ) → k ≤ j → j < k + m → Entry (shifted h p k m) j (j + 1)) → Entry (shifted h p k (suc m)) j (j + 1)
       go (same e) ih =
           let a = record-put g (listBlock p) (k + m) (idAt g (listBlock p) (k + m + 1)) (wordAt g (listBlock p) (k + m + 1)) (omega arith) (omega (arith, size, shift-length h p k m)) in
           let b = shift-after m (omega arith) (k + m + 1) (omega arith) (omega arith) in
@@ -557,7 +558,7 @@ module _ (h : List ℕ) (size : length h ≡ handlesSize) (p k : ℕ) (lp : p < 
           let b = ih (omega arith) j ge (omega (arith, e)) in
           (a .0 ∙ b .0, a .1 ∙ b .1)
 
-  shift-list : (m : ℕ) → k + m < 128 → (q : ℕ) → q < 8 → (p ≡ q → ⊥) → SameList h (shifted h p k m) q
+  shift-list : (m : ℕ) → k + m < nodes → (q : ℕ) → q < peers → (p ≡ q → ⊥) → SameList h (shifted h p k m) q
   unfolding shifted
   shift-list zero l q lq ne = list-refl h q
   shift-list (suc m) l q lq ne =
@@ -566,7 +567,7 @@ module _ (h : List ℕ) (size : length h ≡ handlesSize) (p k : ℕ) (lp : p < 
       (list-kept g (listBlock p) (k + m) (idAt g (listBlock p) (k + m + 1)) (wordAt g (listBlock p) (k + m + 1)) (omega arith) q lq (λ x. ne (omega arith)) (λ x y. absurd (omega arith)))
 
 -- An entry gone.
-module _ (h : List ℕ) (size : length h ≡ handlesSize) (p : ℕ) (lp : p < 8) (o : Others h p) {f : ℕ → Handle} (w : Lists (idAt h lengthBlock p) (listedId h p) (listedSlot h p) f) where
+module _ (h : List ℕ) (size : length h ≡ handlesSize) (p : ℕ) (lp : p < peers) (o : Others h p) {f : ℕ → Handle} (w : Lists (idAt h lengthBlock p) (listedId h p) (listedSlot h p) f) where
   taken-listed : (k s : ℕ) → k < idAt h lengthBlock p → listedSlot h p k ≡ s → handleV h p ≡ upd f s none → AllListed (takenOut h p k (idAt h lengthBlock p))
   unfolding takenOut
   taken-listed k s lk e v = both-peers h₂ p others own
@@ -574,7 +575,7 @@ module _ (h : List ℕ) (size : length h ≡ handlesSize) (p : ℕ) (lp : p < 8)
       n : ℕ
       n = idAt h lengthBlock p
 
-      few : n ≤ 128
+      few : n ≤ nodes
       few = lists-few w
 
       m : ℕ
@@ -589,7 +590,7 @@ module _ (h : List ℕ) (size : length h ≡ handlesSize) (p : ℕ) (lp : p < 8)
       h₂ : List ℕ
       h₂ = putHandle h₁ lengthBlock p (n - 1) newest
 
-      lm : k + m < 128
+      lm : k + m < nodes
       lm = omega (arith, few, lk)
 
       far : handleV h₂ ≡ handleV h
@@ -601,7 +602,7 @@ module _ (h : List ℕ) (size : length h ≡ handlesSize) (p : ℕ) (lp : p < 8)
           (list-then (shift-list h size p k lp m lm q lq ne) (list-kept h₁ lengthBlock p (n - 1) newest (omega arith) q lq (λ z. absurd (omega arith)) (λ z y. ne y)))
           (ap (λ (g : ℕ → ℕ → Handle). g q) far)
 
-      last : (j : ℕ) → j < 128 → (listedId h₂ p j ≡ listedId h₁ p j) × (wordAt h₂ (listBlock p) j ≡ wordAt h₁ (listBlock p) j)
+      last : (j : ℕ) → j < nodes → (listedId h₂ p j ≡ listedId h₁ p j) × (wordAt h₂ (listBlock p) j ≡ wordAt h₁ (listBlock p) j)
       last j lj = record-kept h₁ lengthBlock p (n - 1) newest (omega arith) (listBlock p) j lj (λ z y. absurd (omega arith))
 
       low : (j : ℕ) → j < k → (listedId h₂ p j ≡ listedId h p j) × (wordAt h₂ (listBlock p) j ≡ wordAt h (listBlock p) j)
@@ -621,10 +622,10 @@ module _ (h : List ℕ) (size : length h ≡ handlesSize) (p : ℕ) (lp : p < 8)
           let z : idAt h₂ lengthBlock p ≡ n - 1 = record-put h₁ lengthBlock p (n - 1) newest (omega arith) (omega (arith, size, shift-length h p k m)) .0 in
           let y : handleV h₂ p ≡ upd f s none = ap (λ (g : ℕ → ℕ → Handle). g p) far ∙ v in
           rw (z, y)
-          (lists-remove w k s lk e (listedId h₂ p) (listedSlot h₂ p) (λ j l. low j l .0) (λ j a b. high j a b .0) (λ j l. ap (λ (x : ℕ). x % 128) (low j l .1))
-          (λ j a b. ap (λ (x : ℕ). x % 128) (high j a b .1)))
+          (lists-remove w k s lk e (listedId h₂ p) (listedSlot h₂ p) (λ j l. low j l .0) (λ j a b. high j a b .0) (λ j l. ap (λ (x : ℕ). x % nodes) (low j l .1))
+          (λ j a b. ap (λ (x : ℕ). x % nodes) (high j a b .1)))
 
-  pub listed-unlisted : (s i c : ℕ) → s < 128 → f s ≡ some i c → (i % 4 ≡ 0 → ⊥) → handleV h p ≡ upd f s none → AllListed (unlisted h p i)
+  pub listed-unlisted : (s i c : ℕ) → s < nodes → f s ≡ some i c → (i % 4 ≡ 0 → ⊥) → handleV h p ≡ upd f s none → AllListed (unlisted h p i)
   unfolding unlisted
   listed-unlisted s i c ls e odd v =
       let n = idAt h lengthBlock p in
@@ -641,7 +642,7 @@ unfolding unlisted
 unlisted-chosen h p i e = rw e
 
 -- What a command does to the handles keeps the lists.
-module _ (h : List ℕ) (size : length h ≡ handlesSize) (p s : ℕ) (lp : p < 8) (ls : s < 128) (a : AllListed h) where
+module _ (h : List ℕ) (size : length h ≡ handlesSize) (p s : ℕ) (lp : p < peers) (ls : s < nodes) (a : AllListed h) where
   -- the handle of a new node
   pub listed-made : (i : ℕ) → isGiven (handleV h p s) ≡ 0 → i % 4 ≡ 0 → AllListed (putHandle h p s i 1)
   listed-made i z e = listed-put h size p s i 1 lp ls (omega arith) a (lists-chosen (a p lp) s (some i 1) ls z (rw (eq-eqb (i % 4) 0 e)))
@@ -669,7 +670,7 @@ module _ (h : List ℕ) (size : length h ≡ handlesSize) (p s : ℕ) (lp : p < 
           let z : c ≡ 0 = eqb-true c 0 e in
           let n : handleV h p s ≡ none = handle-is h p s lp ls ∙ ap (handleOf (idAt h p s)) z in
           let t = put-list h size p s i (c + 1) lp ls lc p lp in
-          let few : idAt h lengthBlock p ≤ 128 = lists-few (a p lp) in
+          let few : idAt h lengthBlock p ≤ nodes = lists-few (a p lp) in
           rw e
           (listed-enlisted g (put-length h p s i (c + 1) ∙ size) p lp (put-others h size p s i (c + 1) lp ls lc a) (put-lists h size p s i (c + 1) lp ls lc (a p lp)) s i (c + 1) ls n
           (new z .0)
@@ -716,20 +717,20 @@ module _ (h : List ℕ) (size : length h ≡ handlesSize) (p s : ℕ) (lp : p < 
           (put-own h size p s i (c - 1) lp ls lc ∙ ap (upd (handleV h p) s) gone))
 
 -- All handles of a peer gone.
-module _ (h : List ℕ) (size : length h ≡ handlesSize) (p : ℕ) (lp : p < 8) (a : AllListed h) where
-  clear-list : (n : ℕ) → n ≤ 128 → (q : ℕ) → q < 8 → SameList h (clearBelow h p n) q
+module _ (h : List ℕ) (size : length h ≡ handlesSize) (p : ℕ) (lp : p < peers) (a : AllListed h) where
+  clear-list : (n : ℕ) → n ≤ nodes → (q : ℕ) → q < peers → SameList h (clearBelow h p n) q
   unfolding clearBelow
   clear-list zero l q lq = list-refl h q
   clear-list (suc n) l q lq =
       list-then (clear-list n (omega arith) q lq) (list-kept (clearBelow h p n) p n 0 0 (omega arith) q lq (λ e. absurd (omega arith)) (λ e d. absurd (omega arith)))
 
-  cleared-list : (q : ℕ) → q < 8 → (p ≡ q → ⊥) → SameList h (clearPeer h p) q
+  cleared-list : (q : ℕ) → q < peers → (p ≡ q → ⊥) → SameList h (clearPeer h p) q
   unfolding clearPeer
-  cleared-list q lq ne = list-then (clear-list 128 (omega arith) q lq) (list-kept (clearBelow h p 128) lengthBlock p 0 0 (omega arith) q lq (λ e. absurd (omega arith)) (λ e d. ne d))
+  cleared-list q lq ne = list-then (clear-list nodes (omega arith) q lq) (list-kept (clearBelow h p nodes) lengthBlock p 0 0 (omega arith) q lq (λ e. absurd (omega arith)) (λ e d. ne d))
 
   cleared-empty : idAt (clearPeer h p) lengthBlock p ≡ 0
   unfolding clearPeer
-  cleared-empty = record-put (clearBelow h p 128) lengthBlock p 0 0 (omega arith) (omega (arith, size, clear-below-length h p 128)) .0
+  cleared-empty = record-put (clearBelow h p nodes) lengthBlock p 0 0 (omega arith) (omega (arith, size, clear-below-length h p nodes)) .0
 
   pub listed-cleared : AllListed (clearPeer h p)
   listed-cleared = both-peers (clearPeer h p) p others own

@@ -5,12 +5,13 @@ use mathlib.Core.Bool.{Bool}
 use mathlib.Core.List.{List}
 use lib.ListN.{getD, set}
 use lib.Dec.{eqb}
+use Rattle.ids.specs.Sizes.{nodeFields}
 
 abbrev pub liveAt : List ℕ → ℕ → Bool
-liveAt ns s = eqb (getD ns (2 * s) 0) 1
+liveAt ns s = eqb (getD ns (nodeFields * s) 0) 1
 
 unfoldable pub setLive : List ℕ → ℕ → List ℕ
-setLive ns s = set ns (2 * s) 1
+setLive ns s = set ns (nodeFields * s) 1
 
 unfoldable pub setDead : List ℕ → ℕ → ℕ → List ℕ
-setDead ns s n = set (set ns (2 * s) 0) (2 * s + 1) n
+setDead ns s n = set (set ns (nodeFields * s) 0) (nodeFields * s + 1) n

@@ -13,51 +13,53 @@ use Rattle.model.specs.State.{Life, isLive}
 use Rattle.model.specs.State.Life.{live, dead}
 use Rattle.laws.specs.Guards.{upto, upto-at, upto-upd}
 use Rattle.tables.specs.Nodes.{liveAt, setLive, setDead}
+use Rattle.ids.specs.Sizes.{nodeFields, nodesSize}
+use Rattle.model.specs.Numbers.{nodes}
 
 unfoldable pub lifeAt : List ℕ → ℕ → Life
-lifeAt ns s = pick (liveAt ns s) live (dead (getD ns (2 * s + 1) 0))
+lifeAt ns s = pick (liveAt ns s) live (dead (getD ns (nodeFields * s + 1) 0))
 
 -- The accessor: past the last slot, a node that was never made.
 unfoldable pub lifeV : List ℕ → ℕ → Life
-lifeV ns = upto 128 (dead 0) (lifeAt ns)
+lifeV ns = upto nodes (dead 0) (lifeAt ns)
 
-module _ (ns : List ℕ) (size : length ns ≡ 256) (s : ℕ) (l : s < 128) where
+module _ (ns : List ℕ) (size : length ns ≡ nodesSize) (s : ℕ) (l : s < nodes) where
   live-here : lifeAt (setLive ns s) s ≡ live
   unfolding lifeAt setLive
-  live-here = rw (getD-set-same ns (2 * s) 1 0 (omega arith))
+  live-here = rw (getD-set-same ns (nodeFields * s) 1 0 (omega arith))
 
   live-there : (t : ℕ) → (s ≡ t → ⊥) → lifeAt (setLive ns s) t ≡ lifeAt ns t
   unfolding lifeAt setLive
   live-there t e =
       rw (
-        getD-set-other ns (2 * s) (2 * t) 1 0 (λ x. absurd (e (omega arith))),
-        getD-set-other ns (2 * s) (2 * t + 1) 1 0 (λ x. absurd (omega arith)),
+        getD-set-other ns (nodeFields * s) (nodeFields * t) 1 0 (λ x. absurd (e (omega arith))),
+        getD-set-other ns (nodeFields * s) (nodeFields * t + 1) 1 0 (λ x. absurd (omega arith)),
       )
 
   dead-here : (n : ℕ) → lifeAt (setDead ns s n) s ≡ dead n
   unfolding lifeAt setDead
   dead-here n =
-      let old = set ns (2 * s) 0 in
+      let old = set ns (nodeFields * s) 0 in
       rw (
-        getD-set-other old (2 * s + 1) (2 * s) n 0 (λ x. absurd (omega arith)),
-        getD-set-same ns (2 * s) 0 0 (omega arith),
-        getD-set-same old (2 * s + 1) n 0 (omega (arith, length-set ns (2 * s) 0)),
+        getD-set-other old (nodeFields * s + 1) (nodeFields * s) n 0 (λ x. absurd (omega arith)),
+        getD-set-same ns (nodeFields * s) 0 0 (omega arith),
+        getD-set-same old (nodeFields * s + 1) n 0 (omega (arith, length-set ns (nodeFields * s) 0)),
       )
 
   dead-there : (n t : ℕ) → (s ≡ t → ⊥) → lifeAt (setDead ns s n) t ≡ lifeAt ns t
   unfolding lifeAt setDead
   dead-there n t e =
-      let old = set ns (2 * s) 0 in
+      let old = set ns (nodeFields * s) 0 in
       rw (
-        getD-set-other old (2 * s + 1) (2 * t) n 0 (λ x. absurd (omega arith)),
-        getD-set-other ns (2 * s) (2 * t) 0 0 (λ x. absurd (e (omega arith))),
-        getD-set-other old (2 * s + 1) (2 * t + 1) n 0 (λ x. absurd (e (omega arith))),
-        getD-set-other ns (2 * s) (2 * t + 1) 0 0 (λ x. absurd (omega arith)),
+        getD-set-other old (nodeFields * s + 1) (nodeFields * t) n 0 (λ x. absurd (omega arith)),
+        getD-set-other ns (nodeFields * s) (nodeFields * t) 0 0 (λ x. absurd (e (omega arith))),
+        getD-set-other old (nodeFields * s + 1) (nodeFields * t + 1) n 0 (λ x. absurd (e (omega arith))),
+        getD-set-other ns (nodeFields * s) (nodeFields * t + 1) 0 0 (λ x. absurd (omega arith)),
       )
 
   pub life-live : lifeV (setLive ns s) ≡ upd (lifeV ns) s live
   unfolding lifeV
-  life-live = ap (upto 128 (dead 0)) (fun-ext (λ t. go t (same? s t))) ∙ upto-upd 128 (dead 0) (lifeAt ns) s live l
+  life-live = ap (upto nodes (dead 0)) (fun-ext (λ t. go t (same? s t))) ∙ upto-upd nodes (dead 0) (lifeAt ns) s live l
     where
       go : (t : ℕ) → Same s t → lifeAt (setLive ns s) t ≡ upd (lifeAt ns) s live t
       go t (same e) = rw (← e, upd-same) live-here
@@ -65,18 +67,18 @@ module _ (ns : List ℕ) (size : length ns ≡ 256) (s : ℕ) (l : s < 128) wher
 
   pub life-dead : (n : ℕ) → lifeV (setDead ns s n) ≡ upd (lifeV ns) s (dead n)
   unfolding lifeV
-  life-dead n = ap (upto 128 (dead 0)) (fun-ext (λ t. go t (same? s t))) ∙ upto-upd 128 (dead 0) (lifeAt ns) s (dead n) l
+  life-dead n = ap (upto nodes (dead 0)) (fun-ext (λ t. go t (same? s t))) ∙ upto-upd nodes (dead 0) (lifeAt ns) s (dead n) l
     where
       go : (t : ℕ) → Same s t → lifeAt (setDead ns s n) t ≡ upd (lifeAt ns) s (dead n) t
       go t (same e) = rw (← e, upd-same) (dead-here n)
       go t (other e) = rw (upd-other (lifeAt ns) s t (dead n) e) (dead-there n t e)
 
 -- What is read.
-pub live-is : (ns : List ℕ) (s : ℕ) → s < 128 → liveAt ns s ≡ isLive (lifeV ns s)
+pub live-is : (ns : List ℕ) (s : ℕ) → s < nodes → liveAt ns s ≡ isLive (lifeV ns s)
 unfolding lifeV lifeAt
-live-is ns s l = rw (upto-at 128 (dead 0) (lifeAt ns) s l) (go (liveAt ns s))
+live-is ns s l = rw (upto-at nodes (dead 0) (lifeAt ns) s l) (go (liveAt ns s))
   where
-    go : (b : Bool) → b ≡ isLive (pick b live (dead (getD ns (2 * s + 1) 0)))
+    go : (b : Bool) → b ≡ isLive (pick b live (dead (getD ns (nodeFields * s + 1) 0)))
     go true = refl
     go false = refl
 

@@ -1,11 +1,13 @@
 -- The table of peers, 25 numbers: the accepted commands, then for each peer its state (1 open, 2 disconnected, else never opened), its user and how many IDs the bus has given it.
 -- Assumes nothing.
-use Prim.Native.Nat.{ℕ, _+_, _*_, _%_}
+use Prim.Native.Nat.{ℕ, _+_, _*_, _%_, _^_}
+use mathlib.Core.Path.{_≡_, refl}
 use mathlib.Core.List.{List}
 use lib.ListN.{getD, set}
 use lib.Dec.{eqb}
 use Rattle.laws.specs.Tests.{pick}
 use Rattle.ids.specs.Refusals.{EBADF, ESHUTDOWN}
+use Rattle.ids.specs.Sizes.{peerFields}
 use Rattle.tables.specs.declared.Status.{Status}
 use Rattle.tables.specs.declared.Status.the-variants.{Unopened, Open, Disconnected}
 
@@ -13,9 +15,12 @@ use Rattle.tables.specs.declared.Status.the-variants.{Unopened, Open, Di
 abbrev pub modulus : ℕ
 modulus = 1152921504606846976
 
+pub modulus-is : modulus ≡ 2 ^ 60
+modulus-is = refl
+
 -- The place of a peer's state; its user and its given IDs stand behind it.
 abbrev pub peerRow : ℕ → ℕ
-peerRow p = 1 + 3 * p
+peerRow p = 1 + peerFields * p
 
 abbrev pub acceptedAt : List ℕ → ℕ
 acceptedAt ps = getD ps 0 0 % modulus
@@ -23,9 +28,15 @@ acceptedAt ps = getD ps 0 0 % modulus
 abbrev pub stateAt : List ℕ → ℕ → ℕ
 stateAt ps p = getD ps (peerRow p) 0
 
--- What a state says: 1 open, 2 disconnected, else never opened.
+-- What a state says: open, disconnected, else never opened.
+abbrev pub stateOpen : ℕ
+stateOpen = 1
+
+abbrev pub stateDisconnected : ℕ
+stateDisconnected = 2
+
 abbrev pub statusOf : ℕ → Status
-statusOf x = pick (eqb x 1) Open (pick (eqb x 2) Disconnected Unopened)
+statusOf x = pick (eqb x stateOpen) Open (pick (eqb x stateDisconnected) Disconnected Unopened)
 
 unfoldable pub statusAt : List ℕ → ℕ → Status
 statusAt ps p = statusOf (stateAt ps p)
@@ -46,10 +57,10 @@ abbrev pub givenAt : List ℕ → ℕ → ℕ
 givenAt ps p = getD ps (peerRow p + 2) 0 % modulus
 
 unfoldable pub setOpen : List ℕ → ℕ → ℕ → List ℕ
-setOpen ps p u = set (set ps (peerRow p) 1) (peerRow p + 1) u
+setOpen ps p u = set (set ps (peerRow p) stateOpen) (peerRow p + 1) u
 
 unfoldable pub setDisconnected : List ℕ → ℕ → List ℕ
-setDisconnected ps p = set ps (peerRow p) 2
+setDisconnected ps p = set ps (peerRow p) stateDisconnected
 
 unfoldable pub setGiven : List ℕ → ℕ → ℕ → List ℕ
 setGiven ps p n = set ps (peerRow p + 2) n

@@ -17,6 +17,7 @@ use Rattle.tables.specs.declared.Status.{Status}
 use Rattle.tables.specs.declared.Status.the-variants.{Unopened, Open, Disconnected}
 use Rattle.laws.specs.Guards.{upto, upto-at, upto-upd}
 use Rattle.tables.specs.Peers.{modulus, peerRow, acceptedAt, stateAt, statusOf, statusAt, refusalOf, standingAt, userAt, givenAt, setOpen, setDisconnected, setGiven, nextNumber, countCommand}
+use Rattle.ids.specs.Sizes.{peers, peersSize}
 
 -- The three numbers of a peer.
 pub record PeerRow : Type 0 where
@@ -59,7 +60,7 @@ givenIn r = r .given % modulus
 
 -- A column of the eight peers, d past them.
 unfoldable pub column : {A : Type 0} → (PeerRow → A) → A → List ℕ → ℕ → A
-column g d ps = upto 8 d (λ q. g (rowAt ps q))
+column g d ps = upto peers d (λ q. g (rowAt ps q))
 
 -- The accessors.
 unfoldable pub statusV : List ℕ → ℕ → model.Status
@@ -75,56 +76,56 @@ unfoldable pub acceptedV : List ℕ → ℕ
 acceptedV ps = acceptedAt ps
 
 module _ {A : Type 0} (g : PeerRow → A) (d : A) where
-  column-at : (ps : List ℕ) (p : ℕ) → p < 8 → column g d ps p ≡ g (rowAt ps p)
+  column-at : (ps : List ℕ) (p : ℕ) → p < peers → column g d ps p ≡ g (rowAt ps p)
   unfolding column
-  column-at ps p l = upto-at 8 d (λ q. g (rowAt ps q)) p l
+  column-at ps p l = upto-at peers d (λ q. g (rowAt ps q)) p l
 
   column-rows : (ps qs : List ℕ) → rowAt qs ≡ rowAt ps → column g d qs ≡ column g d ps
   unfolding column
-  column-rows ps qs e = ap (λ (f : ℕ → PeerRow). upto 8 d (λ q. g (f q))) e
+  column-rows ps qs e = ap (λ (f : ℕ → PeerRow). upto peers d (λ q. g (f q))) e
 
   module _ (ps qs : List ℕ) (p : ℕ) (r : PeerRow) (e : rowAt qs ≡ upd (rowAt ps) p r) where
-    column-row : column g d qs ≡ upto 8 d (upd (λ q. g (rowAt ps q)) p (g r))
+    column-row : column g d qs ≡ upto peers d (upd (λ q. g (rowAt ps q)) p (g r))
     unfolding column
-    column-row = ap (λ (f : ℕ → PeerRow). upto 8 d (λ q. g (f q))) e ∙ ap (upto 8 d) (upd-map g (rowAt ps) p r)
+    column-row = ap (λ (f : ℕ → PeerRow). upto peers d (λ q. g (f q))) e ∙ ap (upto peers d) (upd-map g (rowAt ps) p r)
 
-    column-upd : p < 8 → column g d qs ≡ upd (column g d ps) p (g r)
+    column-upd : p < peers → column g d qs ≡ upd (column g d ps) p (g r)
     unfolding column
-    column-upd l = column-row ∙ upto-upd 8 d (λ q. g (rowAt ps q)) p (g r) l
+    column-upd l = column-row ∙ upto-upd peers d (λ q. g (rowAt ps q)) p (g r) l
 
     column-keep : g r ≡ g (rowAt ps p) → column g d qs ≡ column g d ps
     unfolding column
-    column-keep h = column-row ∙ ap (upto 8 d) (upd-self (λ q. g (rowAt ps q)) p (g r) h)
+    column-keep h = column-row ∙ ap (upto peers d) (upd-self (λ q. g (rowAt ps q)) p (g r) h)
 
 -- One row written.
-module _ (ps : List ℕ) (size : length ps ≡ 25) (p : ℕ) (l : p < 8) where
+module _ (ps : List ℕ) (size : length ps ≡ peersSize) (p : ℕ) (l : p < peers) where
   open-row : (u : ℕ) → rowAt (setOpen ps p u) ≡ upd (rowAt ps) p (openRow ps p u)
   unfolding rowAt setOpen
   open-row u = fun-ext (λ q. go q (same? p q))
     where
       one : List ℕ
-      one = set ps (1 + 3 * p) 1
+      one = set ps (peerRow p) 1
 
       go : (q : ℕ) → Same p q → rowAt (setOpen ps p u) q ≡ upd (rowAt ps) p (openRow ps p u) q
       go q (same e) =
           rw (
             ← e,
             upd-same,
-            getD-set-other one (1 + 3 * p + 1) (1 + 3 * p) u 0 (λ x. absurd (omega arith)),
-            getD-set-same ps (1 + 3 * p) 1 0 (omega arith),
-            getD-set-same one (1 + 3 * p + 1) u 0 (omega (arith, length-set ps (1 + 3 * p) 1)),
-            getD-set-other one (1 + 3 * p + 1) (1 + 3 * p + 2) u 0 (λ x. absurd (omega arith)),
-            getD-set-other ps (1 + 3 * p) (1 + 3 * p + 2) 1 0 (λ x. absurd (omega arith)),
+            getD-set-other one (peerRow p + 1) (peerRow p) u 0 (λ x. absurd (omega arith)),
+            getD-set-same ps (peerRow p) 1 0 (omega arith),
+            getD-set-same one (peerRow p + 1) u 0 (omega (arith, length-set ps (peerRow p) 1)),
+            getD-set-other one (peerRow p + 1) (peerRow p + 2) u 0 (λ x. absurd (omega arith)),
+            getD-set-other ps (peerRow p) (peerRow p + 2) 1 0 (λ x. absurd (omega arith)),
           )
       go q (other e) =
           rw (
             upd-other (rowAt ps) p q (openRow ps p u) e,
-            getD-set-other one (1 + 3 * p + 1) (1 + 3 * q) u 0 (λ x. absurd (omega arith)),
-            getD-set-other ps (1 + 3 * p) (1 + 3 * q) 1 0 (λ x. absurd (e (omega arith))),
-            getD-set-other one (1 + 3 * p + 1) (1 + 3 * q + 1) u 0 (λ x. absurd (e (omega arith))),
-            getD-set-other ps (1 + 3 * p) (1 + 3 * q + 1) 1 0 (λ x. absurd (omega arith)),
-            getD-set-other one (1 + 3 * p + 1) (1 + 3 * q + 2) u 0 (λ x. absurd (omega arith)),
-            getD-set-other ps (1 + 3 * p) (1 + 3 * q + 2) 1 0 (λ x. absurd (omega arith)),
+            getD-set-other one (peerRow p + 1) (peerRow q) u 0 (λ x. absurd (omega arith)),
+            getD-set-other ps (peerRow p) (peerRow q) 1 0 (λ x. absurd (e (omega arith))),
+            getD-set-other one (peerRow p + 1) (peerRow q + 1) u 0 (λ x. absurd (e (omega arith))),
+            getD-set-other ps (peerRow p) (peerRow q + 1) 1 0 (λ x. absurd (omega arith)),
+            getD-set-other one (peerRow p + 1) (peerRow q + 2) u 0 (λ x. absurd (omega arith)),
+            getD-set-other ps (peerRow p) (peerRow q + 2) 1 0 (λ x. absurd (omega arith)),
           )
 
   disconnected-row : rowAt (setDisconnected ps p) ≡ upd (rowAt ps) p (disconnectedRow ps p)
@@ -136,16 +137,16 @@ module _ (ps : List ℕ) (size : length ps ≡ 25) (p : ℕ) (l : p < 8) where
           rw (
             ← e,
             upd-same,
-            getD-set-same ps (1 + 3 * p) 2 0 (omega arith),
-            getD-set-other ps (1 + 3 * p) (1 + 3 * p + 1) 2 0 (λ x. absurd (omega arith)),
-            getD-set-other ps (1 + 3 * p) (1 + 3 * p + 2) 2 0 (λ x. absurd (omega arith)),
+            getD-set-same ps (peerRow p) 2 0 (omega arith),
+            getD-set-other ps (peerRow p) (peerRow p + 1) 2 0 (λ x. absurd (omega arith)),
+            getD-set-other ps (peerRow p) (peerRow p + 2) 2 0 (λ x. absurd (omega arith)),
           )
       go q (other e) =
           rw (
             upd-other (rowAt ps) p q (disconnectedRow ps p) e,
-            getD-set-other ps (1 + 3 * p) (1 + 3 * q) 2 0 (λ x. absurd (e (omega arith))),
-            getD-set-other ps (1 + 3 * p) (1 + 3 * q + 1) 2 0 (λ x. absurd (omega arith)),
-            getD-set-other ps (1 + 3 * p) (1 + 3 * q + 2) 2 0 (λ x. absurd (omega arith)),
+            getD-set-other ps (peerRow p) (peerRow q) 2 0 (λ x. absurd (e (omega arith))),
+            getD-set-other ps (peerRow p) (peerRow q + 1) 2 0 (λ x. absurd (omega arith)),
+            getD-set-other ps (peerRow p) (peerRow q + 2) 2 0 (λ x. absurd (omega arith)),
           )
 
   given-row : (n : ℕ) → rowAt (setGiven ps p n) ≡ upd (rowAt ps) p (givenRow ps p n)
@@ -157,16 +158,16 @@ module _ (ps : List ℕ) (size : length ps ≡ 25) (p : ℕ) (l : p < 8) where
           rw (
             ← e,
             upd-same,
-            getD-set-other ps (1 + 3 * p + 2) (1 + 3 * p) n 0 (λ x. absurd (omega arith)),
-            getD-set-other ps (1 + 3 * p + 2) (1 + 3 * p + 1) n 0 (λ x. absurd (omega arith)),
-            getD-set-same ps (1 + 3 * p + 2) n 0 (omega arith),
+            getD-set-other ps (peerRow p + 2) (peerRow p) n 0 (λ x. absurd (omega arith)),
+            getD-set-other ps (peerRow p + 2) (peerRow p + 1) n 0 (λ x. absurd (omega arith)),
+            getD-set-same ps (peerRow p + 2) n 0 (omega arith),
           )
       go q (other e) =
           rw (
             upd-other (rowAt ps) p q (givenRow ps p n) e,
-            getD-set-other ps (1 + 3 * p + 2) (1 + 3 * q) n 0 (λ x. absurd (omega arith)),
-            getD-set-other ps (1 + 3 * p + 2) (1 + 3 * q + 1) n 0 (λ x. absurd (omega arith)),
-            getD-set-other ps (1 + 3 * p + 2) (1 + 3 * q + 2) n 0 (λ x. absurd (e (omega arith))),
+            getD-set-other ps (peerRow p + 2) (peerRow q) n 0 (λ x. absurd (omega arith)),
+            getD-set-other ps (peerRow p + 2) (peerRow q + 1) n 0 (λ x. absurd (omega arith)),
+            getD-set-other ps (peerRow p + 2) (peerRow q + 2) n 0 (λ x. absurd (e (omega arith))),
           )
 
   -- The peer is opened for the user u.
@@ -186,8 +187,8 @@ module _ (ps : List ℕ) (size : length ps ≡ 25) (p : ℕ) (l : p < 8) where
   unfolding acceptedV setOpen
   accepted-open u =
       rw (
-        getD-set-other (set ps (1 + 3 * p) 1) (1 + 3 * p + 1) 0 u 0 (λ x. absurd (omega arith)),
-        getD-set-other ps (1 + 3 * p) 0 1 0 (λ x. absurd (omega arith)),
+        getD-set-other (set ps (peerRow p) 1) (peerRow p + 1) 0 u 0 (λ x. absurd (omega arith)),
+        getD-set-other ps (peerRow p) 0 1 0 (λ x. absurd (omega arith)),
       )
 
   -- The peer disconnects. It was opened, so it keeps its user.
@@ -203,7 +204,7 @@ module _ (ps : List ℕ) (size : length ps ≡ 25) (p : ℕ) (l : p < 8) where
 
   pub accepted-disconnected : acceptedV (setDisconnected ps p) ≡ acceptedV ps
   unfolding acceptedV setDisconnected
-  accepted-disconnected = rw (getD-set-other ps (1 + 3 * p) 0 2 0 (λ x. absurd (omega arith)))
+  accepted-disconnected = rw (getD-set-other ps (peerRow p) 0 2 0 (λ x. absurd (omega arith)))
 
   -- The bus has given n IDs to the peer.
   pub status-given : (n : ℕ) → statusV (setGiven ps p n) ≡ statusV ps
@@ -224,7 +225,7 @@ module _ (ps : List ℕ) (size : length ps ≡ 25) (p : ℕ) (l : p < 8) where
 
   pub accepted-given : (n : ℕ) → acceptedV (setGiven ps p n) ≡ acceptedV ps
   unfolding acceptedV setGiven
-  accepted-given n = rw (getD-set-other ps (1 + 3 * p + 2) 0 n 0 (λ x. absurd (omega arith)))
+  accepted-given n = rw (getD-set-other ps (peerRow p + 2) 0 n 0 (λ x. absurd (omega arith)))
 
 -- One more command is accepted.
 module _ (ps : List ℕ) where
@@ -234,9 +235,9 @@ module _ (ps : List ℕ) where
       fun-ext
       (λ q.
       rw (
-        getD-set-other ps 0 (1 + 3 * q) (nextNumber ps) 0 (λ x. absurd (omega arith)),
-        getD-set-other ps 0 (1 + 3 * q + 1) (nextNumber ps) 0 (λ x. absurd (omega arith)),
-        getD-set-other ps 0 (1 + 3 * q + 2) (nextNumber ps) 0 (λ x. absurd (omega arith)),
+        getD-set-other ps 0 (peerRow q) (nextNumber ps) 0 (λ x. absurd (omega arith)),
+        getD-set-other ps 0 (peerRow q + 1) (nextNumber ps) 0 (λ x. absurd (omega arith)),
+        getD-set-other ps 0 (peerRow q + 2) (nextNumber ps) 0 (λ x. absurd (omega arith)),
       ))
 
   pub status-counted : statusV (countCommand ps) ≡ statusV ps
@@ -251,14 +252,14 @@ module _ (ps : List ℕ) where
   unfolding givenV
   given-counted = column-rows givenIn 0 ps (countCommand ps) counted-rows
 
-  pub accepted-counted : length ps ≡ 25 → suc (acceptedV ps) < modulus → acceptedV (countCommand ps) ≡ suc (acceptedV ps)
+  pub accepted-counted : length ps ≡ peersSize → suc (acceptedV ps) < modulus → acceptedV (countCommand ps) ≡ suc (acceptedV ps)
   unfolding acceptedV countCommand
   accepted-counted size h =
       let m : nextNumber ps % modulus ≡ suc (acceptedAt ps) = omega arith in
       rw (getD-set-same ps 0 (nextNumber ps) 0 (omega arith)) m
 
 -- What is read.
-module _ (ps : List ℕ) (p : ℕ) (l : p < 8) where
+module _ (ps : List ℕ) (p : ℕ) (l : p < peers) where
   pub status-is : statusV ps p ≡ statusSeen (statusAt ps p)
   unfolding statusV statusAt rowAt
   status-is = column-at statusIn unopened ps p l
@@ -298,7 +299,7 @@ pub accepted-is : (ps : List ℕ) → acceptedV ps ≡ acceptedAt ps
 unfolding acceptedV
 accepted-is ps = refl
 
-pub user-disconnected : (ps : List ℕ) → length ps ≡ 25 → (p : ℕ) → p < 8 → (statusV ps p ≡ unopened → ⊥) → userV (setDisconnected ps p) ≡ userV ps
+pub user-disconnected : (ps : List ℕ) → length ps ≡ peersSize → (p : ℕ) → p < peers → (statusV ps p ≡ unopened → ⊥) → userV (setDisconnected ps p) ≡ userV ps
 unfolding userV statusV
 user-disconnected ps size p l h =
     column-keep userIn noUser ps (setDisconnected ps p) p (disconnectedRow ps p) (disconnected-row ps size p l)

@@ -15,10 +15,11 @@ use Rattle.laws.specs.Halving.{halve, asked, asked-few, halve-same}
 use Rattle.tables.specs.declared.Found.{Found}
 use Rattle.tables.specs.declared.Found.the-variants.{At, Nothing}
 use Rattle.tables.specs.Handles.{listBlock, lengthBlock, mostReads, halvings, handleRow, idAt, hasIn, hasAt, foundBy, foundOwn, listLength, listedId, wordAt, listedSlot, guessed, atLeast, placeIn, foundAmong, foundListed, lookup}
+use Rattle.ids.specs.Sizes.{slots}
 
 -- of a chosen ID the own slots; of any other the length of the list, the entry at the guessed place, the entries that the halving asks and the one that it comes to
 abbrev pub probesOwn : ℕ → List ℕ
-probesOwn p = build (λ k. handleRow p (p * 16 + k)) 16
+probesOwn p = build (λ k. handleRow p (p * slots + k)) slots
 
 abbrev pub probesAmong : List ℕ → ℕ → ℕ → ℕ → List ℕ
 probesAmong h p i n = handleRow (listBlock p) (placeIn h p i n) ∷ map (handleRow (listBlock p)) (asked (atLeast h p i) halvings 0 n)
@@ -37,7 +38,7 @@ unfolding probes
 probes-few h p i = go (look (eqb (i % 4) 0)) (look (eqb (listLength h p) 0))
   where
     go : Seen (eqb (i % 4) 0) → Seen (eqb (listLength h p) 0) → length (probes h p i) ≤ mostReads
-    go (is-true e) q = rw e (omega (arith, build-length (λ k. handleRow p (p * 16 + k)) 16))
+    go (is-true e) q = rw e (omega (arith, build-length (λ k. handleRow p (p * slots + k)) slots))
     go (is-false e) (is-true q) = rw (e, q) (omega arith)
     go (is-false e) (is-false q) =
         let n = listLength h p in
@@ -58,12 +59,12 @@ module _ (g h : List ℕ) (p i : ℕ) where
 
   own-same : All (Agree g h) (probesOwn p) → foundOwn g p i ≡ foundOwn h p i
   unfolding foundOwn foundBy
-  own-same a = rw (first-ext (λ k. hasAt g p i (p * 16 + k)) (λ k. hasAt h p i (p * 16 + k)) 16 (λ k l. has-same (p * 16 + k) (at k l)))
+  own-same a = rw (first-ext (λ k. hasAt g p i (p * slots + k)) (λ k. hasAt h p i (p * slots + k)) slots (λ k l. has-same (p * slots + k) (at k l)))
     where
-      at : (k : ℕ) → k < 16 → Agree g h (handleRow p (p * 16 + k))
+      at : (k : ℕ) → k < slots → Agree g h (handleRow p (p * slots + k))
       at k l =
-          let x = all-at (Agree g h) (probesOwn p) k 0 a (omega (arith, build-length (λ j. handleRow p (p * 16 + j)) 16)) in
-          rw (build-at (λ j. handleRow p (p * 16 + j)) 16 k 0 l) at x
+          let x = all-at (Agree g h) (probesOwn p) k 0 a (omega (arith, build-length (λ j. handleRow p (p * slots + j)) slots)) in
+          rw (build-at (λ j. handleRow p (p * slots + j)) slots k 0 l) at x
 
   among-same : (n : ℕ) → All (Agree g h) (probesAmong h p i n) → foundAmong g p i n ≡ foundAmong h p i n
   unfolding foundAmong placeIn

@@ -6,16 +6,24 @@ ghost use lib.Count.{trailingZeros};
 ghost use lib.ListN.{length, getD};
 ghost use Rattle.tables.specs.Peers.{modulus, acceptedAt, statusAt, standingAt, userAt, givenAt, setOpen, setDisconnected, setGiven, countCommand};
 ghost use Rattle.tables.specs.Nodes.{liveAt, setLive, setDead};
-ghost use Rattle.model.specs.Numbers.{nodes};
-ghost use Rattle.tables.specs.Handles.{listBlock, lengthBlock, handlesSize, mostReads, halvings, listReads, idAt, countAt, hasIn, foundOwn, listLength, listedId, wordAt, guess, placeIn, foundAmong, foundListed, lookup, totalAt, bitAt, holdersAt, putHandle, clearPeer, enlisted, shifted, takenOut, unlisted, raised, reduced};
+ghost use Rattle.ids.specs.Sizes.{peers as peerCount, peersSize, nodesSize};
+ghost use Rattle.model.specs.Numbers.{nodes as nodeCount};
+ghost use Rattle.quota.specs.Charges.{users};
+ghost use Rattle.tables.specs.Handles.{listBlock, lengthBlock, handlesSize, mostReads, halvings, listReads, handleRow, idAt, countAt, hasIn, foundOwn, listLength, listedId, wordAt, guess, placeIn, foundAmong, foundListed, lookup, totalAt, bitAt, holdersAt, putHandle, clearPeer, enlisted, shifted, takenOut, unlisted, raised, reduced};
 ghost use Rattle.tables.specs.CodeLaws.{narrowed};
-ghost use Rattle.tables.specs.Charges.{chargeAt, chargesAt, putCharge, putCharges};
+ghost use Rattle.tables.specs.Charges.{chargesSize, chargeAt, chargesAt, putCharge, putCharges};
+use ids::CHARGE_FIELDS;
 use ids::EBADF;
 use ids::ESHUTDOWN;
+use ids::HANDLE_FIELDS;
 use ids::HandleId;
+use ids::NODE_FIELDS;
 use ids::NODES;
+use ids::PEER_FIELDS;
+use ids::PEERS;
 use ids::Peer;
 use ids::SLOTS;
+use ids::USERS;
 use ids::User;
 use quota::Charge;
 use quota::Charges;
@@ -23,17 +31,21 @@ use quota::Charges;
 // Numbers that count up are read modulo 2^60, so that what is added to them fits.
 const MODULUS: u64 = 1152921504606846976;
 
-const OPEN: u64 = 1;
+// The states of a peer that was opened.
+pub const OPEN: u64 = 1;
 
-const DISCONNECTED: u64 = 2;
+pub const DISCONNECTED: u64 = 2;
 
 // The table of handles is in blocks of 128 records of two numbers: a block for the handles of each peer, behind these a
 // block for the list of each peer, and behind these the lengths of the lists.
-const BLOCK: usize = 256;
+const BLOCK: usize = HANDLE_FIELDS * NODES;
 
-const LISTS: usize = 8;
+const LISTS: usize = PEERS;
 
-const LENGTHS: usize = 16;
+const LENGTHS: usize = 2 * PEERS;
+
+// From the handles of one peer to its own nodes to those of the next: a block and the slots of one owner.
+const OWN_STEP: usize = BLOCK + HANDLE_FIELDS * SLOTS;
 
 // A peer was never opened, is open, or has disconnected.
 pub enum Status {
@@ -79,7 +91,7 @@ struct Span {
 
 // How many commands were accepted.
 pub fn accepted(peers: &[u64]) -> u64
-    requires { ⌜ length (now peers) ≡ 25 ⌝ }
+    requires { ⌜ length (now peers) ≡ peersSize ⌝ }
     ensures { λ r. ⌜ (r ≡ acceptedAt (now (peers .entry))) × (r < modulus) ⌝ }
 {
     peers[0] % MODULUS
@@ -87,10 +99,10 @@ pub fn accepted(peers: &[u64]) -> u64
 
 // The status of a peer.
 pub fn status_of(peers: &[u64], p: Peer) -> Status
-    requires { ⌜ (length (now peers) ≡ 25) × (p .0 < 8) ⌝ }
+    requires { ⌜ (length (now peers) ≡ peersSize) × (p .0 < peerCount) ⌝ }
     ensures { λ r. ⌜ r ≡ statusAt (now (peers .entry)) (p .0) ⌝ }
 {
-    let state = peers[1 + 3 * p.0];
+    let state = peers[1 + PEER_FIELDS * p.0];
     if state == OPEN {
         return Status::Open;
     }
@@ -102,10 +114,10 @@ pub fn status_of(peers: &[u64], p: Peer) -> Status
 
 // The refusal of a peer that is not open, 0 of one that is.
 pub fn standing(peers: &[u64], p: Peer) -> u8
-    requires { ⌜ (length (now peers) ≡ 25) × (p .0 < 8) ⌝ }
+    requires { ⌜ (length (now peers) ≡ peersSize) × (p .0 < peerCount) ⌝ }
     ensures { λ r. ⌜ r ≡ standingAt (now (peers .entry)) (p .0) ⌝ }
 {
-    let state = peers[1 + 3 * p.0];
+    let state = peers[1 + PEER_FIELDS * p.0];
     if state == OPEN {
         return 0;
     }
@@ -117,49 +129,49 @@ pub fn standing(peers: &[u64], p: Peer) -> u8
 
 // The user of a peer that was opened.
 pub fn user_of(peers: &[u64], p: Peer) -> User
-    requires { ⌜ (length (now peers) ≡ 25) × (p .0 < 8) ⌝ }
+    requires { ⌜ (length (now peers) ≡ peersSize) × (p .0 < peerCount) ⌝ }
     ensures { λ r. ⌜ r ≡ record { 0 = userAt (now (peers .entry)) (p .0) } ⌝ }
 {
-    User(peers[1 + 3 * p.0 + 1] as usize)
+    User(peers[1 + PEER_FIELDS * p.0 + 1] as usize)
 }
 
 // How many IDs the bus has given to a peer.
 pub fn given_of(peers: &[u64], p: Peer) -> u64
-    requires { ⌜ (length (now peers) ≡ 25) × (p .0 < 8) ⌝ }
+    requires { ⌜ (length (now peers) ≡ peersSize) × (p .0 < peerCount) ⌝ }
     ensures { λ r. ⌜ (r ≡ givenAt (now (peers .entry)) (p .0)) × (r < modulus) ⌝ }
 {
-    peers[1 + 3 * p.0 + 2] % MODULUS
+    peers[1 + PEER_FIELDS * p.0 + 2] % MODULUS
 }
 
 // The peer is open and belongs to the user.
 pub fn set_open(peers: &mut [u64], p: Peer, u: User)
-    requires { ⌜ (length (now peers) ≡ 25) × (p .0 < 8) ⌝ }
+    requires { ⌜ (length (now peers) ≡ peersSize) × (p .0 < peerCount) ⌝ }
     ensures { λ _. ⌜ now (peers .exit) ≡ setOpen (now (peers .entry)) (p .0) (u .0) ⌝ }
 {
-    let at = 1 + 3 * p.0;
+    let at = 1 + PEER_FIELDS * p.0;
     peers[at] = OPEN;
     peers[at + 1] = u.0 as u64;
 }
 
 // The peer has disconnected.
 pub fn set_disconnected(peers: &mut [u64], p: Peer)
-    requires { ⌜ (length (now peers) ≡ 25) × (p .0 < 8) ⌝ }
+    requires { ⌜ (length (now peers) ≡ peersSize) × (p .0 < peerCount) ⌝ }
     ensures { λ _. ⌜ now (peers .exit) ≡ setDisconnected (now (peers .entry)) (p .0) ⌝ }
 {
-    peers[1 + 3 * p.0] = DISCONNECTED;
+    peers[1 + PEER_FIELDS * p.0] = DISCONNECTED;
 }
 
 // The bus has given n IDs to the peer.
 pub fn set_given(peers: &mut [u64], p: Peer, n: u64)
-    requires { ⌜ (length (now peers) ≡ 25) × (p .0 < 8) ⌝ }
+    requires { ⌜ (length (now peers) ≡ peersSize) × (p .0 < peerCount) ⌝ }
     ensures { λ _. ⌜ now (peers .exit) ≡ setGiven (now (peers .entry)) (p .0) n ⌝ }
 {
-    peers[1 + 3 * p.0 + 2] = n;
+    peers[1 + PEER_FIELDS * p.0 + 2] = n;
 }
 
 // One more command is accepted.
 pub fn count_command(peers: &mut [u64])
-    requires { ⌜ length (now peers) ≡ 25 ⌝ }
+    requires { ⌜ length (now peers) ≡ peersSize ⌝ }
     ensures { λ _. ⌜ now (peers .exit) ≡ countCommand (now (peers .entry)) ⌝ }
 {
     peers[0] = peers[0] % MODULUS + 1;
@@ -167,44 +179,44 @@ pub fn count_command(peers: &mut [u64])
 
 // Does the slot's node live?
 pub fn is_live(nodes: &[u64], s: usize) -> bool
-    requires { ⌜ (length (now nodes) ≡ 256) × (s < 128) ⌝ }
+    requires { ⌜ (length (now nodes) ≡ nodesSize) × (s < nodeCount) ⌝ }
     ensures { λ r. ⌜ r ≡ liveAt (now (nodes .entry)) s ⌝ }
 {
-    nodes[2 * s] == 1
+    nodes[NODE_FIELDS * s] == 1
 }
 
 // The slot has a live node.
 pub fn set_live(nodes: &mut [u64], s: usize)
-    requires { ⌜ (length (now nodes) ≡ 256) × (s < 128) ⌝ }
+    requires { ⌜ (length (now nodes) ≡ nodesSize) × (s < nodeCount) ⌝ }
     ensures { λ _. ⌜ now (nodes .exit) ≡ setLive (now (nodes .entry)) s ⌝ }
 {
-    nodes[2 * s] = 1;
+    nodes[NODE_FIELDS * s] = 1;
 }
 
 // The slot's node was destroyed by the command of the number n.
 pub fn set_dead(nodes: &mut [u64], s: usize, n: u64)
-    requires { ⌜ (length (now nodes) ≡ 256) × (s < 128) ⌝ }
+    requires { ⌜ (length (now nodes) ≡ nodesSize) × (s < nodeCount) ⌝ }
     ensures { λ _. ⌜ now (nodes .exit) ≡ setDead (now (nodes .entry)) s n ⌝ }
 {
-    let at = 2 * s;
+    let at = NODE_FIELDS * s;
     nodes[at] = 0;
     nodes[at + 1] = n;
 }
 
 // The count of a peer's handle to a slot's node, 0 where it has none.
 pub fn count_of(handles: &[u64], p: Peer, s: usize) -> u64
-    requires { ⌜ (length (now handles) ≡ handlesSize) × (p .0 < 8) × (s < 128) ⌝ }
+    requires { ⌜ (length (now handles) ≡ handlesSize) × (p .0 < peerCount) × (s < nodeCount) ⌝ }
     ensures { λ r. ⌜ (r ≡ countAt (now (handles .entry)) (p .0) s) × (r < modulus) ⌝ }
 {
-    handles[p.0 * BLOCK + 2 * s + 1] % MODULUS
+    handles[p.0 * BLOCK + HANDLE_FIELDS * s + 1] % MODULUS
 }
 
 // The ID of a peer's handle to a slot's node.
 pub fn id_of(handles: &[u64], p: Peer, s: usize) -> HandleId
-    requires { ⌜ (length (now handles) ≡ handlesSize) × (p .0 < 8) × (s < 128) ⌝ }
+    requires { ⌜ (length (now handles) ≡ handlesSize) × (p .0 < peerCount) × (s < nodeCount) ⌝ }
     ensures { λ r. ⌜ r ≡ record { 0 = idAt (now (handles .entry)) (p .0) s } ⌝ }
 {
-    HandleId(handles[p.0 * BLOCK + 2 * s])
+    HandleId(handles[p.0 * BLOCK + HANDLE_FIELDS * s])
 }
 
 // The record of two numbers at a place, and how many records the search has read with it. A search reads the table by this
@@ -240,14 +252,14 @@ fn holds(handles: &[u64], at: usize, id: HandleId, reads: usize) -> Held
 
 // The first of the peer's own slots that it knows by this ID.
 fn seek_own(handles: &[u64], p: Peer, id: HandleId) -> Sought
-    requires { ⌜ (length (now handles) ≡ handlesSize) × (p .0 < 8) ⌝ }
+    requires { ⌜ (length (now handles) ≡ handlesSize) × (p .0 < peerCount) ⌝ }
     ensures { λ r. ⌜ (r .found ≡ foundOwn (now (handles .entry)) (p .0) (id .0)) × (r .reads ≤ mostReads) ⌝ }
 {
-    let base = p.0 * 288;
+    let base = p.0 * OWN_STEP;
     let mut k = 0;
     let mut reads = 0;
     while k < SLOTS {
-        let e = holds(handles, base + 2 * k, id, reads);
+        let e = holds(handles, base + HANDLE_FIELDS * k, id, reads);
         if e.held {
             return Sought {
                 found: Found::At(p.0 * SLOTS + k),
@@ -265,10 +277,10 @@ fn seek_own(handles: &[u64], p: Peer, id: HandleId) -> Sought
 
 // An entry of the peer's list.
 fn entry_at(handles: &[u64], p: Peer, k: usize, reads: usize) -> Entry
-    requires { ⌜ (length (now handles) ≡ handlesSize) × (p .0 < 8) × (k < nodes) × (reads < mostReads) ⌝ }
+    requires { ⌜ (length (now handles) ≡ handlesSize) × (p .0 < peerCount) × (k < nodeCount) × (reads < mostReads) ⌝ }
     ensures { λ r. ⌜ (r .id ≡ listedId (now (handles .entry)) (p .0) k) × (r .word ≡ wordAt (now (handles .entry)) (listBlock (p .0)) k) × (r .reads ≡ reads + 1) ⌝ }
 {
-    look(handles, (LISTS + p.0) * BLOCK + 2 * k, reads)
+    look(handles, (LISTS + p.0) * BLOCK + HANDLE_FIELDS * k, reads)
 }
 
 // The half in which the first place is whose ID is at least this one.
@@ -284,7 +296,7 @@ fn narrow(low: usize, mid: usize, high: usize, id: u64, other: u64) -> Span
 
 // The first of the n entries of the peer's list whose ID is at least this one.
 fn place_in(handles: &[u64], p: Peer, id: HandleId, n: usize, reads: usize) -> Place
-    requires { ⌜ (length (now handles) ≡ handlesSize) × (p .0 < 8) × (n ≤ nodes) × (reads + halvings < mostReads) ⌝ }
+    requires { ⌜ (length (now handles) ≡ handlesSize) × (p .0 < peerCount) × (n ≤ nodeCount) × (reads + halvings < mostReads) ⌝ }
     ensures { λ r. ⌜ (r .at ≡ placeIn (now (handles .entry)) (p .0) (id .0) n) × (r .reads ≤ reads + halvings) ⌝ }
 {
     let mut low = 0;
@@ -306,7 +318,7 @@ fn place_in(handles: &[u64], p: Peer, id: HandleId, n: usize, reads: usize) -> P
 
 // The slot of this ID among the n entries of the peer's list.
 fn seek_among(handles: &[u64], p: Peer, id: HandleId, n: usize, reads: usize) -> Sought
-    requires { ⌜ (length (now handles) ≡ handlesSize) × (p .0 < 8) × (n ≤ nodes) × (reads + halvings < mostReads) ⌝ }
+    requires { ⌜ (length (now handles) ≡ handlesSize) × (p .0 < peerCount) × (n ≤ nodeCount) × (reads + halvings < mostReads) ⌝ }
     ensures { λ r. ⌜ (r .found ≡ foundAmong (now (handles .entry)) (p .0) (id .0) n) × (r .reads ≤ reads + (halvings + 1)) ⌝ }
 {
     let w = place_in(handles, p, id, n, reads);
@@ -332,14 +344,14 @@ fn seek_among(handles: &[u64], p: Peer, id: HandleId, n: usize, reads: usize) ->
 
 // A length, at most that of a list with every node.
 fn at_most(x: u64) -> usize
-    ensures { λ r. ⌜ r ≡ min x nodes ⌝ }
+    ensures { λ r. ⌜ r ≡ min x nodeCount ⌝ }
 {
     if x < NODES as u64 { x as usize } else { NODES }
 }
 
 // The place that is as far before the last of n as the ID is before the last one. IDs that the bus gives a peer are 4 apart.
 fn guess_place(last: u64, id: u64, n: usize) -> usize
-    requires { ⌜ (0 < n) × (n ≤ nodes) ⌝ }
+    requires { ⌜ (0 < n) × (n ≤ nodeCount) ⌝ }
     ensures { λ r. ⌜ (r ≡ guess last id n) × (r < n) ⌝ }
 {
     if last <= id {
@@ -355,10 +367,10 @@ fn guess_place(last: u64, id: u64, n: usize) -> usize
 
 // The slot of this ID in the peer's list: at the guessed place, or else by halving.
 fn seek_listed(handles: &[u64], p: Peer, id: HandleId) -> Sought
-    requires { ⌜ (length (now handles) ≡ handlesSize) × (p .0 < 8) ⌝ }
+    requires { ⌜ (length (now handles) ≡ handlesSize) × (p .0 < peerCount) ⌝ }
     ensures { λ r. ⌜ (r .found ≡ foundListed (now (handles .entry)) (p .0) (id .0)) × (r .reads ≤ listReads) ⌝ }
 {
-    let l = look(handles, LENGTHS * BLOCK + 2 * p.0, 0);
+    let l = look(handles, LENGTHS * BLOCK + HANDLE_FIELDS * p.0, 0);
     let n = at_most(l.id);
     if n == 0 {
         return Sought {
@@ -380,7 +392,7 @@ fn seek_listed(handles: &[u64], p: Peer, id: HandleId) -> Sought
 // The slot that the peer knows by this ID, and how many records were read. An ID whose two low bits are clear was chosen: it
 // names one of the peer's own nodes, or none. Any other was given: it is in the peer's list, or nowhere.
 pub fn seek(handles: &[u64], p: Peer, id: HandleId) -> Sought
-    requires { ⌜ (length (now handles) ≡ handlesSize) × (p .0 < 8) ⌝ }
+    requires { ⌜ (length (now handles) ≡ handlesSize) × (p .0 < peerCount) ⌝ }
     ensures { λ r. ⌜ (r .found ≡ lookup (now (handles .entry)) (p .0) (id .0)) × (r .reads ≤ mostReads) ⌝ }
 {
     if id.0 % 4 == 0 {
@@ -391,7 +403,7 @@ pub fn seek(handles: &[u64], p: Peer, id: HandleId) -> Sought
 
 // The slot that the peer knows by this ID.
 pub fn find(handles: &[u64], p: Peer, id: HandleId) -> Found
-    requires { ⌜ (length (now handles) ≡ handlesSize) × (p .0 < 8) ⌝ }
+    requires { ⌜ (length (now handles) ≡ handlesSize) × (p .0 < peerCount) ⌝ }
     ensures { λ r. ⌜ r ≡ lookup (now (handles .entry)) (p .0) (id .0) ⌝ }
 {
     let s = seek(handles, p, id);
@@ -400,22 +412,22 @@ pub fn find(handles: &[u64], p: Peer, id: HandleId) -> Found
 
 // The peer's handle to the slot's node has this ID and this count; at 0 there is none.
 pub fn put_handle(handles: &mut [u64], p: Peer, s: usize, id: HandleId, count: u64)
-    requires { ⌜ (length (now handles) ≡ handlesSize) × (p .0 < 8) × (s < 128) ⌝ }
+    requires { ⌜ (length (now handles) ≡ handlesSize) × (p .0 < peerCount) × (s < nodeCount) ⌝ }
     ensures { λ _. ⌜ now (handles .exit) ≡ putHandle (now (handles .entry)) (p .0) s (id .0) count ⌝ }
 {
-    let at = p.0 * BLOCK + 2 * s;
+    let at = p.0 * BLOCK + HANDLE_FIELDS * s;
     handles[at] = id.0;
     handles[at + 1] = count;
 }
 
 // The sum of the counts over all peers.
 pub fn total(handles: &[u64], s: usize) -> u64
-    requires { ⌜ (length (now handles) ≡ handlesSize) × (s < 128) ⌝ }
+    requires { ⌜ (length (now handles) ≡ handlesSize) × (s < nodeCount) ⌝ }
     ensures { λ r. ⌜ r ≡ totalAt (now (handles .entry)) s ⌝ }
 {
     let mut q = 0;
     let mut sum = 0u64;
-    while q < 8 {
+    while q < PEERS {
         let c = count_of(handles, Peer(q), s);
         sum = c + sum;
         q += 1;
@@ -425,7 +437,7 @@ pub fn total(handles: &[u64], s: usize) -> u64
 
 // The bit where the peer holds a handle to the slot's node, else 0.
 fn bit_of(handles: &[u64], p: Peer, s: usize, bit: u64) -> u64
-    requires { ⌜ (length (now handles) ≡ handlesSize) × (p .0 < 8) × (s < 128) ⌝ }
+    requires { ⌜ (length (now handles) ≡ handlesSize) × (p .0 < peerCount) × (s < nodeCount) ⌝ }
     ensures { λ r. ⌜ (r ≡ bitAt (now (handles .entry)) s (p .0) bit) × (r ≤ bit) ⌝ }
 {
     let c = count_of(handles, p, s);
@@ -434,13 +446,13 @@ fn bit_of(handles: &[u64], p: Peer, s: usize, bit: u64) -> u64
 
 // One bit for each peer that holds a handle to the slot's node.
 pub fn holders(handles: &[u64], s: usize) -> u8
-    requires { ⌜ (length (now handles) ≡ handlesSize) × (s < 128) ⌝ }
+    requires { ⌜ (length (now handles) ≡ handlesSize) × (s < nodeCount) ⌝ }
     ensures { λ r. ⌜ r ≡ holdersAt (now (handles .entry)) s ⌝ }
 {
     let mut q = 0;
     let mut bit = 1u64;
     let mut set = 0u64;
-    while q < 8 {
+    while q < PEERS {
         let b = bit_of(handles, Peer(q), s, bit);
         set = b + set;
         bit = 2 * bit;
@@ -467,11 +479,11 @@ pub fn without(set: u8, q: usize) -> u8
 
 // All handles of the peer are gone.
 pub fn clear_peer(handles: &mut [u64], p: Peer)
-    requires { ⌜ (length (now handles) ≡ handlesSize) × (p .0 < 8) ⌝ }
+    requires { ⌜ (length (now handles) ≡ handlesSize) × (p .0 < peerCount) ⌝ }
     ensures { λ _. ⌜ now (handles .exit) ≡ clearPeer (now (handles .entry)) (p .0) ⌝ }
 {
     let mut s = 0;
-    while s < 128 {
+    while s < NODES {
         put_handle(handles, p, s, HandleId(0), 0);
         s += 1;
     }
@@ -480,25 +492,25 @@ pub fn clear_peer(handles: &mut [u64], p: Peer)
 
 // A record of a block has these two numbers.
 fn put_record(handles: &mut [u64], block: usize, k: usize, x: u64, y: u64)
-    requires { ⌜ (length (now handles) ≡ handlesSize) × (block ≤ lengthBlock) × (block * 256 + 2 * k + 1 < handlesSize) ⌝ }
+    requires { ⌜ (length (now handles) ≡ handlesSize) × (block ≤ lengthBlock) × (handleRow block k + 1 < handlesSize) ⌝ }
     ensures { λ _. ⌜ now (handles .exit) ≡ putHandle (now (handles .entry)) block k x y ⌝ }
 {
-    let at = block * BLOCK + 2 * k;
+    let at = block * BLOCK + HANDLE_FIELDS * k;
     handles[at] = x;
     handles[at + 1] = y;
 }
 
 // How many entries the peer's list has.
 fn list_length(handles: &[u64], p: Peer) -> usize
-    requires { ⌜ (length (now handles) ≡ handlesSize) × (p .0 < 8) ⌝ }
+    requires { ⌜ (length (now handles) ≡ handlesSize) × (p .0 < peerCount) ⌝ }
     ensures { λ r. ⌜ r ≡ listLength (now (handles .entry)) (p .0) ⌝ }
 {
-    at_most(handles[LENGTHS * BLOCK + 2 * p.0])
+    at_most(handles[LENGTHS * BLOCK + HANDLE_FIELDS * p.0])
 }
 
 // A new entry behind the last of the peer's list.
 fn enlist(handles: &mut [u64], p: Peer, id: HandleId, s: usize)
-    requires { ⌜ (length (now handles) ≡ handlesSize) × (p .0 < 8) ⌝ }
+    requires { ⌜ (length (now handles) ≡ handlesSize) × (p .0 < peerCount) ⌝ }
     ensures { λ _. ⌜ now (handles .exit) ≡ enlisted (now (handles .entry)) (p .0) (id .0) s ⌝ }
 {
     let n = list_length(handles, p);
@@ -508,7 +520,7 @@ fn enlist(handles: &mut [u64], p: Peer, id: HandleId, s: usize)
 
 // The entries behind the place k of a list of n, each one place down.
 fn shift(handles: &mut [u64], p: Peer, k: usize, n: usize)
-    requires { ⌜ (length (now handles) ≡ handlesSize) × (p .0 < 8) × (k < n) × (n ≤ nodes) ⌝ }
+    requires { ⌜ (length (now handles) ≡ handlesSize) × (p .0 < peerCount) × (k < n) × (n ≤ nodeCount) ⌝ }
     ensures { λ _. ⌜ now (handles .exit) ≡ shifted (now (handles .entry)) (p .0) k (n - 1 - k) ⌝ }
 {
     let mut m = 0;
@@ -528,7 +540,7 @@ fn place_before(k: usize) -> usize
 
 // The entry at the place k of the peer's list of n is gone.
 fn take_out(handles: &mut [u64], p: Peer, k: usize, n: usize)
-    requires { ⌜ (length (now handles) ≡ handlesSize) × (p .0 < 8) × (k < n) × (n ≤ nodes) ⌝ }
+    requires { ⌜ (length (now handles) ≡ handlesSize) × (p .0 < peerCount) × (k < n) × (n ≤ nodeCount) ⌝ }
     ensures { λ _. ⌜ now (handles .exit) ≡ takenOut (now (handles .entry)) (p .0) k n ⌝ }
 {
     shift(handles, p, k, n);
@@ -538,13 +550,13 @@ fn take_out(handles: &mut [u64], p: Peer, k: usize, n: usize)
 
 // The entry of this ID in the peer's list is gone: the one at the guessed place, or else the one found by halving.
 fn unlist(handles: &mut [u64], p: Peer, id: HandleId)
-    requires { ⌜ (length (now handles) ≡ handlesSize) × (p .0 < 8) ⌝ }
+    requires { ⌜ (length (now handles) ≡ handlesSize) × (p .0 < peerCount) ⌝ }
     ensures { λ _. ⌜ now (handles .exit) ≡ unlisted (now (handles .entry)) (p .0) (id .0) ⌝ }
 {
     if id.0 % 4 == 0 {
         return;
     }
-    let l = look(handles, LENGTHS * BLOCK + 2 * p.0, 0);
+    let l = look(handles, LENGTHS * BLOCK + HANDLE_FIELDS * p.0, 0);
     let n = at_most(l.id);
     if n == 0 {
         return;
@@ -569,7 +581,7 @@ fn unlist(handles: &mut [u64], p: Peer, id: HandleId)
 
 // One more reference of the peer to the slot's node, under this ID: the first enters it in the peer's list.
 pub fn raise(handles: &mut [u64], p: Peer, s: usize, id: HandleId)
-    requires { ⌜ (length (now handles) ≡ handlesSize) × (p .0 < 8) × (s < 128) ⌝ }
+    requires { ⌜ (length (now handles) ≡ handlesSize) × (p .0 < peerCount) × (s < nodeCount) ⌝ }
     ensures { λ _. ⌜ now (handles .exit) ≡ raised (now (handles .entry)) (p .0) s (id .0) ⌝ }
 {
     let c = count_of(handles, p, s);
@@ -589,7 +601,7 @@ fn one_less(c: u64) -> u64
 
 // One reference of the peer to the slot's node less: how many are left. The last takes its entry out of the peer's list.
 pub fn reduce(handles: &mut [u64], p: Peer, s: usize) -> u64
-    requires { ⌜ (length (now handles) ≡ handlesSize) × (p .0 < 8) × (s < 128) ⌝ }
+    requires { ⌜ (length (now handles) ≡ handlesSize) × (p .0 < peerCount) × (s < nodeCount) ⌝ }
     ensures { λ r. ⌜ (r ≡ countAt (now (handles .entry)) (p .0) s - 1) × (now (handles .exit) ≡ reduced (now (handles .entry)) (p .0) s) ⌝ }
 {
     let left = one_less(count_of(handles, p, s));
@@ -604,10 +616,10 @@ pub fn reduce(handles: &mut [u64], p: Peer, s: usize) -> u64
 
 // The charge in a row of the table.
 fn charge_at(charges: &[u16], row: usize) -> Charge
-    requires { ⌜ (length (now charges) ≡ 96) × (row < 32) ⌝ }
+    requires { ⌜ (length (now charges) ≡ chargesSize) × (row < peerCount * users) ⌝ }
     ensures { λ r. ⌜ r ≡ chargeAt (now (charges .entry)) row ⌝ }
 {
-    let at = 3 * row;
+    let at = CHARGE_FIELDS * row;
     Charge {
         messages: charges[at],
         bytes: charges[at + 1],
@@ -617,10 +629,10 @@ fn charge_at(charges: &[u16], row: usize) -> Charge
 
 // The four users' charges at a peer.
 pub fn load(charges: &[u16], p: Peer) -> Charges
-    requires { ⌜ (length (now charges) ≡ 96) × (p .0 < 8) ⌝ }
+    requires { ⌜ (length (now charges) ≡ chargesSize) × (p .0 < peerCount) ⌝ }
     ensures { λ r. ⌜ r ≡ chargesAt (now (charges .entry)) (p .0) ⌝ }
 {
-    let row = 4 * p.0;
+    let row = USERS * p.0;
     Charges {
         by: [
             charge_at(charges, row),
@@ -632,10 +644,10 @@ pub fn load(charges: &[u16], p: Peer) -> Charges
 }
 
 fn put_charge(charges: &mut [u16], row: usize, c: Charge)
-    requires { ⌜ (length (now charges) ≡ 96) × (row < 32) ⌝ }
+    requires { ⌜ (length (now charges) ≡ chargesSize) × (row < peerCount * users) ⌝ }
     ensures { λ _. ⌜ now (charges .exit) ≡ putCharge (now (charges .entry)) row c ⌝ }
 {
-    let at = 3 * row;
+    let at = CHARGE_FIELDS * row;
     charges[at] = c.messages;
     charges[at + 1] = c.bytes;
     charges[at + 2] = c.handles;
@@ -643,10 +655,10 @@ fn put_charge(charges: &mut [u16], row: usize, c: Charge)
 
 // The four users' charges at the peer are these.
 pub fn store(charges: &mut [u16], p: Peer, c: Charges)
-    requires { ⌜ (length (now charges) ≡ 96) × (p .0 < 8) ⌝ }
+    requires { ⌜ (length (now charges) ≡ chargesSize) × (p .0 < peerCount) ⌝ }
     ensures { λ _. ⌜ now (charges .exit) ≡ putCharges (now (charges .entry)) (p .0) c ⌝ }
 {
-    let row = 4 * p.0;
+    let row = USERS * p.0;
     let by = c.by;
     put_charge(charges, row, by[0]);
     put_charge(charges, row + 1, by[1]);

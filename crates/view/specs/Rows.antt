@@ -19,6 +19,7 @@ use Rattle.pool.specs.Pool.{areaSize, poolSize, bytesOf, Pair, paired, sumOf, b
 use Rattle.pool.specs.Laws.{part-length}
 use Rattle.model.specs.State.{Entry}
 use Rattle.view.specs.View.{entryV, areaOf, rowsV, queueV}
+use Rattle.ids.specs.Sizes.{peers}
 
 -- An area's bytes: as many as asked for, and those of the pool where it has them.
 pub area-length : (t : List ℕ) (p n : ℕ) → length (areaOf t p n) ≡ n
@@ -38,26 +39,26 @@ area-bytes t p n h = ext-getD 0 _ _ (build-length (λ i. getD t (p * areaSize + 
         build-at (λ i. getD t (p * areaSize + i) 0) n i 0 m ∙ sym (getD-take n (drop (p * areaSize) t) i 0 m ∙ getD-drop (p * areaSize) t i 0)
 
 -- The queue of one of the eight peers.
-pub queue-own : (r : Rings) (t : List ℕ) (p : ℕ) → p < 8 → queueV r t p ≡ map entryV (rowsV r t p)
+pub queue-own : (r : Rings) (t : List ℕ) (p : ℕ) → p < peers → queueV r t p ≡ map entryV (rowsV r t p)
 unfolding queueV
-queue-own r t p l = upto-at 8 [] (λ p. map entryV (rowsV r t p)) p l
+queue-own r t p l = upto-at peers [] (λ p. map entryV (rowsV r t p)) p l
 
 -- The rows of one peer change, those of the others stay.
-pub queue-upd : (r r′ : Rings) (t t′ : List ℕ) (p : ℕ) (new : List Entry) → p < 8 → map entryV (rowsV r′ t′ p) ≡ new →
-    ((o : ℕ) → o < 8 → (p ≡ o → ⊥) → rowsV r′ t′ o ≡ rowsV r t o) → queueV r′ t′ ≡ upd (queueV r t) p new
+pub queue-upd : (r r′ : Rings) (t t′ : List ℕ) (p : ℕ) (new : List Entry) → p < peers → map entryV (rowsV r′ t′ p) ≡ new →
+    ((o : ℕ) → o < peers → (p ≡ o → ⊥) → rowsV r′ t′ o ≡ rowsV r t o) → queueV r′ t′ ≡ upd (queueV r t) p new
 unfolding queueV
 queue-upd r r′ t t′ p new l own others =
-    upto-ext 8 [] (λ o. map entryV (rowsV r′ t′ o)) (upd (λ o. map entryV (rowsV r t o)) p new) (λ o m. go o m (same? p o))
-    ∙ upto-upd 8 [] (λ o. map entryV (rowsV r t o)) p new l
+    upto-ext peers [] (λ o. map entryV (rowsV r′ t′ o)) (upd (λ o. map entryV (rowsV r t o)) p new) (λ o m. go o m (same? p o))
+    ∙ upto-upd peers [] (λ o. map entryV (rowsV r t o)) p new l
   where
-    go : (o : ℕ) → o < 8 → Same p o → map entryV (rowsV r′ t′ o) ≡ upd (λ o. map entryV (rowsV r t o)) p new o
+    go : (o : ℕ) → o < peers → Same p o → map entryV (rowsV r′ t′ o) ≡ upd (λ o. map entryV (rowsV r t o)) p new o
     go o m (same e) = rw (← e, upd-same) own
     go o m (other d) = rw (upd-other (λ o. map entryV (rowsV r t o)) p o new d) (ap (map entryV) (others o m d))
 
 -- All rows stay.
-pub queue-same : (r r′ : Rings) (t t′ : List ℕ) → ((o : ℕ) → o < 8 → rowsV r′ t′ o ≡ rowsV r t o) → queueV r′ t′ ≡ queueV r t
+pub queue-same : (r r′ : Rings) (t t′ : List ℕ) → ((o : ℕ) → o < peers → rowsV r′ t′ o ≡ rowsV r t o) → queueV r′ t′ ≡ queueV r t
 unfolding queueV
-queue-same r r′ t t′ h = upto-ext 8 [] (λ o. map entryV (rowsV r′ t′ o)) (λ o. map entryV (rowsV r t o)) (λ o l. ap (map entryV) (h o l))
+queue-same r r′ t t′ h = upto-ext peers [] (λ o. map entryV (rowsV r′ t′ o)) (λ o. map entryV (rowsV r t o)) (λ o l. ap (map entryV) (h o l))
 
 -- The rows of a peer depend on its entries and the bytes of its area.
 pub rows-same : (r r′ : Rings) (t t′ : List ℕ) (o : ℕ) → queueOf r′ o ≡ queueOf r o → areaOf t′ o (sumOf (queueOf r o)) ≡ areaOf t o (sumOf (queueOf r o)) → rowsV r′ t′ o ≡ rowsV r t o
@@ -74,6 +75,6 @@ map-length : (xs : List Pair) → length (map entryV xs) ≡ length xs
 map-length [] = refl
 map-length (x ∷ xs) = ap suc (map-length xs)
 
-pub queue-count : (r : Rings) (t : List ℕ) (p : ℕ) → p < 8 → length (queueV r t p) ≡ lengthOf (r .ends) p
+pub queue-count : (r : Rings) (t : List ℕ) (p : ℕ) → p < peers → length (queueV r t p) ≡ lengthOf (r .ends) p
 unfolding rowsV
 queue-count r t p l = ap length (queue-own r t p l) ∙ map-length (rowsV r t p) ∙ paired-length (queueOf r p) (areaOf t p (sumOf (queueOf r p))) ∙ queue-length r p

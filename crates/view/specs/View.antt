@@ -9,12 +9,14 @@ use Rattle.laws.specs.Tests.{pick}
 use Rattle.laws.specs.Build.{build}
 use Rattle.laws.specs.Guards.{upto}
 use Rattle.rings.specs.declared.Entry.{Entry as Row}
-use Rattle.rings.specs.Rings.{Rings, ringsOf, endCount, Sized, queueOf}
+use Rattle.ids.specs.Sizes.{peers, peersSize, nodesSize}
+use Rattle.rings.specs.Rings.{kindDestroyed, kindReleased, Rings, ringsOf, endsSize, Sized, queueOf}
 use Rattle.pool.specs.Pool.{areaSize, poolSize, Pair, paired, sumOf}
 use Rattle.tables.specs.PeersView.{statusV, userV, givenV, acceptedV}
 use Rattle.tables.specs.NodesView.{lifeV}
 use Rattle.tables.specs.Handles.{handlesSize}
 use Rattle.tables.specs.HandlesView.{handleV}
+use Rattle.tables.specs.Charges.{chargesSize}
 use Rattle.tables.specs.ChargesView.{chargesV}
 use Rattle.model.specs.State.{Entry, State}
 use Rattle.model.specs.State.Entry.{message, destroyed, released}
@@ -32,22 +34,64 @@ abbrev pub busOf : List ℕ → List ℕ → List ℕ → List ℕ → List ℕ 
 busOf ps ns hs cs ends entries carried numbers pool =
     record { peers = ps; nodes = ns; handles = hs; charges = cs; rings = ringsOf ends entries carried numbers; pool = pool }
 
+-- A bus with one buffer changed, the others as they were. Where several change, one of these stands around another: so a further buffer is a further line here, and in none of their uses.
+abbrev pub setPeers : Bus → List ℕ → Bus
+setPeers b ps = record { peers = ps; nodes = b .nodes; handles = b .handles; charges = b .charges; rings = b .rings; pool = b .pool }
+
+abbrev pub setNodes : Bus → List ℕ → Bus
+setNodes b ns = record { peers = b .peers; nodes = ns; handles = b .handles; charges = b .charges; rings = b .rings; pool = b .pool }
+
+abbrev pub setHandles : Bus → List ℕ → Bus
+setHandles b hs = record { peers = b .peers; nodes = b .nodes; handles = hs; charges = b .charges; rings = b .rings; pool = b .pool }
+
+abbrev pub setCharges : Bus → List ℕ → Bus
+setCharges b cs = record { peers = b .peers; nodes = b .nodes; handles = b .handles; charges = cs; rings = b .rings; pool = b .pool }
+
+abbrev pub setRings : Bus → Rings → Bus
+setRings b r = record { peers = b .peers; nodes = b .nodes; handles = b .handles; charges = b .charges; rings = r; pool = b .pool }
+
+abbrev pub setPool : Bus → List ℕ → Bus
+setPool b t = record { peers = b .peers; nodes = b .nodes; handles = b .handles; charges = b .charges; rings = b .rings; pool = t }
+
+-- No buffers, to be set where only some are looked at.
+abbrev pub noBuffers : Bus
+noBuffers = busOf [] [] [] [] [] [] [] [] []
+
 -- Every buffer has its length.
 pub record Shape (b : Bus) : Type 0 where
-  pub peers : length (b .peers) ≡ 25
-  pub nodes : length (b .nodes) ≡ 256
+  pub peers : length (b .peers) ≡ peersSize
+  pub nodes : length (b .nodes) ≡ nodesSize
   pub handles : length (b .handles) ≡ handlesSize
-  pub charges : length (b .charges) ≡ 96
-  pub ends : length (b .rings .ends) ≡ endCount
+  pub charges : length (b .charges) ≡ chargesSize
+  pub ends : length (b .rings .ends) ≡ endsSize
   pub rows : Sized (b .rings .rows)
   pub pool : length (b .pool) ≡ poolSize
 
--- A row of a ring with its payload: kind 1 is a destroy notice, 2 a release notice, anything else a message, which carries at most the eight slots of its row.
+-- So has every buffer of a bus with one changed, where that one has its length.
+pub shape-peers : {b : Bus} {ps : List ℕ} → Shape b → length ps ≡ peersSize → Shape (setPeers b ps)
+shape-peers s e = record { peers = e; nodes = s .nodes; handles = s .handles; charges = s .charges; ends = s .ends; rows = s .rows; pool = s .pool }
+
+pub shape-nodes : {b : Bus} {ns : List ℕ} → Shape b → length ns ≡ nodesSize → Shape (setNodes b ns)
+shape-nodes s e = record { peers = s .peers; nodes = e; handles = s .handles; charges = s .charges; ends = s .ends; rows = s .rows; pool = s .pool }
+
+pub shape-handles : {b : Bus} {hs : List ℕ} → Shape b → length hs ≡ handlesSize → Shape (setHandles b hs)
+shape-handles s e = record { peers = s .peers; nodes = s .nodes; handles = e; charges = s .charges; ends = s .ends; rows = s .rows; pool = s .pool }
+
+pub shape-charges : {b : Bus} {cs : List ℕ} → Shape b → length cs ≡ chargesSize → Shape (setCharges b cs)
+shape-charges s e = record { peers = s .peers; nodes = s .nodes; handles = s .handles; charges = e; ends = s .ends; rows = s .rows; pool = s .pool }
+
+pub shape-rings : {b : Bus} {r : Rings} → Shape b → length (r .ends) ≡ endsSize → Sized (r .rows) → Shape (setRings b r)
+shape-rings s e z = record { peers = s .peers; nodes = s .nodes; handles = s .handles; charges = s .charges; ends = e; rows = z; pool = s .pool }
+
+pub shape-pool : {b : Bus} {t : List ℕ} → Shape b → length t ≡ poolSize → Shape (setPool b t)
+shape-pool s e = record { peers = s .peers; nodes = s .nodes; handles = s .handles; charges = s .charges; ends = s .ends; rows = s .rows; pool = e }
+
+-- A row of a ring with its payload: a notice of a kind, and of any other number a message, which carries at most the eight slots of its row.
 unfoldable pub entryV : Pair → Entry
 entryV x =
     let e = x .entry in
-    pick (eqb (e .kind) 1) (destroyed (e .number) (e .slot))
-    (pick (eqb (e .kind) 2) (released (e .number) (e .slot))
+    pick (eqb (e .kind) kindDestroyed) (destroyed (e .number) (e .slot))
+    (pick (eqb (e .kind) kindReleased) (released (e .number) (e .slot))
     (message (e .number) (record { to = e .slot; user = e .user; payload = x .payload; carried = take (e .nh) (e .carried) })))
 
 -- The first n bytes of a peer's area, 0 past the end of the pool.
@@ -60,7 +104,7 @@ rowsV r t p = paired (queueOf r p) (areaOf t p (sumOf (queueOf r p)))
 
 -- The accessor of the queues: past the last peer there are none.
 unfoldable pub queueV : Rings → List ℕ → ℕ → List Entry
-queueV r t = upto 8 [] (λ p. map entryV (rowsV r t p))
+queueV r t = upto peers [] (λ p. map entryV (rowsV r t p))
 
 -- The state that a bus stands for.
 abbrev pub stateOf : Bus → State

@@ -18,7 +18,7 @@
 //! assert_eq!((recovered.lines, recovered.used), (1, 7));
 //! ```
 
-use crate::{raw, Bus, Outcome};
+use crate::{bus_call, raw, Bus, Outcome};
 
 /// A lent buffer in which every accepted command is kept as its line, and how
 /// much of it is used.
@@ -90,25 +90,9 @@ impl Bus {
         // Safety: as in `command`; the journal's bytes are borrowed mutably by
         // the journal, which is borrowed mutably here.
         let report = unsafe {
-            raw::bus_command_with_journal(
-                self.peers.as_mut_ptr(),
-                self.peers.len(),
-                self.nodes.as_mut_ptr(),
-                self.nodes.len(),
-                self.handles.as_mut_ptr(),
-                self.handles.len(),
-                self.charges.as_mut_ptr(),
-                self.charges.len(),
-                self.ends.as_mut_ptr(),
-                self.ends.len(),
-                self.entries.as_mut_ptr(),
-                self.entries.len(),
-                self.carried.as_mut_ptr(),
-                self.carried.len(),
-                self.numbers.as_mut_ptr(),
-                self.numbers.len(),
-                self.pool.as_mut_ptr(),
-                self.pool.len(),
+            bus_call!(
+                raw::bus_command_with_journal,
+                self,
                 frame.as_ptr(),
                 frame.len(),
                 answer.as_mut_ptr(),
@@ -133,30 +117,7 @@ impl Bus {
     /// and this is a fresh bus then.
     pub fn recover(&mut self, kept: &[u8]) -> Result<Recovered, Stopped> {
         // Safety: as in `command`; the bytes kept are only read.
-        let recovery = unsafe {
-            raw::bus_recover(
-                self.peers.as_mut_ptr(),
-                self.peers.len(),
-                self.nodes.as_mut_ptr(),
-                self.nodes.len(),
-                self.handles.as_mut_ptr(),
-                self.handles.len(),
-                self.charges.as_mut_ptr(),
-                self.charges.len(),
-                self.ends.as_mut_ptr(),
-                self.ends.len(),
-                self.entries.as_mut_ptr(),
-                self.entries.len(),
-                self.carried.as_mut_ptr(),
-                self.carried.len(),
-                self.numbers.as_mut_ptr(),
-                self.numbers.len(),
-                self.pool.as_mut_ptr(),
-                self.pool.len(),
-                kept.as_ptr(),
-                kept.len(),
-            )
-        };
+        let recovery = unsafe { bus_call!(raw::bus_recover, self, kept.as_ptr(), kept.len(),) };
         match recovery.number {
             0 => Ok(Recovered {
                 lines: recovery.line,

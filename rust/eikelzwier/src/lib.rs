@@ -39,6 +39,7 @@
 
 #![warn(missing_docs)]
 
+mod buffers;
 mod journal;
 pub mod raw;
 mod refusal;
@@ -69,21 +70,27 @@ impl Outcome {
     }
 }
 
-/// A message bus of eight peers, in buffers of its own on the heap.
-///
-/// Two are equal if their buffers are, to the byte.
-#[derive(Clone, PartialEq, Eq)]
-pub struct Bus {
-    peers: Box<[u64]>,
-    nodes: Box<[u64]>,
-    handles: Box<[u64]>,
-    charges: Box<[u16]>,
-    ends: Box<[u16]>,
-    entries: Box<[u16]>,
-    carried: Box<[u8]>,
-    numbers: Box<[u64]>,
-    pool: Box<[u8]>,
+macro_rules! bus {
+    ([$($name:ident: [$element:ty; $len:expr], $constant:ident;)*]) => {
+        /// A message bus of eight peers, in buffers of its own on the heap.
+        ///
+        /// Two are equal if their buffers are, to the byte.
+        #[derive(Clone, PartialEq, Eq)]
+        pub struct Bus {
+            $($name: Box<[$element]>,)*
+        }
+
+        impl Bus {
+            /// Buffers of the right lengths, cleared.
+            fn cleared() -> Bus {
+                Bus {
+                    $($name: vec![0; $len].into_boxed_slice(),)*
+                }
+            }
+        }
+    };
 }
+bus_buffers!(bus);
 
 impl Default for Bus {
     fn default() -> Bus {
@@ -91,24 +98,10 @@ impl Default for Bus {
     }
 }
 
-fn table<T: Clone + Default>(len: usize) -> Box<[T]> {
-    vec![T::default(); len].into_boxed_slice()
-}
-
 impl Bus {
     /// A fresh bus: no peer opened.
     pub fn new() -> Bus {
-        let mut bus = Bus {
-            peers: table(raw::PEERS_LEN),
-            nodes: table(raw::NODES_LEN),
-            handles: table(raw::HANDLES_LEN),
-            charges: table(raw::CHARGES_LEN),
-            ends: table(raw::ENDS_LEN),
-            entries: table(raw::ENTRIES_LEN),
-            carried: table(raw::CARRIED_LEN),
-            numbers: table(raw::NUMBERS_LEN),
-            pool: table(raw::POOL_LEN),
-        };
+        let mut bus = Bus::cleared();
         bus.reset();
         bus
     }
@@ -117,28 +110,7 @@ impl Bus {
     pub fn reset(&mut self) {
         // Safety: pointers and lengths are those of the buffers, which are
         // borrowed mutably here and lie apart.
-        let number = unsafe {
-            raw::bus_fresh(
-                self.peers.as_mut_ptr(),
-                self.peers.len(),
-                self.nodes.as_mut_ptr(),
-                self.nodes.len(),
-                self.handles.as_mut_ptr(),
-                self.handles.len(),
-                self.charges.as_mut_ptr(),
-                self.charges.len(),
-                self.ends.as_mut_ptr(),
-                self.ends.len(),
-                self.entries.as_mut_ptr(),
-                self.entries.len(),
-                self.carried.as_mut_ptr(),
-                self.carried.len(),
-                self.numbers.as_mut_ptr(),
-                self.numbers.len(),
-                self.pool.as_mut_ptr(),
-                self.pool.len(),
-            )
-        };
+        let number = unsafe { bus_call!(raw::bus_fresh, self) };
         assert_eq!(number, 0, "the buffers have their lengths");
     }
 
@@ -154,25 +126,9 @@ impl Bus {
         // which are borrowed here, mutably where they may be written, so no two
         // of them overlap. A pointer of a slice is never null.
         let outcome = unsafe {
-            raw::bus_command(
-                self.peers.as_mut_ptr(),
-                self.peers.len(),
-                self.nodes.as_mut_ptr(),
-                self.nodes.len(),
-                self.handles.as_mut_ptr(),
-                self.handles.len(),
-                self.charges.as_mut_ptr(),
-                self.charges.len(),
-                self.ends.as_mut_ptr(),
-                self.ends.len(),
-                self.entries.as_mut_ptr(),
-                self.entries.len(),
-                self.carried.as_mut_ptr(),
-                self.carried.len(),
-                self.numbers.as_mut_ptr(),
-                self.numbers.len(),
-                self.pool.as_mut_ptr(),
-                self.pool.len(),
+            bus_call!(
+                raw::bus_command,
+                self,
                 frame.as_ptr(),
                 frame.len(),
                 answer.as_mut_ptr(),

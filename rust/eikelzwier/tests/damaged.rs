@@ -5,18 +5,42 @@
 use std::fmt::Debug;
 
 use eikelzwier::raw::{self, BusOutcome, BusRecovery, BusReport};
-use eikelzwier::ANSWER_LEN;
+use eikelzwier::{bus_buffers, bus_call, ANSWER_LEN};
 use reference::script::Random;
 
 const GUARD: usize = 16;
+
+/// An element of a buffer.
+trait Element: Copy + PartialEq + Debug {
+    /// What stands around a buffer.
+    const GUARD: Self;
+
+    /// The low bits of a number.
+    fn of(number: u64) -> Self;
+}
+
+macro_rules! element {
+    ($element:ty) => {
+        impl Element for $element {
+            const GUARD: $element = 0xa5a5_a5a5_a5a5_a5a5_u64 as $element;
+
+            fn of(number: u64) -> $element {
+                number as $element
+            }
+        }
+    };
+}
+element!(u64);
+element!(u16);
+element!(u8);
 
 /// A buffer between guard elements.
 #[derive(Clone, PartialEq, Debug)]
 struct Buffer<T>(Vec<T>);
 
-impl<T: Copy + PartialEq + Debug> Buffer<T> {
-    fn new(len: usize, guard: T, mut draw: impl FnMut() -> T) -> Buffer<T> {
-        let mut all = vec![guard; len + 2 * GUARD];
+impl<T: Element> Buffer<T> {
+    fn new(len: usize, mut draw: impl FnMut() -> T) -> Buffer<T> {
+        let mut all = vec![T::GUARD; len + 2 * GUARD];
         all[GUARD..GUARD + len].fill_with(&mut draw);
         Buffer(all)
     }
@@ -30,103 +54,57 @@ impl<T: Copy + PartialEq + Debug> Buffer<T> {
         &mut self.0[GUARD..end]
     }
 
-    fn pointer(&mut self) -> *mut T {
+    fn as_mut_ptr(&mut self) -> *mut T {
         self.get().as_mut_ptr()
     }
 
-    fn check(&self, guard: T) {
+    fn check(&self) {
         let (front, back) = (&self.0[..GUARD], &self.0[self.0.len() - GUARD..]);
-        assert!(front.iter().chain(back).all(|x| *x == guard), "guards");
+        assert!(front.iter().chain(back).all(|x| *x == T::GUARD), "guards");
     }
 }
 
-/// The bus buffers.
-#[derive(Clone, PartialEq, Debug)]
-struct Tables {
-    peers: Buffer<u64>,
-    nodes: Buffer<u64>,
-    handles: Buffer<u64>,
-    charges: Buffer<u16>,
-    ends: Buffer<u16>,
-    entries: Buffer<u16>,
-    carried: Buffer<u8>,
-    numbers: Buffer<u64>,
-    pool: Buffer<u8>,
+macro_rules! tables {
+    ([$($name:ident: [$element:ty; $len:expr], $constant:ident;)*]) => {
+        /// The bus buffers.
+        #[derive(Clone, PartialEq, Debug)]
+        struct Tables {
+            $($name: Buffer<$element>,)*
+        }
+
+        const NAMES: &[&str] = &[$(stringify!($name)),*];
+
+        const LENGTHS: [usize; NAMES.len()] = [$(raw::$constant),*];
+
+        impl Tables {
+            /// Tables of these lengths with the numbers that are drawn.
+            fn drawn(lengths: [usize; NAMES.len()], mut draw: impl FnMut() -> u64) -> Tables {
+                let mut lengths = lengths.into_iter();
+                Tables {
+                    $($name: Buffer::new(lengths.next().expect("as many"), || Element::of(draw())),)*
+                }
+            }
+
+            fn check(&self) {
+                $(self.$name.check();)*
+            }
+        }
+    };
 }
-
-const LENGTHS: [usize; 9] = [
-    raw::PEERS_LEN,
-    raw::NODES_LEN,
-    raw::HANDLES_LEN,
-    raw::CHARGES_LEN,
-    raw::ENDS_LEN,
-    raw::ENTRIES_LEN,
-    raw::CARRIED_LEN,
-    raw::NUMBERS_LEN,
-    raw::POOL_LEN,
-];
-
-const WORD: u64 = 0xa5a5_a5a5_a5a5_a5a5;
-const SHORT: u16 = 0xa5a5;
-const BYTE: u8 = 0xa5;
+bus_buffers!(tables);
 
 impl Tables {
     /// Tables of these lengths with numbers of at most `most`.
-    fn new(lengths: [usize; 9], most: u64, random: &mut Random) -> Tables {
-        let mut draw = || match most {
+    fn new(lengths: [usize; NAMES.len()], most: u64, random: &mut Random) -> Tables {
+        Tables::drawn(lengths, || match most {
             u64::MAX => random.draw(),
             _ => random.draw() % (most + 1),
-        };
-        let [peers, nodes, handles, charges, ends, entries, carried, numbers, pool] = lengths;
-        Tables {
-            peers: Buffer::new(peers, WORD, &mut draw),
-            nodes: Buffer::new(nodes, WORD, &mut draw),
-            handles: Buffer::new(handles, WORD, &mut draw),
-            charges: Buffer::new(charges, SHORT, || draw() as u16),
-            ends: Buffer::new(ends, SHORT, || draw() as u16),
-            entries: Buffer::new(entries, SHORT, || draw() as u16),
-            carried: Buffer::new(carried, BYTE, || draw() as u8),
-            numbers: Buffer::new(numbers, WORD, &mut draw),
-            pool: Buffer::new(pool, BYTE, || draw() as u8),
-        }
-    }
-
-    fn check(&self) {
-        for words in [&self.peers, &self.nodes, &self.handles, &self.numbers] {
-            words.check(WORD);
-        }
-        for shorts in [&self.charges, &self.ends, &self.entries] {
-            shorts.check(SHORT);
-        }
-        for bytes in [&self.carried, &self.pool] {
-            bytes.check(BYTE);
-        }
+        })
     }
 
     fn fresh(&mut self) -> u8 {
-        // Safety: pointers and lengths are those of nine vectors.
-        let number = unsafe {
-            raw::bus_fresh(
-                self.peers.pointer(),
-                self.peers.len(),
-                self.nodes.pointer(),
-                self.nodes.len(),
-                self.handles.pointer(),
-                self.handles.len(),
-                self.charges.pointer(),
-                self.charges.len(),
-                self.ends.pointer(),
-                self.ends.len(),
-                self.entries.pointer(),
-                self.entries.len(),
-                self.carried.pointer(),
-                self.carried.len(),
-                self.numbers.pointer(),
-                self.numbers.len(),
-                self.pool.pointer(),
-                self.pool.len(),
-            )
-        };
+        // Safety: pointers and lengths are those of the tables' vectors.
+        let number = unsafe { bus_call!(raw::bus_fresh, self) };
         self.check();
         number
     }
@@ -134,36 +112,20 @@ impl Tables {
     /// One command, and what holds of every one.
     fn command(&mut self, frame: &[u8], answer_len: usize) -> (BusOutcome, Vec<u8>) {
         let before = self.clone();
-        let mut answer = Buffer::new(answer_len, BYTE, || 0xee);
-        // Safety: pointers and lengths are those of ten vectors and a slice.
+        let mut answer = Buffer::new(answer_len, || 0xeeu8);
+        // Safety: pointers and lengths are those of vectors and a slice.
         let outcome = unsafe {
-            raw::bus_command(
-                self.peers.pointer(),
-                self.peers.len(),
-                self.nodes.pointer(),
-                self.nodes.len(),
-                self.handles.pointer(),
-                self.handles.len(),
-                self.charges.pointer(),
-                self.charges.len(),
-                self.ends.pointer(),
-                self.ends.len(),
-                self.entries.pointer(),
-                self.entries.len(),
-                self.carried.pointer(),
-                self.carried.len(),
-                self.numbers.pointer(),
-                self.numbers.len(),
-                self.pool.pointer(),
-                self.pool.len(),
+            bus_call!(
+                raw::bus_command,
+                self,
                 frame.as_ptr(),
                 frame.len(),
-                answer.pointer(),
+                answer.as_mut_ptr(),
                 answer.len(),
             )
         };
         self.check();
-        answer.check(BYTE);
+        answer.check();
         let answer = answer.get();
         assert!(outcome.len <= ANSWER_LEN);
         assert!(answer[outcome.len..].iter().all(|b| *b == 0xee));
@@ -188,41 +150,25 @@ impl Tables {
         used: usize,
     ) -> (BusReport, Vec<u8>) {
         let mut bytes = journal.iter().copied();
-        let mut lent = Buffer::new(journal.len(), BYTE, || bytes.next().expect("as many"));
-        let mut answer = Buffer::new(answer_len, BYTE, || 0xee);
-        // Safety: pointers and lengths are those of eleven vectors and a slice.
+        let mut lent = Buffer::new(journal.len(), || bytes.next().expect("as many"));
+        let mut answer = Buffer::new(answer_len, || 0xeeu8);
+        // Safety: pointers and lengths are those of vectors and a slice.
         let report = unsafe {
-            raw::bus_command_with_journal(
-                self.peers.pointer(),
-                self.peers.len(),
-                self.nodes.pointer(),
-                self.nodes.len(),
-                self.handles.pointer(),
-                self.handles.len(),
-                self.charges.pointer(),
-                self.charges.len(),
-                self.ends.pointer(),
-                self.ends.len(),
-                self.entries.pointer(),
-                self.entries.len(),
-                self.carried.pointer(),
-                self.carried.len(),
-                self.numbers.pointer(),
-                self.numbers.len(),
-                self.pool.pointer(),
-                self.pool.len(),
+            bus_call!(
+                raw::bus_command_with_journal,
+                self,
                 frame.as_ptr(),
                 frame.len(),
-                answer.pointer(),
+                answer.as_mut_ptr(),
                 answer.len(),
-                lent.pointer(),
+                lent.as_mut_ptr(),
                 lent.len(),
                 used,
             )
         };
         self.check();
-        answer.check(BYTE);
-        lent.check(BYTE);
+        answer.check();
+        lent.check();
         journal.copy_from_slice(lent.get());
         (report, answer.get().to_vec())
     }
@@ -274,31 +220,8 @@ impl Tables {
     }
 
     fn recover(&mut self, kept: &[u8]) -> BusRecovery {
-        // Safety: pointers and lengths are those of nine vectors and a slice.
-        let recovery = unsafe {
-            raw::bus_recover(
-                self.peers.pointer(),
-                self.peers.len(),
-                self.nodes.pointer(),
-                self.nodes.len(),
-                self.handles.pointer(),
-                self.handles.len(),
-                self.charges.pointer(),
-                self.charges.len(),
-                self.ends.pointer(),
-                self.ends.len(),
-                self.entries.pointer(),
-                self.entries.len(),
-                self.carried.pointer(),
-                self.carried.len(),
-                self.numbers.pointer(),
-                self.numbers.len(),
-                self.pool.pointer(),
-                self.pool.len(),
-                kept.as_ptr(),
-                kept.len(),
-            )
-        };
+        // Safety: pointers and lengths are those of vectors and a slice.
+        let recovery = unsafe { bus_call!(raw::bus_recover, self, kept.as_ptr(), kept.len(),) };
         self.check();
         recovery
     }
@@ -342,15 +265,15 @@ fn fresh_over_any_contents() {
 #[test]
 fn wrong_lengths() {
     let mut random = Random::new(3);
-    for table in 0..9 {
+    for (table, name) in NAMES.iter().enumerate() {
         for len in [LENGTHS[table] - 1, LENGTHS[table] + 1, 0] {
             for most in [u64::MAX, 0] {
                 let mut lengths = LENGTHS;
                 lengths[table] = len;
                 let mut tables = Tables::new(lengths, most, &mut random);
                 let before = tables.clone();
-                assert_eq!(tables.fresh(), 5, "table {table} of {len}");
-                assert!(tables == before, "table {table} of {len}: written");
+                assert_eq!(tables.fresh(), 5, "{name} of {len}");
+                assert!(tables == before, "{name} of {len}: written");
                 for frame in [&OPEN[..], &[], &[0xff]] {
                     let (outcome, answer) = tables.command(frame, ANSWER_LEN);
                     assert_eq!((outcome, &answer[..]), (EIO, &[5][..]));
@@ -371,7 +294,7 @@ fn wrong_lengths() {
                 for kept in [&b""[..], b"010000\n", b"010000\n010000\n"] {
                     assert_eq!(tables.recover(kept), unfit);
                 }
-                assert!(tables == before, "table {table} of {len}: written");
+                assert!(tables == before, "{name} of {len}: written");
             }
         }
     }

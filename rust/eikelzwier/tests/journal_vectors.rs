@@ -5,7 +5,7 @@ use std::fs;
 use std::path::Path;
 use std::str::SplitWhitespace;
 
-use eikelzwier::{raw, Bus, Stopped, ANSWER_LEN};
+use eikelzwier::{bus_buffers, bus_call, raw, Bus, Stopped, ANSWER_LEN};
 use reference::journal;
 
 /// The place that the line reader told. Where a vector says none, none is
@@ -25,52 +25,25 @@ trait Kept {
     fn recovered(&mut self, kept: &[u8]) -> Result<usize, (usize, Place)>;
 }
 
-/// The library's bus in buffers of this test's, for the raw functions.
-struct Tables {
-    words: [Vec<u64>; 4],
-    shorts: [Vec<u16>; 3],
-    bytes: [Vec<u8>; 2],
-}
-
-impl Tables {
-    fn new() -> Tables {
-        let words = [
-            raw::PEERS_LEN,
-            raw::NODES_LEN,
-            raw::HANDLES_LEN,
-            raw::NUMBERS_LEN,
-        ];
-        let shorts = [raw::CHARGES_LEN, raw::ENDS_LEN, raw::ENTRIES_LEN];
-        let bytes = [raw::CARRIED_LEN, raw::POOL_LEN];
-        let mut tables = Tables {
-            words: words.map(|len| vec![0xaaaa; len]),
-            shorts: shorts.map(|len| vec![0xaaaa; len]),
-            bytes: bytes.map(|len| vec![0xaa; len]),
-        };
-        assert_eq!(tables.recovered(b""), Ok(0));
-        tables
-    }
-}
-
-/// Calls a raw function with the tables of a [`Tables`] and more arguments.
-macro_rules! raw_call {
-    ($function:path, $tables:expr $(, $more:expr)*) => {{
-        let [peers, nodes, handles, numbers] = &mut $tables.words;
-        let [charges, ends, entries] = &mut $tables.shorts;
-        let [carried, pool] = &mut $tables.bytes;
-        // Safety: pointers and lengths are those of nine vectors and of slices
-        // that are borrowed by the caller.
-        unsafe {
-            $function(
-                peers.as_mut_ptr(), peers.len(), nodes.as_mut_ptr(), nodes.len(),
-                handles.as_mut_ptr(), handles.len(), charges.as_mut_ptr(), charges.len(),
-                ends.as_mut_ptr(), ends.len(), entries.as_mut_ptr(), entries.len(),
-                carried.as_mut_ptr(), carried.len(), numbers.as_mut_ptr(), numbers.len(),
-                pool.as_mut_ptr(), pool.len(), $($more),*
-            )
+macro_rules! tables {
+    ([$($name:ident: [$element:ty; $len:expr], $constant:ident;)*]) => {
+        /// The library's bus in buffers of this test's, for the raw functions.
+        struct Tables {
+            $($name: Vec<$element>,)*
         }
-    }};
+
+        impl Tables {
+            fn new() -> Tables {
+                let mut tables = Tables {
+                    $($name: vec![0xaa; raw::$constant],)*
+                };
+                assert_eq!(tables.recovered(b""), Ok(0));
+                tables
+            }
+        }
+    };
 }
+bus_buffers!(tables);
 
 impl Kept for Tables {
     fn with_journal(
@@ -80,35 +53,42 @@ impl Kept for Tables {
         used: usize,
     ) -> (u8, Vec<u8>, usize) {
         let mut answer = [0; ANSWER_LEN];
-        let report = raw_call!(
-            raw::bus_command_with_journal,
-            self,
-            frame.as_ptr(),
-            frame.len(),
-            answer.as_mut_ptr(),
-            answer.len(),
-            journal.as_mut_ptr(),
-            journal.len(),
-            used
-        );
+        // Safety: pointers and lengths are those of vectors and slices.
+        let report = unsafe {
+            bus_call!(
+                raw::bus_command_with_journal,
+                self,
+                frame.as_ptr(),
+                frame.len(),
+                answer.as_mut_ptr(),
+                answer.len(),
+                journal.as_mut_ptr(),
+                journal.len(),
+                used
+            )
+        };
         (report.number, answer[..report.len].to_vec(), report.used)
     }
 
     fn alone(&mut self, frame: &[u8]) -> (u8, Vec<u8>) {
         let mut answer = [0; ANSWER_LEN];
-        let outcome = raw_call!(
-            raw::bus_command,
-            self,
-            frame.as_ptr(),
-            frame.len(),
-            answer.as_mut_ptr(),
-            answer.len()
-        );
+        // Safety: pointers and lengths are those of vectors and slices.
+        let outcome = unsafe {
+            bus_call!(
+                raw::bus_command,
+                self,
+                frame.as_ptr(),
+                frame.len(),
+                answer.as_mut_ptr(),
+                answer.len()
+            )
+        };
         (outcome.number, answer[..outcome.len].to_vec())
     }
 
     fn recovered(&mut self, kept: &[u8]) -> Result<usize, (usize, Place)> {
-        let r = raw_call!(raw::bus_recover, self, kept.as_ptr(), kept.len());
+        // Safety: pointers and lengths are those of vectors and slices.
+        let r = unsafe { bus_call!(raw::bus_recover, self, kept.as_ptr(), kept.len()) };
         match r.number {
             0 => Ok(r.used),
             _ => {

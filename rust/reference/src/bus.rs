@@ -465,14 +465,16 @@ impl Bus {
             return Err(Refusal::Destroyed);
         }
 
-        // All places at one peer are tested together.
+        // All places at one peer are tested together, at the first of them; each later
+        // one tests those from it on, which are fewer.
         let charge = Charge::of_message(send.payload.len() as u16, attached.len() as u16);
-        let mut places = [0u8; Peer::COUNT];
-        for node in destinations.iter() {
-            places[self.node(*node).owner.index()] += 1;
-        }
-        for (peer, &places) in self.peers.iter().zip(&places) {
-            if places > 0 && !peer.charges.allow(user, charge.times(u16::from(places))) {
+        for (place, node) in destinations.iter().enumerate() {
+            let owner = self.node(*node).owner;
+            let behind = destinations[place..]
+                .iter()
+                .filter(|n| self.node(**n).owner == owner);
+            let places = behind.count() as u16;
+            if !self.peer(owner).charges.allow(user, charge.times(places)) {
                 return Err(Refusal::Quota);
             }
         }

@@ -42,7 +42,7 @@ enum-known-order-2 : tie.Need-enum-known-order-2
 enum-known-order-2 c = search needs
 
 disconnect-requires : tie.Need-disconnect-requires
-disconnect-requires c κs = let z = (c .before .before .before .before .before .before .before .before .before .before .before .before .before .before .before .before .before .before .before .before) .pre .0 in let h = fair-as ((c .before .before .before .before .before .before .before .before .before .order2) .given .1) ((c .before .before .before .before .before .before .before .before .before .before .before .before .before .before .before .before .before .before .before .before) .pre .1) in (z .peers, z .nodes, z .handles, z .charges, z .ends, z .rows, h)
+disconnect-requires c κs = let z = (c .before .before .before .before .before .before .before .before .before .before .before .before .before .before .before .before .before .before .before .before) .pre .0 in let h = fair-as ((c .before .before .before .before .before .before .before .before .before .order2) .given .1) ((c .before .before .before .before .before .before .before .before .before .before .before .before .before .before .before .before .before .before .before .before) .pre .1) in (z .peers, z .nodes, z .handles, z .charges, record { ends = z .ends; rows = z .rows }, h)
 
 enum-known-order-3 : tie.Need-enum-known-order-3
 enum-known-order-3 c = search needs
@@ -54,13 +54,13 @@ enum-known-order-4 : tie.Need-enum-known-order-4
 enum-known-order-4 c = search needs
 
 destroy-requires : tie.Need-destroy-requires
-destroy-requires c κs = let z = (c .before .before .before .before .before .before .before .before .before .before .before .before .before .before .before .before .before .before .before) .pre .0 in let h = fair-as ((c .before .before .before .before .before .before .before .before .order4) .given .1) ((c .before .before .before .before .before .before .before .before .before .before .before .before .before .before .before .before .before .before .before) .pre .1) in (z .peers, z .nodes, z .handles, z .ends, z .rows, h)
+destroy-requires c κs = let z = (c .before .before .before .before .before .before .before .before .before .before .before .before .before .before .before .before .before .before .before) .pre .0 in let h = fair-as ((c .before .before .before .before .before .before .before .before .order4) .given .1) ((c .before .before .before .before .before .before .before .before .before .before .before .before .before .before .before .before .before .before .before) .pre .1) in (z .peers, z .nodes, z .handles, record { ends = z .ends; rows = z .rows }, h)
 
 enum-known-order-5 : tie.Need-enum-known-order-5
 enum-known-order-5 c = search needs
 
 release-requires : tie.Need-release-requires
-release-requires c κs = let z = (c .before .before .before .before .before .before .before .before .before .before .before .before .before .before .before .before .before .before .before .before .before) .pre .0 in let h = fair-as ((c .before .before .before .before .before .before .before .before .before .before .order5) .given .1) ((c .before .before .before .before .before .before .before .before .before .before .before .before .before .before .before .before .before .before .before .before .before) .pre .1) in (z .peers, z .nodes, z .handles, z .charges, z .ends, z .rows, h .0, h .1)
+release-requires c κs = let z = (c .before .before .before .before .before .before .before .before .before .before .before .before .before .before .before .before .before .before .before .before .before) .pre .0 in let h = fair-as ((c .before .before .before .before .before .before .before .before .before .before .order5) .given .1) ((c .before .before .before .before .before .before .before .before .before .before .before .before .before .before .before .before .before .before .before .before .before) .pre .1) in (z .peers, z .nodes, z .handles, z .charges, record { ends = z .ends; rows = z .rows }, h .0, h .1)
 
 same-length : tie.Need-same-length
 same-length c = search needs

@@ -76,7 +76,7 @@ returns : tie.Need-returns
 returns c = did-change _ _ _ _ ((c .before .before .before .before .before .before .before .before .before .before .before .before .before .before .before .before .before .before .before .before .before .before .change) .ensures) ((c .before .before .write-plain) .ensures) (others _ _ _ ((c .before .before .before .before .before .before .before .before .before .before .before .before .before .before .before .before .before .before .before .before .before .before .before .before .before .before .before .before .before .before .before .before .before .before .before .before .before .before .before .before .before .before .before .before .args) .r .order) _ ((c .before .before .before .before .before .before .before .before .before .before .before .before .before .before .before .before .before .before .before .before .before .before .before .before .before .before .before .before .before .before .before .before .match) .keys2))
 
 receive-requires : tie.Need-receive-requires
-receive-requires c κs = let z = (c .before .before .before .before .before .before .before .before .before .before .before .before .before .before .before .before .before .before .before .before .before .before .before .before) .pre .0 in let h = fair-as ((c .before .before .before .before .before .before .before .before .before .before .before .order) .given .1) ((c .before .before .before .before .before .before .before .before .before .before .before .before .before .before .before .before .before .before .before .before .before .before .before .before) .pre .2) in (z .peers, z .nodes, z .handles, z .charges, z .ends, z .rows, z .pool, h, (c .before .before .before .before .before .before .before .before .before .before .before .before .before .before .before .before .before .before .before .before .before .before .before .before) .pre .1 _ h)
+receive-requires c κs = let z = (c .before .before .before .before .before .before .before .before .before .before .before .before .before .before .before .before .before .before .before .before .before .before .before .before) .pre .0 in let h = fair-as ((c .before .before .before .before .before .before .before .before .before .before .before .order) .given .1) ((c .before .before .before .before .before .before .before .before .before .before .before .before .before .before .before .before .before .before .before .before .before .before .before .before) .pre .2) in (z .peers, z .nodes, z .handles, z .charges, record { ends = z .ends; rows = z .rows }, z .pool, h, (c .before .before .before .before .before .before .before .before .before .before .before .before .before .before .before .before .before .before .before .before .before .before .before .before) .pre .1 _ h)
 
 same-length-11 : tie.Need-same-length-11
 same-length-11 c = search needs

@@ -37,7 +37,7 @@ enum-known-order : tie.Need-enum-known-order
 enum-known-order c = search needs
 
 transfer-requires : tie.Need-transfer-requires
-transfer-requires c κs = let z = (c .before .before .before .before .before .before .before .before .before .before .before .before .before .before .before .before .before .before .before .before) .pre .0 in let h = fair-as ((c .before .before .before .before .before .before .before .before .order) .given .1) ((c .before .before .before .before .before .before .before .before .before .before .before .before .before .before .before .before .before .before .before .before) .pre .1) in (z .peers, z .nodes, z .handles, z .ends, z .rows, h .0, h .1)
+transfer-requires c κs = let z = (c .before .before .before .before .before .before .before .before .before .before .before .before .before .before .before .before .before .before .before .before) .pre .0 in let h = fair-as ((c .before .before .before .before .before .before .before .before .order) .given .1) ((c .before .before .before .before .before .before .before .before .before .before .before .before .before .before .before .before .before .before .before .before) .pre .1) in (z .peers, z .nodes, z .handles, record { ends = z .ends; rows = z .rows }, h .0, h .1)
 
 enum-known-order-2 : tie.Need-enum-known-order-2
 enum-known-order-2 c = search needs
@@ -46,7 +46,7 @@ payload-requires : tie.Need-payload-requires
 payload-requires c κs = search needs
 
 send-requires : tie.Need-send-requires
-send-requires c κs = let z = (c .before .before .before .before .before .before .before .before .before .before .before .before .before .before .before .before .before .before .before .before .before .before) .pre .0 in let h = fair-as ((c .before .before .before .before .before .before .before .before .before .before .order2) .given .1) ((c .before .before .before .before .before .before .before .before .before .before .before .before .before .before .before .before .before .before .before .before .before .before) .pre .1) in (z .peers, z .charges, z .ends, z .rows, h .0, h .1)
+send-requires c κs = let z = (c .before .before .before .before .before .before .before .before .before .before .before .before .before .before .before .before .before .before .before .before .before .before) .pre .0 in let h = fair-as ((c .before .before .before .before .before .before .before .before .before .before .order2) .given .1) ((c .before .before .before .before .before .before .before .before .before .before .before .before .before .before .before .before .before .before .before .before .before .before) .pre .1) in (z .peers, z .charges, record { ends = z .ends; rows = z .rows }, h .0, h .1)
 
 reply-requires : tie.Need-reply-requires
 reply-requires c κs = let z = (c .before .before .before .before .before .before .before .before .before .before .before .before .before) .pre .0 in (z .handles, z .charges, (c .before .before .before .before .before .before .before .before .before .before .before .before .before) .pre .1)

@@ -5,7 +5,7 @@ use Rattle.bus.proofs.execute.Statement.{statement}
 use Rattle.bus.proofs.execute.Tie as tie
 
 judge-requires : tie.Need-judge-requires
-judge-requires c κs = let z = (c .before .before .before .before .before .before .before .before .before .before .before .before .before .before .before .before .before .before .before) .pre .0 in (z .peers, z .nodes, z .handles, z .charges, z .ends, z .rows, (c .before .before .before .before .before .before .before .before .before .before .before .before .before .before .before .before .before .before .before) .pre .1, (c .before .before .before .before .before .before .before .before .before .before .before .before .before .before .before .before .before .before .before) .pre .2)
+judge-requires c κs = let z = (c .before .before .before .before .before .before .before .before .before .before .before .before .before .before .before .before .before .before .before) .pre .0 in (z .peers, z .nodes, z .handles, z .charges, record { ends = z .ends; rows = z .rows }, (c .before .before .before .before .before .before .before .before .before .before .before .before .before .before .before .before .before .before .before) .pre .1, (c .before .before .before .before .before .before .before .before .before .before .before .before .before .before .before .before .before .before .before) .pre .2)
 
 carry-out-requires : tie.Need-carry-out-requires
 carry-out-requires c κs = ((c .before .before .before .before .before .before .before .before .before .before .before .before .before .before .before .before .before .before .before .before .before .before .before .before .before .before .before .before .before .before) .pre .0, (c .before .before .before .before .before .before .before .before .before .before .before .before .before .before .before .before .before .before .before .before .before .before .before .before .before .before .before .before .before .before) .pre .1, fair-ruling _ _ _ ((c .before .before .before .before .before .before .before .before .before .before .judge) .ensures) ((c .before .before .before .before .before .before .before .before .before .before .before .before .before .before .before .before .before .before .before .before .before .before .before .before .before .before .before .before .before .before) .pre .2))

@@ -1,4 +1,5 @@
 -- `bus::in_range` meets its contract: the invariant is the definition's value so far. Assumes nothing.
+use Rattle.ids.specs.Sizes.{peers as peerCount}
 use native.Mathlib.Omega.{arith}
 use Prim.Native.Nat.{_-_, _≤_}
 use mathlib.Core.Path.{_≡_}
@@ -11,10 +12,10 @@ use Rattle.bus.proofs.in_range.Statement.{statement}
 use Rattle.bus.proofs.in_range.Tie as tie
 
 abbrev Inv-loop : tie.InvT-loop
-Inv-loop peers ends p₀ p = (p ≤ 8) × (peersOk peers ends p ≡ true)
+Inv-loop peers ends p₀ p = (p ≤ peerCount) × (peersOk peers ends p ≡ true)
 
 abbrev μ-loop : tie.MeasureT-loop
-μ-loop peers ends p₀ p = 8 - p
+μ-loop peers ends p₀ p = peerCount - p
 
 loop-holds : tie.Need-loop-holds Inv-loop μ-loop
 loop-holds c = (omega arith, none-yet _ _)

@@ -19,13 +19,13 @@ empty-requires : tie.Need-empty-requires
 empty-requires c κs = search needs
 
 tell-owners-requires : tie.Need-tell-owners-requires
-tell-owners-requires c κs = let z = (c .before .before .before .before .before .before .before .before .before .before .before .before .before .before .before .before .before .before .before .before .before .before .before .before .before .before .before .before .before .before .before .before .before .before .before .before .before .before .before .before .before .before .before .before .before) .pre in let d = (c .before .before .before .before .before .before .before .before .before .before .before .before .before .before .before .before .before .before .before .before .before .before .before .destroy-set) .kept in (omega (arith, z .1, d .0), z .2, omega (arith, z .4, d .1 .1 .0, (c .before .before .before .before .before .before .before .before .before .before .empty) .kept .1 .0), record { entries = omega (arith, z .5 .entries, d .1 .1 .1 .0); carried = omega (arith, z .5 .carried, d .1 .1 .1 .1 .0); numbers = omega (arith, z .5 .numbers, d .1 .1 .1 .1 .1 .0) }, z .6)
+tell-owners-requires c κs = let z = (c .before .before .before .before .before .before .before .before .before .before .before .before .before .before .before .before .before .before .before .before .before .before .before .before .before .before .before .before .before .before .before .before .before .before .before .before .before .before .before .before .before .before .before .before .before) .pre in let d = (c .before .before .before .before .before .before .before .before .before .before .before .before .before .before .before .before .before .before .before .before .before .before .before .destroy-set) .kept in (omega (arith, z .1, d .0), z .2, record { ends = omega (arith, z .4 .ends, d .1 .1 .0, (c .before .before .before .before .before .before .before .before .before .before .empty) .kept .1 .0); rows = record { entries = omega (arith, z .4 .rows .entries, d .1 .1 .1 .0); carried = omega (arith, z .4 .rows .carried, d .1 .1 .1 .1 .0); numbers = omega (arith, z .4 .rows .numbers, d .1 .1 .1 .1 .1 .0) } }, z .5)
 
 clear-peer-requires : tie.Need-clear-peer-requires
-clear-peer-requires c κs = let z = (c .before .before .before .before .before .before .before .before .before .before .before .before .before .before .before .before .before .before .before .before .before .before .before .before .before .before .before .before .before .before .before .before .before .before .before .before .before .before .before .before .before .before .before .before .before .before .before .before .before .before .before .before .before .before .before) .pre in (z .2, z .6)
+clear-peer-requires c κs = let z = (c .before .before .before .before .before .before .before .before .before .before .before .before .before .before .before .before .before .before .before .before .before .before .before .before .before .before .before .before .before .before .before .before .before .before .before .before .before .before .before .before .before .before .before .before .before .before .before .before .before .before .before .before .before .before .before) .pre in (z .2, z .5)
 
 set-disconnected-requires : tie.Need-set-disconnected-requires
-set-disconnected-requires c κs = let z = (c .before .before .before .before .before .before .before .before .before .before .before .before .before .before .before .before .before .before .before .before .before .before .before .before .before .before .before .before .before .before .before .before .before .before .before .before .before .before .before .before .before .before .before .before .before .before .before .before .before .before .before .before .before .before .before .before .before .before .before) .pre in (omega (arith, z .0, (c .before .before .before .before .before .before .before .before .before .before .before .before .before .before .before .before .before .before .before .before .before .before .before .before .before .before .before .before .before .before .before .before .before .before .before .before .before .before .before .before .before .before .before .before .before .before .before .before .before .next-number) .kept .0), z .6)
+set-disconnected-requires c κs = let z = (c .before .before .before .before .before .before .before .before .before .before .before .before .before .before .before .before .before .before .before .before .before .before .before .before .before .before .before .before .before .before .before .before .before .before .before .before .before .before .before .before .before .before .before .before .before .before .before .before .before .before .before .before .before .before .before .before .before .before .before) .pre in (omega (arith, z .0, (c .before .before .before .before .before .before .before .before .before .before .before .before .before .before .before .before .before .before .before .before .before .before .before .before .before .before .before .before .before .before .before .before .before .before .before .before .before .before .before .before .before .before .before .before .before .before .before .before .before .next-number) .kept .0), z .5)
 
 same-length : tie.Need-same-length
 same-length c = omega (arith, (c .before .before .before .before .before .before .before .before .before .before .before .before .before .before .before .before .before .before .before .before .before .before .before .before .before .before .before .before .before .before .before .before .before .before .before .before .before .before .before .before .before .before .before .before .before .before .before .before .before .before .before .before .next-number) .kept .0, (c .before .before .set-disconnected) .kept .0)

@@ -44,7 +44,7 @@ returns : tie.Need-returns
 returns c = let a = (c .before .before .before .before .before .before .before .before .before .before .before .before .before .before .before .before .before .before .before .before .before .before .before .before .before .before .before .before .before .args) in receive-notice (a .peers .now) (a .nodes .now) (a .handles .now) (queuesOf (a .charges .now) (a .ends .now) (a .entries .now) (a .carried .now) (a .numbers .now) (a .pool .now)) (a .p .0) (a .out .now) ((c .before .before .before .before .before .before .before .before .before .before .before .before .before .before .before .before .before .count-command) .ensures) ((c .before .before .before .before .before .before .before .before .before .before .first-entry) .ensures) ((c .before .before .before .before .before .before .before .before .before .is-message) .ensures) (not-true _ ((c .before .before .before .before .before .before .before .before .if1) .taken)) ((c .before .before .before .before .receive-notice) .ensures)
 
 receive-message-requires : tie.Need-receive-message-requires
-receive-message-requires c κs = let z = (c .before .before .before .before .before .before .before .before .before .before .before .before .before .before .before .before .before .before .before .before .before .before .before .before .before .before .before .before .before .before) .pre in (omega (arith, z .0, (c .before .before .before .before .before .before .before .before .before .before .before .before .before .before .before .before .before .before .count-command) .kept .0), z .1, z .2, z .3, z .4, z .5, z .6, z .7, z .8)
+receive-message-requires c κs = let z = (c .before .before .before .before .before .before .before .before .before .before .before .before .before .before .before .before .before .before .before .before .before .before .before .before .before .before .before .before .before .before) .pre in (omega (arith, z .0, (c .before .before .before .before .before .before .before .before .before .before .before .before .before .before .before .before .before .before .count-command) .kept .0), z .1, z .2, z .3, z .4, z .5, z .6, z .7)
 
 same-length-8 : tie.Need-same-length-8
 same-length-8 c = omega (arith, (c .before .before .before .before .before .before .before .before .before .before .before .before .before .before .before .before .before .before .before .before .before .before .before .before .before .before .before .before .before .before .before .before .before .before .before .before .before .count-command) .kept .0, (c .before .before .before .before .before .before .before .before .before .before .before .before .before .before .before .before .before .before .receive-message) .kept .0)

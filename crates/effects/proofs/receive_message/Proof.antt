@@ -25,13 +25,13 @@ least-requires : tie.Need-least-requires
 least-requires c κs = search needs
 
 give-all-requires : tie.Need-give-all-requires
-give-all-requires c κs = let z = (c .before .before .before .before .before .before .before .before .before .before .before .before .before .before .before .before .before .before .before .before .before .before .before .before .before .before .before .before .before .before .before) .pre in (z .0, z .1, z .2, omega (arith, z .4, (c .before .before .before .before .before .before .before .before .before .before .before .pop) .kept .0), z .5, z .7, omega (arith, (c .before .before .before .before .before .before .least) .ensures))
+give-all-requires c κs = let z = (c .before .before .before .before .before .before .before .before .before .before .before .before .before .before .before .before .before .before .before .before .before .before .before .before .before .before .before .before .before .before .before) .pre in (z .0, z .1, z .2, record { ends = omega (arith, z .4 .ends, (c .before .before .before .before .before .before .before .before .before .before .before .pop) .kept .0); rows = z .4 .rows }, z .6, omega (arith, (c .before .before .before .before .before .before .least) .ensures))
 
 write-message-requires : tie.Need-write-message-requires
-write-message-requires c κs = let z = (c .before .before .before .before .before .before .before .before .before .before .before .before .before .before .before .before .before .before .before .before .before .before .before .before .before .before .before .before .before .before .before .before .before .before .before .before .before .before .before .before .before .before .before .before .before .before .before) .pre in (z .3, z .6, z .7)
+write-message-requires c κs = let z = (c .before .before .before .before .before .before .before .before .before .before .before .before .before .before .before .before .before .before .before .before .before .before .before .before .before .before .before .before .before .before .before .before .before .before .before .before .before .before .before .before .before .before .before .before .before .before .before) .pre in (z .3, z .5, z .6)
 
 settle-requires : tie.Need-settle-requires
-settle-requires c κs = let z = (c .before .before .before .before .before .before .before .before .before .before .before .before .before .before .before .before .before .before .before .before .before .before .before .before .before .before .before .before .before .before .before .before .before .before .before .before .before .before .before .before .before .before .before .before .before .before .before .before .before .before .before .before) .pre in (z .3, z .7)
+settle-requires c κs = let z = (c .before .before .before .before .before .before .before .before .before .before .before .before .before .before .before .before .before .before .before .before .before .before .before .before .before .before .before .before .before .before .before .before .before .before .before .before .before .before .before .before .before .before .before .before .before .before .before .before .before .before .before .before) .pre in (z .3, z .6)
 
 same-length : tie.Need-same-length
 same-length c = search needs

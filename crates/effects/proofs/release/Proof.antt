@@ -19,7 +19,7 @@ forget-requires : tie.Need-forget-requires
 forget-requires c κs = search needs
 
 notify-requires : tie.Need-notify-requires
-notify-requires c κs = let a = (c .before .before .before .before .before .before .before .before .before .before .before .before .before .before .before .before .before .before .before .before .before .before .before .args) in let ends-kept : length ((c .before .before .before .before .before .if1) .ends) ≡ length (a .ends .now) = ⊎-elim (λ w. omega (arith, ap length (w .21), w .7 .kept .1 .0)) (λ w. ap length (w .2)) ((c .before .before .before .before .before .if1) .came) in let entries-kept : length ((c .before .before .before .before .before .if1) .entries) ≡ length (a .entries .now) = ⊎-elim (λ w. omega (arith, ap length (w .22), w .7 .kept .1 .1 .0)) (λ w. ap length (w .3)) ((c .before .before .before .before .before .if1) .came) in let carried-kept : length ((c .before .before .before .before .before .if1) .carried) ≡ length (a .carried .now) = ⊎-elim (λ w. omega (arith, ap length (w .23), w .7 .kept .1 .1 .1 .0)) (λ w. ap length (w .4)) ((c .before .before .before .before .before .if1) .came) in let numbers-kept : length ((c .before .before .before .before .before .if1) .numbers) ≡ length (a .numbers .now) = ⊎-elim (λ w. omega (arith, ap length (w .24), w .7 .kept .1 .1 .1 .1 .0)) (λ w. ap length (w .5)) ((c .before .before .before .before .before .if1) .came) in ((c .before .before .before .before .before .before .before .before .before .before .before .before .before .before .before .before .before .before .before .before .before .before .before) .pre .1, omega (arith, (c .before .before .before .before .before .before .before .before .before .before .before .before .before .before .before .before .before .before .before .before .before .before .before) .pre .2, (c .before .before .before .before .before .before .before .before .drop-reference) .kept), omega (arith, ends-kept, (c .before .before .before .before .before .before .before .before .before .before .before .before .before .before .before .before .before .before .before .before .before .before .before) .pre .4), sized-kept ((c .before .before .before .before .before .before .before .before .before .before .before .before .before .before .before .before .before .before .before .before .before .before .before) .pre .5) entries-kept carried-kept numbers-kept, (c .before .before .before .before .before .before .before .before .before .before .before .before .before .before .before .before .before .before .before .before .before .before .before) .pre .7)
+notify-requires c κs = let a = (c .before .before .before .before .before .before .before .before .before .before .before .before .before .before .before .before .before .before .before .before .before .before .before .args) in let ends-kept : length ((c .before .before .before .before .before .if1) .ends) ≡ length (a .ends .now) = ⊎-elim (λ w. omega (arith, ap length (w .21), w .7 .kept .1 .0)) (λ w. ap length (w .2)) ((c .before .before .before .before .before .if1) .came) in let entries-kept : length ((c .before .before .before .before .before .if1) .entries) ≡ length (a .entries .now) = ⊎-elim (λ w. omega (arith, ap length (w .22), w .7 .kept .1 .1 .0)) (λ w. ap length (w .3)) ((c .before .before .before .before .before .if1) .came) in let carried-kept : length ((c .before .before .before .before .before .if1) .carried) ≡ length (a .carried .now) = ⊎-elim (λ w. omega (arith, ap length (w .23), w .7 .kept .1 .1 .1 .0)) (λ w. ap length (w .4)) ((c .before .before .before .before .before .if1) .came) in let numbers-kept : length ((c .before .before .before .before .before .if1) .numbers) ≡ length (a .numbers .now) = ⊎-elim (λ w. omega (arith, ap length (w .24), w .7 .kept .1 .1 .1 .1 .0)) (λ w. ap length (w .5)) ((c .before .before .before .before .before .if1) .came) in ((c .before .before .before .before .before .before .before .before .before .before .before .before .before .before .before .before .before .before .before .before .before .before .before) .pre .1, omega (arith, (c .before .before .before .before .before .before .before .before .before .before .before .before .before .before .before .before .before .before .before .before .before .before .before) .pre .2, (c .before .before .before .before .before .before .before .before .drop-reference) .kept), record { ends = omega (arith, ends-kept, (c .before .before .before .before .before .before .before .before .before .before .before .before .before .before .before .before .before .before .before .before .before .before .before) .pre .4 .ends); rows = sized-kept ((c .before .before .before .before .before .before .before .before .before .before .before .before .before .before .before .before .before .before .before .before .before .before .before) .pre .4 .rows) entries-kept carried-kept numbers-kept }, (c .before .before .before .before .before .before .before .before .before .before .before .before .before .before .before .before .before .before .before .before .before .before .before) .pre .6)
 
 same-length : tie.Need-same-length
 same-length c = search needs

@@ -10,7 +10,7 @@ enum-known-c : tie.Need-enum-known-c
 enum-known-c c = search needs
 
 judge-open-requires : tie.Need-judge-open-requires
-judge-open-requires c κs = ((c .before .before .before .before .before .before .before .before .before .before .before .before) .pre .0, omega (arith, (legal-as ((c .before .before .before .before .before .before .before .before .before .before .before .before .args) .frame .now) _ ((c .before .before .before .before .before .before .before .before .before .before .before .before) .pre .7) ((c .before .c) .given .1)) .0))
+judge-open-requires c κs = ((c .before .before .before .before .before .before .before .before .before .before .before .before) .pre .0, omega (arith, (legal-as ((c .before .before .before .before .before .before .before .before .before .before .before .before .args) .frame .now) _ ((c .before .before .before .before .before .before .before .before .before .before .before .before) .pre .6) ((c .before .c) .given .1)) .0))
 
 plain-requires : tie.Need-plain-requires
 plain-requires c κs = search needs
@@ -19,7 +19,7 @@ enum-known-c-2 : tie.Need-enum-known-c-2
 enum-known-c-2 c = search needs
 
 judge-disconnect-requires : tie.Need-judge-disconnect-requires
-judge-disconnect-requires c κs = ((c .before .before .before .before .before .before .before .before .before .before .before .before) .pre .0, omega (arith, (legal-as ((c .before .before .before .before .before .before .before .before .before .before .before .before .args) .frame .now) _ ((c .before .before .before .before .before .before .before .before .before .before .before .before) .pre .7) ((c .before .c2) .given .1))))
+judge-disconnect-requires c κs = ((c .before .before .before .before .before .before .before .before .before .before .before .before) .pre .0, omega (arith, (legal-as ((c .before .before .before .before .before .before .before .before .before .before .before .before .args) .frame .now) _ ((c .before .before .before .before .before .before .before .before .before .before .before .before) .pre .6) ((c .before .c2) .given .1))))
 
 plain-requires-2 : tie.Need-plain-requires-2
 plain-requires-2 c κs = search needs
@@ -28,7 +28,7 @@ enum-known-c-3 : tie.Need-enum-known-c-3
 enum-known-c-3 c = search needs
 
 judge-create-requires : tie.Need-judge-create-requires
-judge-create-requires c κs = ((c .before .before .before .before .before .before .before .before .before .before .before .before) .pre .0, (c .before .before .before .before .before .before .before .before .before .before .before .before) .pre .1, (c .before .before .before .before .before .before .before .before .before .before .before .before) .pre .2, (c .before .before .before .before .before .before .before .before .before .before .before .before) .pre .3, (c .before .before .before .before .before .before .before .before .before .before .before .before) .pre .4, (c .before .before .before .before .before .before .before .before .before .before .before .before) .pre .5, (c .before .before .before .before .before .before .before .before .before .before .before .before) .pre .6, omega (arith, (legal-as ((c .before .before .before .before .before .before .before .before .before .before .before .before .args) .frame .now) _ ((c .before .before .before .before .before .before .before .before .before .before .before .before) .pre .7) ((c .before .c3) .given .1)) .0))
+judge-create-requires c κs = ((c .before .before .before .before .before .before .before .before .before .before .before .before) .pre .0, (c .before .before .before .before .before .before .before .before .before .before .before .before) .pre .1, (c .before .before .before .before .before .before .before .before .before .before .before .before) .pre .2, (c .before .before .before .before .before .before .before .before .before .before .before .before) .pre .3, (c .before .before .before .before .before .before .before .before .before .before .before .before) .pre .4, (c .before .before .before .before .before .before .before .before .before .before .before .before) .pre .5, omega (arith, (legal-as ((c .before .before .before .before .before .before .before .before .before .before .before .before .args) .frame .now) _ ((c .before .before .before .before .before .before .before .before .before .before .before .before) .pre .6) ((c .before .c3) .given .1)) .0))
 
 plain-requires-3 : tie.Need-plain-requires-3
 plain-requires-3 c κs = search needs
@@ -37,7 +37,7 @@ enum-known-c-4 : tie.Need-enum-known-c-4
 enum-known-c-4 c = search needs
 
 judge-destroy-requires : tie.Need-judge-destroy-requires
-judge-destroy-requires c κs = ((c .before .before .before .before .before .before .before .before .before .before .before .before) .pre .0, (c .before .before .before .before .before .before .before .before .before .before .before .before) .pre .1, (c .before .before .before .before .before .before .before .before .before .before .before .before) .pre .2, omega (arith, (legal-as ((c .before .before .before .before .before .before .before .before .before .before .before .before .args) .frame .now) _ ((c .before .before .before .before .before .before .before .before .before .before .before .before) .pre .7) ((c .before .c4) .given .1))))
+judge-destroy-requires c κs = ((c .before .before .before .before .before .before .before .before .before .before .before .before) .pre .0, (c .before .before .before .before .before .before .before .before .before .before .before .before) .pre .1, (c .before .before .before .before .before .before .before .before .before .before .before .before) .pre .2, omega (arith, (legal-as ((c .before .before .before .before .before .before .before .before .before .before .before .before .args) .frame .now) _ ((c .before .before .before .before .before .before .before .before .before .before .before .before) .pre .6) ((c .before .c4) .given .1))))
 
 plain-requires-4 : tie.Need-plain-requires-4
 plain-requires-4 c κs = search needs
@@ -46,7 +46,7 @@ enum-known-c-5 : tie.Need-enum-known-c-5
 enum-known-c-5 c = search needs
 
 judge-release-requires : tie.Need-judge-release-requires
-judge-release-requires c κs = ((c .before .before .before .before .before .before .before .before .before .before .before .before) .pre .0, (c .before .before .before .before .before .before .before .before .before .before .before .before) .pre .1, (c .before .before .before .before .before .before .before .before .before .before .before .before) .pre .2, omega (arith, (legal-as ((c .before .before .before .before .before .before .before .before .before .before .before .before .args) .frame .now) _ ((c .before .before .before .before .before .before .before .before .before .before .before .before) .pre .7) ((c .before .c5) .given .1))))
+judge-release-requires c κs = ((c .before .before .before .before .before .before .before .before .before .before .before .before) .pre .0, (c .before .before .before .before .before .before .before .before .before .before .before .before) .pre .1, (c .before .before .before .before .before .before .before .before .before .before .before .before) .pre .2, omega (arith, (legal-as ((c .before .before .before .before .before .before .before .before .before .before .before .before .args) .frame .now) _ ((c .before .before .before .before .before .before .before .before .before .before .before .before) .pre .6) ((c .before .c5) .given .1))))
 
 plain-requires-5 : tie.Need-plain-requires-5
 plain-requires-5 c κs = search needs
@@ -55,7 +55,7 @@ enum-known-c-6 : tie.Need-enum-known-c-6
 enum-known-c-6 c = search needs
 
 judge-transfer-requires : tie.Need-judge-transfer-requires
-judge-transfer-requires c κs = ((c .before .before .before .before .before .before .before .before .before .before .before .before) .pre .0, (c .before .before .before .before .before .before .before .before .before .before .before .before) .pre .1, (c .before .before .before .before .before .before .before .before .before .before .before .before) .pre .2, omega (arith, (legal-as ((c .before .before .before .before .before .before .before .before .before .before .before .before .args) .frame .now) _ ((c .before .before .before .before .before .before .before .before .before .before .before .before) .pre .7) ((c .before .c6) .given .1)) .0), omega (arith, (legal-as ((c .before .before .before .before .before .before .before .before .before .before .before .before .args) .frame .now) _ ((c .before .before .before .before .before .before .before .before .before .before .before .before) .pre .7) ((c .before .c6) .given .1)) .1))
+judge-transfer-requires c κs = ((c .before .before .before .before .before .before .before .before .before .before .before .before) .pre .0, (c .before .before .before .before .before .before .before .before .before .before .before .before) .pre .1, (c .before .before .before .before .before .before .before .before .before .before .before .before) .pre .2, omega (arith, (legal-as ((c .before .before .before .before .before .before .before .before .before .before .before .before .args) .frame .now) _ ((c .before .before .before .before .before .before .before .before .before .before .before .before) .pre .6) ((c .before .c6) .given .1)) .0), omega (arith, (legal-as ((c .before .before .before .before .before .before .before .before .before .before .before .before .args) .frame .now) _ ((c .before .before .before .before .before .before .before .before .before .before .before .before) .pre .6) ((c .before .c6) .given .1)) .1))
 
 plain-requires-6 : tie.Need-plain-requires-6
 plain-requires-6 c κs = search needs
@@ -64,13 +64,13 @@ enum-known-c-7 : tie.Need-enum-known-c-7
 enum-known-c-7 c = search needs
 
 judge-send-requires : tie.Need-judge-send-requires
-judge-send-requires c κs = ((c .before .before .before .before .before .before .before .before .before .before .before .before) .pre .0, (c .before .before .before .before .before .before .before .before .before .before .before .before) .pre .1, (c .before .before .before .before .before .before .before .before .before .before .before .before) .pre .2, (c .before .before .before .before .before .before .before .before .before .before .before .before) .pre .3, omega (arith, (legal-as ((c .before .before .before .before .before .before .before .before .before .before .before .before .args) .frame .now) _ ((c .before .before .before .before .before .before .before .before .before .before .before .before) .pre .7) ((c .before .c7) .given .1)) .0), (legal-as ((c .before .before .before .before .before .before .before .before .before .before .before .before .args) .frame .now) _ ((c .before .before .before .before .before .before .before .before .before .before .before .before) .pre .7) ((c .before .c7) .given .1)) .1)
+judge-send-requires c κs = ((c .before .before .before .before .before .before .before .before .before .before .before .before) .pre .0, (c .before .before .before .before .before .before .before .before .before .before .before .before) .pre .1, (c .before .before .before .before .before .before .before .before .before .before .before .before) .pre .2, (c .before .before .before .before .before .before .before .before .before .before .before .before) .pre .3, omega (arith, (legal-as ((c .before .before .before .before .before .before .before .before .before .before .before .before .args) .frame .now) _ ((c .before .before .before .before .before .before .before .before .before .before .before .before) .pre .6) ((c .before .c7) .given .1)) .0), (legal-as ((c .before .before .before .before .before .before .before .before .before .before .before .before .args) .frame .now) _ ((c .before .before .before .before .before .before .before .before .before .before .before .before) .pre .6) ((c .before .c7) .given .1)) .1)
 
 enum-known-c-8 : tie.Need-enum-known-c-8
 enum-known-c-8 c = search needs
 
 judge-receive-requires : tie.Need-judge-receive-requires
-judge-receive-requires c κs = ((c .before .before .before .before .before .before .before .before .before .before .before .before) .pre .0, (c .before .before .before .before .before .before .before .before .before .before .before .before) .pre .4, (c .before .before .before .before .before .before .before .before .before .before .before .before) .pre .5, omega (arith, (legal-as ((c .before .before .before .before .before .before .before .before .before .before .before .before .args) .frame .now) _ ((c .before .before .before .before .before .before .before .before .before .before .before .before) .pre .7) ((c .before .c8) .given .1))))
+judge-receive-requires c κs = ((c .before .before .before .before .before .before .before .before .before .before .before .before) .pre .0, (c .before .before .before .before .before .before .before .before .before .before .before .before) .pre .4, omega (arith, (legal-as ((c .before .before .before .before .before .before .before .before .before .before .before .before .args) .frame .now) _ ((c .before .before .before .before .before .before .before .before .before .before .before .before) .pre .6) ((c .before .c8) .given .1))))
 
 plain-requires-7 : tie.Need-plain-requires-7
 plain-requires-7 c κs = search needs
@@ -79,7 +79,7 @@ enum-known-c-9 : tie.Need-enum-known-c-9
 enum-known-c-9 c = search needs
 
 judge-quota-requires : tie.Need-judge-quota-requires
-judge-quota-requires c κs = ((c .before .before .before .before .before .before .before .before .before .before .before .before) .pre .0, omega (arith, (legal-as ((c .before .before .before .before .before .before .before .before .before .before .before .before .args) .frame .now) _ ((c .before .before .before .before .before .before .before .before .before .before .before .before) .pre .7) ((c .before .c9) .given .1)) .0))
+judge-quota-requires c κs = ((c .before .before .before .before .before .before .before .before .before .before .before .before) .pre .0, omega (arith, (legal-as ((c .before .before .before .before .before .before .before .before .before .before .before .before .args) .frame .now) _ ((c .before .before .before .before .before .before .before .before .before .before .before .before) .pre .6) ((c .before .c9) .given .1)) .0))
 
 plain-requires-8 : tie.Need-plain-requires-8
 plain-requires-8 c κs = search needs
@@ -88,7 +88,7 @@ enum-known-c-10 : tie.Need-enum-known-c-10
 enum-known-c-10 c = search needs
 
 judge-holders-requires : tie.Need-judge-holders-requires
-judge-holders-requires c κs = ((c .before .before .before .before .before .before .before .before .before .before .before .before) .pre .0, (c .before .before .before .before .before .before .before .before .before .before .before .before) .pre .2, omega (arith, (legal-as ((c .before .before .before .before .before .before .before .before .before .before .before .before .args) .frame .now) _ ((c .before .before .before .before .before .before .before .before .before .before .before .before) .pre .7) ((c .before .c10) .given .1))))
+judge-holders-requires c κs = ((c .before .before .before .before .before .before .before .before .before .before .before .before) .pre .0, (c .before .before .before .before .before .before .before .before .before .before .before .before) .pre .2, omega (arith, (legal-as ((c .before .before .before .before .before .before .before .before .before .before .before .before .args) .frame .now) _ ((c .before .before .before .before .before .before .before .before .before .before .before .before) .pre .6) ((c .before .c10) .given .1))))
 
 plain-requires-9 : tie.Need-plain-requires-9
 plain-requires-9 c κs = search needs

@@ -9,12 +9,13 @@ use native.Mathlib.Omega.{arith}
 use borrow.Author.Needs.{needs}
 use Rattle.notices.proofs.bury.Statement.{statement}
 use Rattle.notices.proofs.bury.Tie as tie
+use Rattle.ids.specs.Sizes.{slots}
 
 abbrev Inv-loop : tie.InvT-loop
-Inv-loop nodes₀ p set n k₀ nodes k = (k ≤ 16) × (length nodes ≡ length nodes₀) × (nodes ≡ deadAll nodes₀ (p .0) set n k)
+Inv-loop nodes₀ p set n k₀ nodes k = (k ≤ slots) × (length nodes ≡ length nodes₀) × (nodes ≡ deadAll nodes₀ (p .0) set n k)
 
 abbrev μ-loop : tie.MeasureT-loop
-μ-loop nodes₀ p set n k₀ nodes k = 16 - k
+μ-loop nodes₀ p set n k₀ nodes k = slots - k
 
 loop-holds : tie.Need-loop-holds Inv-loop μ-loop
 loop-holds c = (omega arith, refl, bury-none _ _ _ _)

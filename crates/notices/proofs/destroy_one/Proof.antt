@@ -28,7 +28,7 @@ notice-requires : tie.Need-notice-requires
 notice-requires c κs = search needs
 
 post-requires : tie.Need-post-requires
-post-requires c κs = let w = (c .before .before .before .before .before .before .before .before .before .before .before .before .before .before .before .before .before .before .withdraw) in let z = (c .before .before .before .before .before .before .before .before .before .before .before .before .before .before .before .before .before .before .before .before .before .before .before .before .before .before .before .before .before .before .before) .pre in (omega (arith, w .kept .0, z .2), record { entries = omega (arith, w .kept .1 .0, z .3 .entries); carried = omega (arith, w .kept .1 .1 .0, z .3 .carried); numbers = omega (arith, w .kept .1 .1 .1 .0, z .3 .numbers) })
+post-requires c κs = let w = (c .before .before .before .before .before .before .before .before .before .before .before .before .before .before .before .before .before .before .withdraw) in let z = (c .before .before .before .before .before .before .before .before .before .before .before .before .before .before .before .before .before .before .before .before .before .before .before .before .before .before .before .before .before .before .before) .pre in record { ends = omega (arith, w .kept .0, z .2 .ends); rows = record { entries = omega (arith, w .kept .1 .0, z .2 .rows .entries); carried = omega (arith, w .kept .1 .1 .0, z .2 .rows .carried); numbers = omega (arith, w .kept .1 .1 .1 .0, z .2 .rows .numbers) } }
 
 same-length : tie.Need-same-length
 same-length c = search needs

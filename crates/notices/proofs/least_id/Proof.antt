@@ -8,12 +8,13 @@ use native.Mathlib.Omega.{arith}
 use borrow.Author.Needs.{needs}
 use Rattle.notices.proofs.least_id.Statement.{statement}
 use Rattle.notices.proofs.least_id.Tie as tie
+use Rattle.ids.specs.Sizes.{slots}
 
 abbrev Inv-loop : tie.InvT-loop
-Inv-loop handles q set found₀ k₀ found k = (k ≤ 16) × (found ≡ leastAt handles (q .0) set k)
+Inv-loop handles q set found₀ k₀ found k = (k ≤ slots) × (found ≡ leastAt handles (q .0) set k)
 
 abbrev μ-loop : tie.MeasureT-loop
-μ-loop handles q set found₀ k₀ found k = 16 - k
+μ-loop handles q set found₀ k₀ found k = slots - k
 
 loop-holds : tie.Need-loop-holds Inv-loop μ-loop
 loop-holds c = (omega arith, least-none _ _ _)

@@ -5,15 +5,16 @@ use Rattle.notices.specs.Code.{Posting, posting-start, posting-none, pos
 use borrow.Author.Needs.{needs}
 use Rattle.notices.proofs.post.Statement.{statement}
 use Rattle.notices.proofs.post.Tie as tie
+use Rattle.ids.specs.Sizes.{peers}
 
 abbrev Inv-loop : tie.InvT-loop
 Inv-loop ends₀ entries₀ carried₀ numbers₀ set e rest₀ k₀ ends entries carried numbers rest k = Posting (ringsOf ends₀ entries₀ carried₀ numbers₀) e set (ringsOf ends entries carried numbers) rest k
 
 abbrev μ-loop : tie.MeasureT-loop
-μ-loop ends₀ entries₀ carried₀ numbers₀ set e rest₀ k₀ ends entries carried numbers rest k = 8 - k
+μ-loop ends₀ entries₀ carried₀ numbers₀ set e rest₀ k₀ ends entries carried numbers rest k = peers - k
 
 loop-holds : tie.Need-loop-holds Inv-loop μ-loop
-loop-holds c = let a = (c .before .before .before .before .args) in posting-start (ringsOf (a .ends .now) (a .entries .now) (a .carried .now) (a .numbers .now)) _ _ ((c .before .before .before .before) .pre .0) ((c .before .before .before .before) .pre .1)
+loop-holds c = let a = (c .before .before .before .before .args) in posting-start (ringsOf (a .ends .now) (a .entries .now) (a .carried .now) (a .numbers .now)) _ _ ((c .before .before .before .before) .pre .ends) ((c .before .before .before .before) .pre .rows)
 
 same-length : tie.Need-same-length Inv-loop μ-loop
 same-length c = search needs

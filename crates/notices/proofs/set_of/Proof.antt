@@ -5,12 +5,13 @@ use native.Mathlib.Omega.{arith}
 use borrow.Author.Needs.{needs}
 use Rattle.notices.proofs.set_of.Statement.{statement}
 use Rattle.notices.proofs.set_of.Tie as tie
+use Rattle.ids.specs.Sizes.{slots}
 
 abbrev Inv-loop : tie.InvT-loop
 Inv-loop nodes handles q a k₀ bit₀ set₀ k bit set = Asking nodes handles (q .0) a k bit set
 
 abbrev μ-loop : tie.MeasureT-loop
-μ-loop nodes handles q a k₀ bit₀ set₀ k bit set = 16 - k
+μ-loop nodes handles q a k₀ bit₀ set₀ k bit set = slots - k
 
 loop-holds : tie.Need-loop-holds Inv-loop μ-loop
 loop-holds c = asking-none _ _ _ _

@@ -5,15 +5,16 @@ use Rattle.notices.specs.Code.{Telling, telling-start, telling-none, tel
 use borrow.Author.Needs.{needs}
 use Rattle.notices.proofs.tell.Statement.{statement}
 use Rattle.notices.proofs.tell.Tie as tie
+use Rattle.ids.specs.Sizes.{slots}
 
 abbrev Inv-loop : tie.InvT-loop
 Inv-loop nodes handles ends₀ entries₀ carried₀ numbers₀ q set kind n rest₀ k₀ ends entries carried numbers rest k = Telling handles (q .0) kind n (ringsOf ends₀ entries₀ carried₀ numbers₀) set (ringsOf ends entries carried numbers) rest k
 
 abbrev μ-loop : tie.MeasureT-loop
-μ-loop nodes handles ends₀ entries₀ carried₀ numbers₀ q set kind n rest₀ k₀ ends entries carried numbers rest k = 16 - k
+μ-loop nodes handles ends₀ entries₀ carried₀ numbers₀ q set kind n rest₀ k₀ ends entries carried numbers rest k = slots - k
 
 loop-holds : tie.Need-loop-holds Inv-loop μ-loop
-loop-holds c = let a = (c .before .before .before .before .before .before .args) in telling-start (a .nodes .now) _ _ _ _ (ringsOf (a .ends .now) (a .entries .now) (a .carried .now) (a .numbers .now)) _ ((c .before .before .before .before .before .before) .pre .2) ((c .before .before .before .before .before .before) .pre .3)
+loop-holds c = let a = (c .before .before .before .before .before .before .args) in telling-start (a .nodes .now) _ _ _ _ (ringsOf (a .ends .now) (a .entries .now) (a .carried .now) (a .numbers .now)) _ ((c .before .before .before .before .before .before) .pre .2 .ends) ((c .before .before .before .before .before .before) .pre .2 .rows)
 
 least-id-requires : tie.Need-least-id-requires Inv-loop μ-loop
 least-id-requires c κs = search needs
@@ -55,7 +56,7 @@ post-requires : tie.Need-post-requires Inv-loop μ-loop
 post-requires c κs = search needs
 
 set-of-requires : tie.Need-set-of-requires Inv-loop μ-loop
-set-of-requires c κs = (((c .before .before .before .before .before .before .before .before .before .before .before .before .before .before .before .before .before .before .before .before .before .before .before .before .before .before .before .before) .pre .0), ((c .before .before .before .before .before .before .before .before .before .before .before .before .before .before .before .before .before .before .before .before .before .before .before .before .before .before .before .before) .pre .1), ((c .before .before .before .before .before .before .before .before .before .before .before .before .before .before .before .before .before .before .before .before .before .before .before .before .before .before .before .before) .pre .4), tt)
+set-of-requires c κs = (((c .before .before .before .before .before .before .before .before .before .before .before .before .before .before .before .before .before .before .before .before .before .before .before .before .before .before .before .before) .pre .0), ((c .before .before .before .before .before .before .before .before .before .before .before .before .before .before .before .before .before .before .before .before .before .before .before .before .before .before .before .before) .pre .1), ((c .before .before .before .before .before .before .before .before .before .before .before .before .before .before .before .before .before .before .before .before .before .before .before .before .before .before .before .before) .pre .3), tt)
 
 add-k : tie.Need-add-k Inv-loop μ-loop
 add-k c = search needs

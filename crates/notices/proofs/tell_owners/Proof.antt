@@ -5,15 +5,16 @@ use Rattle.notices.specs.Code.{Owning, owning-start, owning-next, owning
 use borrow.Author.Needs.{needs}
 use Rattle.notices.proofs.tell_owners.Statement.{statement}
 use Rattle.notices.proofs.tell_owners.Tie as tie
+use Rattle.ids.specs.Sizes.{peers}
 
 abbrev Inv-loop : tie.InvT-loop
 Inv-loop nodes handles ends₀ entries₀ carried₀ numbers₀ p n q₀ ends entries carried numbers q = Owning nodes handles (p .0) n (ringsOf ends₀ entries₀ carried₀ numbers₀) (ringsOf ends entries carried numbers) q
 
 abbrev μ-loop : tie.MeasureT-loop
-μ-loop nodes handles ends₀ entries₀ carried₀ numbers₀ p n q₀ ends entries carried numbers q = 8 - q
+μ-loop nodes handles ends₀ entries₀ carried₀ numbers₀ p n q₀ ends entries carried numbers q = peers - q
 
 loop-holds : tie.Need-loop-holds Inv-loop μ-loop
-loop-holds c = let a = (c .before .before .before .before .before .before .args) in owning-start _ _ _ _ (ringsOf (a .ends .now) (a .entries .now) (a .carried .now) (a .numbers .now)) ((c .before .before .before .before .before .before) .pre .2) ((c .before .before .before .before .before .before) .pre .3)
+loop-holds c = let a = (c .before .before .before .before .before .before .args) in owning-start _ _ _ _ (ringsOf (a .ends .now) (a .entries .now) (a .carried .now) (a .numbers .now)) ((c .before .before .before .before .before .before) .pre .2 .ends) ((c .before .before .before .before .before .before) .pre .2 .rows)
 
 set-of-requires : tie.Need-set-of-requires Inv-loop μ-loop
 set-of-requires c κs = search needs

@@ -1,4 +1,5 @@
 -- `queues::attached` meets its contract: the sum of the four users' handles. Assumes nothing.
+use Rattle.laws.specs.Sums.{sumTo}
 use Rattle.queues.specs.Queues.{attachedOf}
 use borrow.Author.Needs.{needs}
 use Rattle.queues.proofs.attached.Statement.{statement}
@@ -38,7 +39,7 @@ add-result-3 : tie.Need-add-result-3
 add-result-3 c = search needs
 
 returns : tie.Need-returns
-unfolding attachedOf
+unfolding attachedOf sumTo
 returns c = search needs
 
 pub attached-spec : {M : Type 1} → statement M

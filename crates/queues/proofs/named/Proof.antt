@@ -21,7 +21,7 @@ loop-holds : tie.Need-loop-holds Inv-loop μ-loop
 loop-holds c = (omega arith, λ k h. absurd (omega arith))
 
 carries-requires : tie.Need-carries-requires Inv-loop μ-loop
-carries-requires c κs = let z = c .before .before .before .before .before .before .before .pre in (z .0, z .1, z .2, omega arith, z .3 (c .before .loop .q) (omega arith))
+carries-requires c κs = let z = c .before .before .before .before .before .before .before .pre in (z .0, z .1, omega arith, z .2 (c .before .loop .q) (omega arith))
 
 returns : tie.Need-returns Inv-loop μ-loop
 returns c = let a = c .before .before .before .before .before .before .before .before .before .args in named-found (a .charges .now) (ringsOf (a .ends .now) (a .entries .now) (a .carried .now) (a .numbers .now)) (a .s) (c .before .before .before .loop .q) (c .before .before .loop-test .taken) (c .before .carries .ensures) (c .if1 .taken)

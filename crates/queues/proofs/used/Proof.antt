@@ -1,4 +1,5 @@
 -- `queues::used` meets its contract: the sum of the four users' bytes, at most the area. Assumes nothing.
+use Rattle.laws.specs.Sums.{sumTo}
 use Rattle.queues.specs.Queues.{usedOf}
 use borrow.Author.Needs.{needs}
 use Rattle.queues.proofs.used.Statement.{statement}
@@ -41,7 +42,7 @@ least-requires : tie.Need-least-requires
 least-requires c κs = search needs
 
 returns : tie.Need-returns
-unfolding usedOf
+unfolding usedOf sumTo
 returns c = search needs
 
 pub used-spec : {M : Type 1} → statement M

@@ -6,6 +6,7 @@ use native.Mathlib.Omega.{arith}
 use borrow.Author.Needs.{needs}
 use Rattle.rings.proofs.put_carried.Statement.{statement}
 use Rattle.rings.proofs.put_carried.Tie as tie
+use Rattle.ids.specs.Sizes.{carriedFields}
 
 mul-c : tie.Need-mul-c
 mul-c c = search needs
@@ -83,7 +84,7 @@ same-length : tie.Need-same-length
 same-length c = simp length-set
 
 returns : tie.Need-returns
-returns c = stores8 (c .args .carried .now) (8 * c .args .row) (c .args .t3)
+returns c = stores8 (c .args .carried .now) (carriedFields * c .args .row) (c .args .t3)
 
 pub put-carried-spec : {M : Type 1} → statement M
 put-carried-spec =

@@ -6,6 +6,7 @@ use native.Mathlib.Omega.{arith}
 use borrow.Author.Needs.{needs}
 use Rattle.rings.proofs.put_fields.Statement.{statement}
 use Rattle.rings.proofs.put_fields.Tie as tie
+use Rattle.ids.specs.Sizes.{entryFields}
 
 mul-a : tie.Need-mul-a
 mul-a c = search needs
@@ -56,7 +57,7 @@ same-length : tie.Need-same-length
 same-length c = search needs
 
 returns : tie.Need-returns
-returns c = fields-put (c .args .entries .now) (5 * c .args .row) (c .args .e)
+returns c = fields-put (c .args .entries .now) (entryFields * c .args .row) (c .args .e)
 
 pub put-fields-spec : {M : Type 1} → statement M
 put-fields-spec =

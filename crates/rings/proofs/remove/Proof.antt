@@ -22,10 +22,10 @@ same-length-2 : tie.Need-same-length-2
 same-length-2 c = search needs
 
 returns : tie.Need-returns
-returns c = let a = c .before .before .before .before .before .before .before .before .before .before .before .args in let r = c .before .before .before .before .before .before .before .before .before .before .before .pre in remove-none (a .entries .now) (a .carried .now) (a .numbers .now) (a .p .0) _ _ (a .m) (c .before .first-match .ensures) (a .ends .now) (r .1) (omega (arith, r .3, c .before .before .before .len-of .ensures)) (c .before .before .before .before .before .head-of .ensures .0) (c .before .before .before .len-of .ensures .0) (c .if1 .taken)
+returns c = let a = c .before .before .before .before .before .before .before .before .before .before .before .args in let r = c .before .before .before .before .before .before .before .before .before .before .before .pre in remove-none (a .entries .now) (a .carried .now) (a .numbers .now) (a .p .0) _ _ (a .m) (c .before .first-match .ensures) (a .ends .now) (r .0 .rows) (omega (arith, r .2, c .before .before .before .len-of .ensures)) (c .before .before .before .before .before .head-of .ensures .0) (c .before .before .before .len-of .ensures .0) (c .if1 .taken)
 
 sweep-requires : tie.Need-sweep-requires
-sweep-requires c κs = let a = c .before .before .before .before .before .before .before .before .before .before .before .before .before .before .args in let r = c .before .before .before .before .before .before .before .before .before .before .before .before .before .before .pre in let f = c .before .before .before .before .first-match .ensures in (r .1, r .2, c .before .before .before .before .before .before .before .before .head-of .ensures .1, omega (arith, r .3, c .before .before .before .before .before .before .len-of .ensures), found-within (a .entries .now) (a .carried .now) (a .numbers .now) (a .p .0) _ _ (a .m) f, found-before (a .entries .now) (a .carried .now) (a .numbers .now) (a .p .0) _ _ (a .m) f)
+sweep-requires c κs = let a = c .before .before .before .before .before .before .before .before .before .before .before .before .before .before .args in let r = c .before .before .before .before .before .before .before .before .before .before .before .before .before .before .pre in let f = c .before .before .before .before .first-match .ensures in (r .0 .rows, r .1, c .before .before .before .before .before .before .before .before .head-of .ensures .1, omega (arith, r .2, c .before .before .before .before .before .before .len-of .ensures), found-within (a .entries .now) (a .carried .now) (a .numbers .now) (a .p .0) _ _ (a .m) f, found-before (a .entries .now) (a .carried .now) (a .numbers .now) (a .p .0) _ _ (a .m) f)
 
 mul-at : tie.Need-mul-at
 mul-at c = search needs

@@ -8,12 +8,13 @@ use native.Mathlib.Omega.{arith}
 use borrow.Author.Needs.{needs}
 use Rattle.tables.proofs.clear_peer.Statement.{statement}
 use Rattle.tables.proofs.clear_peer.Tie as tie
+use Rattle.model.specs.Numbers.{nodes}
 
 abbrev Inv-loop : tie.InvT-loop
-Inv-loop handles₀ p s₀ handles s = (s ≤ 128) × (length handles ≡ length handles₀) × (handles ≡ clearBelow handles₀ (p .0) s)
+Inv-loop handles₀ p s₀ handles s = (s ≤ nodes) × (length handles ≡ length handles₀) × (handles ≡ clearBelow handles₀ (p .0) s)
 
 abbrev μ-loop : tie.MeasureT-loop
-μ-loop handles₀ p s₀ handles s = 128 - s
+μ-loop handles₀ p s₀ handles s = nodes - s
 
 loop-holds : tie.Need-loop-holds Inv-loop μ-loop
 loop-holds c = (omega arith, refl, clear-none _ _)

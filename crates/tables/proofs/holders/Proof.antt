@@ -5,12 +5,13 @@ use native.Mathlib.Omega.{arith}
 use borrow.Author.Needs.{needs}
 use Rattle.tables.proofs.holders.Statement.{statement}
 use Rattle.tables.proofs.holders.Tie as tie
+use Rattle.ids.specs.Sizes.{peers}
 
 abbrev Inv-loop : tie.InvT-loop
 Inv-loop handles s q₀ bit₀ set₀ q bit set = Holders handles s q bit set
 
 abbrev μ-loop : tie.MeasureT-loop
-μ-loop handles s q₀ bit₀ set₀ q bit set = 8 - q
+μ-loop handles s q₀ bit₀ set₀ q bit set = peers - q
 
 loop-holds : tie.Need-loop-holds Inv-loop μ-loop
 loop-holds c = holders-none _ _

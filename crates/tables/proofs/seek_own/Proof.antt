@@ -9,12 +9,13 @@ use native.Mathlib.Omega.{arith}
 use borrow.Author.Needs.{needs}
 use Rattle.tables.proofs.seek_own.Statement.{statement}
 use Rattle.tables.proofs.seek_own.Tie as tie
+use Rattle.ids.specs.Sizes.{slots}
 
 abbrev Inv-loop : tie.InvT-loop
-Inv-loop handles p id base k₀ reads₀ k reads = (k ≤ 16) × (reads ≡ k) × ((j : ℕ) → j < k → hasAt handles (p .0) (id .0) (p .0 * 16 + j) ≡ false)
+Inv-loop handles p id base k₀ reads₀ k reads = (k ≤ slots) × (reads ≡ k) × ((j : ℕ) → j < k → hasAt handles (p .0) (id .0) (p .0 * slots + j) ≡ false)
 
 abbrev μ-loop : tie.MeasureT-loop
-μ-loop handles p id base k₀ reads₀ k reads = 16 - k
+μ-loop handles p id base k₀ reads₀ k reads = slots - k
 
 mul-base : tie.Need-mul-base Inv-loop μ-loop
 mul-base c = search needs

@@ -8,12 +8,13 @@ use native.Mathlib.Omega.{arith}
 use borrow.Author.Needs.{needs}
 use Rattle.tables.proofs.total.Statement.{statement}
 use Rattle.tables.proofs.total.Tie as tie
+use Rattle.ids.specs.Sizes.{peers}
 
 abbrev Inv-loop : tie.InvT-loop
-Inv-loop handles s q₀ sum₀ q sum = (q ≤ 8) × (sum ≤ q * modulus) × (sum ≡ totalBelow handles s q)
+Inv-loop handles s q₀ sum₀ q sum = (q ≤ peers) × (sum ≤ q * modulus) × (sum ≡ totalBelow handles s q)
 
 abbrev μ-loop : tie.MeasureT-loop
-μ-loop handles s q₀ sum₀ q sum = 8 - q
+μ-loop handles s q₀ sum₀ q sum = peers - q
 
 loop-holds : tie.Need-loop-holds Inv-loop μ-loop
 loop-holds c = (omega arith, omega arith, total-none _ _)
