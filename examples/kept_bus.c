@@ -16,7 +16,7 @@
  */
 #define _POSIX_C_SOURCE 200809L
 
-#include "lent.h"
+#include "eikelzwier_bus.h"
 
 #include <errno.h>
 #include <fcntl.h>
@@ -29,7 +29,7 @@
 /* docs/RECOVERY.md works out how long a journal must be. */
 #define JOURNAL_LEN ((size_t)1 << 20)
 
-static LentBus bus;
+static EzBus bus;
 static uint8_t journal[JOURNAL_LEN];
 static size_t used;
 
@@ -78,7 +78,7 @@ static ssize_t read_file(int folder, const char *name, uint8_t *bytes, size_t mo
 /* The version is durable before the first byte of the journal. */
 static void write_version(int folder)
 {
-    static const char text[] = BUS_VERSION "\n";
+    static const char text[] = EZ_VERSION "\n";
     int fd = openat(folder, "version.new", O_WRONLY | O_CREAT | O_TRUNC, 0600);
     if (fd < 0)
         fail("version.new");
@@ -92,7 +92,7 @@ static void write_version(int folder)
 /* A journal of other rules is not recovered. `kept` is -1 where there is none. */
 static void check_version(int folder, ssize_t kept)
 {
-    static const char text[] = BUS_VERSION "\n";
+    static const char text[] = EZ_VERSION "\n";
     uint8_t found[64];
     ssize_t n = read_file(folder, "version", found, sizeof found);
     if (n < 0 && kept <= 0) {
@@ -101,15 +101,15 @@ static void check_version(int folder, ssize_t kept)
     }
     if (n == sizeof text - 1 && memcmp(found, text, sizeof text - 1) == 0)
         return;
-    fprintf(stderr, "kept_bus: the journal is not of version " BUS_VERSION "\n");
+    fprintf(stderr, "kept_bus: the journal is not of version " EZ_VERSION "\n");
     exit(1);
 }
 
 /* The bus of the bytes kept. */
 static void recover(size_t kept)
 {
-    BusRecovery r = bus_recover(LENT(&bus), journal, kept);
-    if (r.number != BUS_DONE) {
+    EzRecovery r = eikelzwier_recover(EZ_LENT(&bus), journal, kept);
+    if (r.number != EZ_DONE) {
         fprintf(stderr, "kept_bus: recovery stops at line %zu\n", r.line);
         exit(1);
     }
@@ -167,7 +167,7 @@ static int digit(int c)
 /* The frame of a line, or -1 where it is none. */
 static ssize_t decode(const char *line, size_t n, uint8_t *frame)
 {
-    if (n == 0 || line[n - 1] != '\n' || n % 2 == 0 || n - 1 > 2 * BUS_FRAME_MAX)
+    if (n == 0 || line[n - 1] != '\n' || n % 2 == 0 || n - 1 > 2 * EZ_FRAME_MAX)
         return -1;
     for (size_t i = 0; i + 1 < n; i += 2) {
         int high = digit(line[i]), low = digit(line[i + 1]);
@@ -181,7 +181,7 @@ static ssize_t decode(const char *line, size_t n, uint8_t *frame)
 /* Hands an answer on, as one line in one write. */
 static void hand_on(const uint8_t *answer, size_t n)
 {
-    char line[2 * BUS_ANSWER_LEN + 1];
+    char line[2 * EZ_ANSWER_LEN + 1];
     for (size_t i = 0; i < n; i++) {
         line[2 * i] = "0123456789abcdef"[answer[i] / 16];
         line[2 * i + 1] = "0123456789abcdef"[answer[i] % 16];
@@ -193,14 +193,14 @@ static void hand_on(const uint8_t *answer, size_t n)
 /* One line: the command, its line in the journal made durable, its answer. */
 static void obey(int fd, size_t piece, const char *line, size_t n)
 {
-    uint8_t frame[BUS_FRAME_MAX], answer[BUS_ANSWER_LEN] = {BUS_EINVAL};
+    uint8_t frame[EZ_FRAME_MAX], answer[EZ_ANSWER_LEN] = {EZ_EINVAL};
     ssize_t len = decode(line, n, frame);
     if (len < 0) {
         hand_on(answer, 1);
         return;
     }
-    BusReport r = bus_command_with_journal(
-        LENT(&bus), frame, (size_t)len, answer, sizeof answer, journal, JOURNAL_LEN, used);
+    EzReport r = eikelzwier_command_with_journal(
+        EZ_LENT(&bus), frame, (size_t)len, answer, sizeof answer, journal, JOURNAL_LEN, used);
     keep(fd, journal + used, r.used - used, piece);
     used = r.used;
     hand_on(answer, r.len);

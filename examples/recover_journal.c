@@ -6,13 +6,13 @@
  * Exit status: 0 if every whole line was carried out, 1 if a line stopped it,
  * 2 if the file cannot be read.
  */
-#include "lent.h"
+#include "eikelzwier_bus.h"
 
 #include <stdio.h>
 #include <stdlib.h>
 #include <string.h>
 
-static LentBus bus;
+static EzBus bus;
 
 /* The bytes of a file, in memory that it allocates. */
 static uint8_t *read_file(const char *name, size_t *n)
@@ -66,27 +66,27 @@ static void say_text(const uint8_t *at, const uint8_t *end)
  * says to the frame. A question is one that the bus answers. */
 static void say_why(const uint8_t *bytes, const uint8_t *at, const uint8_t *end)
 {
-    uint8_t frame[BUS_FRAME_MAX], answer[BUS_ANSWER_LEN];
+    uint8_t frame[EZ_FRAME_MAX], answer[EZ_ANSWER_LEN];
     size_t n = (size_t)(end - at) / 2;
     for (size_t i = 0; i < n; i++) {
         char pair[3] = {(char)at[2 * i], (char)at[2 * i + 1], 0};
         frame[i] = (uint8_t)strtoul(pair, NULL, 16);
     }
-    bus_recover(LENT(&bus), bytes, (size_t)(at - bytes));
-    BusOutcome o = bus_command(LENT(&bus), frame, n, answer, sizeof answer);
-    if (o.number == BUS_DONE)
+    eikelzwier_recover(EZ_LENT(&bus), bytes, (size_t)(at - bytes));
+    EzOutcome o = eikelzwier_command(EZ_LENT(&bus), frame, n, answer, sizeof answer);
+    if (o.number == EZ_DONE)
         printf("why    a question\n");
     else
         printf("why    refused with %u\n", o.number);
 }
 
 /* The line that stopped it. */
-static void say_line(const uint8_t *bytes, size_t n, BusRecovery r)
+static void say_line(const uint8_t *bytes, size_t n, EzRecovery r)
 {
     const uint8_t *at = line_start(bytes, n, r.line);
     const uint8_t *end = memchr(at, '\n', n - (size_t)(at - bytes));
     say_text(at, end);
-    if (r.place == BUS_NO_PLACE)
+    if (r.place == EZ_NO_PLACE)
         say_why(bytes, at, end);
     else
         printf("why    no frame\n");
@@ -104,15 +104,15 @@ int main(int argc, char **argv)
         perror(argv[1]);
         return 2;
     }
-    BusRecovery r = bus_recover(LENT(&bus), bytes, n);
+    EzRecovery r = eikelzwier_recover(EZ_LENT(&bus), bytes, n);
     printf("number %u\nline   %zu\n", r.number, r.line);
-    if (r.place == BUS_NO_PLACE)
+    if (r.place == EZ_NO_PLACE)
         printf("place  -\n");
     else
         printf("place  %zu\n", r.place);
     printf("used   %zu of %zu bytes\n", r.used, n);
-    if (r.number != BUS_DONE)
+    if (r.number != EZ_DONE)
         say_line(bytes, n, r);
     free(bytes);
-    return r.number == BUS_DONE ? 0 : 1;
+    return r.number == EZ_DONE ? 0 : 1;
 }

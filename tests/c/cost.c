@@ -3,13 +3,13 @@
  * and with one, and how fast recovery is. Each round is a script on a fresh bus.
  *
  * For the instructions of a command, run it under callgrind and count one
- * function: valgrind --tool=callgrind --toggle-collect=bus_command (or
- * bus_command_with_journal, bus_recover) cost plain SCRIPT 1. Without valgrind it
+ * function: valgrind --tool=callgrind --toggle-collect=eikelzwier_command (or
+ * eikelzwier_command_with_journal, eikelzwier_recover) cost plain SCRIPT 1. Without valgrind it
  * says nanoseconds a command, and for recover lines a second.
  */
 #define _POSIX_C_SOURCE 200809L
 
-#include "../../examples/lent.h"
+#include "eikelzwier_bus.h"
 
 #include <stdio.h>
 #include <stdlib.h>
@@ -21,7 +21,7 @@ enum { MOST = 1 << 20 };
 
 static uint8_t *frames[MOST], *journal;
 static size_t lens[MOST], count, kept, used;
-static LentBus bus;
+static EzBus bus;
 
 static int digit(int c)
 {
@@ -34,7 +34,7 @@ static void read_script(const char *name)
     FILE *f = fopen(name, "r");
     while (f && count < MOST && fgets(line, sizeof line, f)) {
         size_t n = strspn(line, "0123456789abcdef");
-        if (line[n] != '\n' || n % 2 != 0 || n > 2 * BUS_FRAME_MAX)
+        if (line[n] != '\n' || n % 2 != 0 || n > 2 * EZ_FRAME_MAX)
             continue;
         frames[count] = malloc(n / 2 + 1);
         for (size_t i = 0; i < n / 2; i++)
@@ -47,19 +47,19 @@ static void read_script(const char *name)
 
 static void plain(void)
 {
-    uint8_t answer[BUS_ANSWER_LEN];
+    uint8_t answer[EZ_ANSWER_LEN];
     for (size_t k = 0; k < count; k++)
-        bus_command(LENT(&bus), frames[k], lens[k], answer, sizeof answer);
+        eikelzwier_command(EZ_LENT(&bus), frames[k], lens[k], answer, sizeof answer);
 }
 
 static void with_journal(void)
 {
-    uint8_t answer[BUS_ANSWER_LEN];
+    uint8_t answer[EZ_ANSWER_LEN];
     used = kept = 0;
     for (size_t k = 0; k < count; k++) {
         size_t before = used;
-        used = bus_command_with_journal(
-            LENT(&bus), frames[k], lens[k], answer, sizeof answer, journal, ROOM, used).used;
+        used = eikelzwier_command_with_journal(
+            EZ_LENT(&bus), frames[k], lens[k], answer, sizeof answer, journal, ROOM, used).used;
         kept += used > before;
     }
 }
@@ -81,18 +81,18 @@ int main(int argc, char **argv)
     double spent = 0;
     journal = malloc(ROOM);
     read_script(argv[2]);
-    bus_fresh(LENT(&bus));
+    eikelzwier_fresh(EZ_LENT(&bus));
     if (argv[1][0] == 'r')
         with_journal();
     for (size_t i = 0; i < rounds; i++) {
         if (argv[1][0] != 'r')
-            bus_fresh(LENT(&bus));
+            eikelzwier_fresh(EZ_LENT(&bus));
         double start = now();
         if (argv[1][0] == 'p')
             plain();
         else if (argv[1][0] == 'k')
             with_journal();
-        else if (bus_recover(LENT(&bus), journal, used).line != kept)
+        else if (eikelzwier_recover(EZ_LENT(&bus), journal, used).line != kept)
             return 1;
         spent += now() - start;
     }

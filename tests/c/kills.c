@@ -21,7 +21,7 @@
  */
 #define _POSIX_C_SOURCE 200809L
 
-#include "../../examples/lent.h"
+#include "eikelzwier_bus.h"
 
 #include <fcntl.h>
 #include <inttypes.h>
@@ -59,7 +59,7 @@ static void check(int good, const char *what)
 }
 
 /* The script: its lines, and where each starts in the file of them. */
-static char lines[MOST][2 * BUS_FRAME_MAX + 2];
+static char lines[MOST][2 * EZ_FRAME_MAX + 2];
 static size_t line_at[MOST + 1], count;
 
 /* The run that was never cut. After k lines of the script `used_after[k]` bytes
@@ -68,7 +68,7 @@ static size_t line_at[MOST + 1], count;
 static uint8_t whole[ROOM];
 static char *expected[MOST];
 static size_t used_after[MOST + 1], kept_after[MOST + 1], next[MOST + 1];
-static LentBus bus, *after[MOST + 1];
+static EzBus bus, *after[MOST + 1];
 
 static int digit(int c)
 {
@@ -84,7 +84,7 @@ static int is_frame(const char *line)
     for (size_t i = 0; i < n; i++)
         if (digit(line[i]) < 0)
             return 0;
-    return line[n] == '\n' && n % 2 == 0 && n <= 2 * BUS_FRAME_MAX;
+    return line[n] == '\n' && n % 2 == 0 && n <= 2 * EZ_FRAME_MAX;
 }
 
 static void read_script(const char *name, const char *copy)
@@ -114,18 +114,18 @@ static void remember(size_t n, size_t k)
 
 static void run_never_cut(void)
 {
-    uint8_t frame[BUS_FRAME_MAX], answer[BUS_ANSWER_LEN];
+    uint8_t frame[EZ_FRAME_MAX], answer[EZ_ANSWER_LEN];
     size_t used = 0, kept = 0;
-    check(bus_fresh(LENT(&bus)) == BUS_DONE, "fresh");
+    check(eikelzwier_fresh(EZ_LENT(&bus)) == EZ_DONE, "fresh");
     remember(0, 0);
     for (size_t k = 0; k < count; k++) {
         size_t n = strlen(lines[k]) / 2;
         for (size_t i = 0; i < n; i++)
             frame[i] = (uint8_t)(16 * digit(lines[k][2 * i]) + digit(lines[k][2 * i + 1]));
-        BusReport r = bus_command_with_journal(
-            LENT(&bus), frame, n, answer, sizeof answer, whole, ROOM, used);
+        EzReport r = eikelzwier_command_with_journal(
+            EZ_LENT(&bus), frame, n, answer, sizeof answer, whole, ROOM, used);
         expected[k] = malloc(2 * r.len + 2);
-        check(expected[k] != NULL && r.number != BUS_EFBIG, "the script is too long");
+        check(expected[k] != NULL && r.number != EZ_EFBIG, "the script is too long");
         for (size_t i = 0; i < r.len; i++)
             sprintf(expected[k] + 2 * i, "%02x", answer[i]);
         strcat(expected[k], "\n");
@@ -233,15 +233,16 @@ static size_t check_answers(const char *text, size_t n, size_t from)
  * script were answered; how many whole lines it has. */
 static size_t check_file(const uint8_t *kept, size_t n, size_t answered)
 {
-    static LentBus again;
+    static EzBus again;
     check(n <= used_after[count] && memcmp(kept, whole, n) == 0, "another journal");
     check(n >= used_after[answered], "a command whose answer was handed on is lost");
     size_t found = lfs(kept, n);
     memset(&again, 0xaa, sizeof again);
-    BusRecovery r = bus_recover(LENT(&again), kept, n);
-    check(r.number == BUS_DONE && r.line == found && r.place == BUS_NO_PLACE, "recovery");
+    EzRecovery r = eikelzwier_recover(EZ_LENT(&again), kept, n);
+    check(r.number == EZ_DONE && r.line == found && r.place == EZ_NO_PLACE, "recovery");
     check(r.used == used_after[next[found]], "the used length");
-    check(memcmp(&again, after[found], sizeof again) == 0, "another bus");
+    /* The bus buffers stand first in an EzBus. */
+    check(memcmp(&again, after[found], offsetof(EzBus, answer)) == 0, "another bus");
     return found;
 }
 

@@ -1,7 +1,7 @@
 /*
  * library [SEED]: the static library called from C.
  *
- * Runs script S of document 01, then uses the library in ways that it must
+ * Runs script S of the README, then uses the library in ways that it must
  * refuse or survive: bus buffers of a wrong length, an answer buffer that is
  * too short, and random contents. Around every buffer stand guard bytes, which
  * no call may change. Exit status 0, or 1 with a message.
@@ -112,13 +112,13 @@ static int guarded(const struct buffer *b)
 #define NUMBER(with, name, element, length) table_##name
 #define SHAPE(with, name, element, length) {#name, length, sizeof(element)}
 
-enum { BUS_BUFFERS(NUMBER, COMMA, ), TABLES };
+enum { EZ_BUFFERS(NUMBER, COMMA, ), TABLES };
 enum { FRAME = TABLES, ANSWER, BUFFERS };
 
 static const struct {
     const char *name;
     size_t len, width;
-} shape[TABLES] = {BUS_BUFFERS(SHAPE, COMMA, )};
+} shape[TABLES] = {EZ_BUFFERS(SHAPE, COMMA, )};
 
 struct bus {
     struct buffer b[BUFFERS];
@@ -164,7 +164,7 @@ static void check_guards(const struct bus *bus)
 
 #define LENT(bus, t) at(&(bus)->b[t]), (bus)->b[t].len
 #define LENT_TABLE(bus, name, element, length) LENT(bus, table_##name)
-#define ALL_TABLES(bus) BUS_BUFFERS(LENT_TABLE, COMMA, bus)
+#define ALL_TABLES(bus) EZ_BUFFERS(LENT_TABLE, COMMA, bus)
 
 static unsigned long calls;
 
@@ -172,40 +172,40 @@ static uint8_t fresh(struct bus *bus)
 {
     for (int i = 0; i < BUFFERS; i++)
         remember(&bus->b[i]);
-    uint8_t number = bus_fresh(ALL_TABLES(bus));
+    uint8_t number = eikelzwier_fresh(ALL_TABLES(bus));
     calls++;
     check_guards(bus);
-    check(same_from(&bus->b[ANSWER], 0), "bus_fresh wrote the answer buffer");
+    check(same_from(&bus->b[ANSWER], 0), "eikelzwier_fresh wrote the answer buffer");
     return number;
 }
 
 /* One command, and what holds of every one. */
-static BusOutcome command(struct bus *bus)
+static EzOutcome command(struct bus *bus)
 {
     struct buffer *answer = &bus->b[ANSWER];
     for (int i = 0; i < BUFFERS; i++)
         remember(&bus->b[i]);
-    BusOutcome o = bus_command(ALL_TABLES(bus), LENT(bus, FRAME), LENT(bus, ANSWER));
+    EzOutcome o = eikelzwier_command(ALL_TABLES(bus), LENT(bus, FRAME), LENT(bus, ANSWER));
     calls++;
     check_guards(bus);
-    if (answer->len < BUS_ANSWER_LEN) {
-        check(o.number == BUS_EINVAL, "a short answer buffer does not give 22");
+    if (answer->len < EZ_ANSWER_LEN) {
+        check(o.number == EZ_EINVAL, "a short answer buffer does not give 22");
         check(o.len == 0, "a short answer buffer gives an answer");
         check(same_from(answer, 0), "a short answer buffer was written");
         check(tables_same(bus), "with a short answer buffer the bus was written");
         return o;
     }
-    check(o.len >= 1 && o.len <= BUS_ANSWER_LEN, "the answer's length");
+    check(o.len >= 1 && o.len <= EZ_ANSWER_LEN, "the answer's length");
     check(*(unsigned char *)at(answer) == o.number, "the number is not the answer's first byte");
     check(same_from(answer, o.len), "the buffer behind the answer was written");
-    if (o.number != BUS_DONE) {
+    if (o.number != EZ_DONE) {
         check(o.len == 1, "a refusal is longer than its byte");
         check(tables_same(bus), "a refusal changed the bus");
     }
     return o;
 }
 
-/* Script S of document 01. */
+/* Script S of the README. */
 static const char *const script[][2] = {
     {"010000", "00"},
     {"010101", "00"},
@@ -229,11 +229,11 @@ static size_t unhex(const char *line, unsigned char *bytes)
 
 static void run_script(struct bus *bus, size_t lines)
 {
-    unsigned char bytes[BUS_ANSWER_LEN];
+    unsigned char bytes[EZ_ANSWER_LEN];
     for (size_t i = 0; i < lines; i++) {
         snprintf(doing, sizeof doing, "script S, line %zu", i + 1);
         set_frame(bus, bytes, unhex(script[i][0], bytes));
-        BusOutcome o = command(bus);
+        EzOutcome o = command(bus);
         size_t len = unhex(script[i][1], bytes);
         check(o.number == bytes[0], "the number");
         check(o.len == len && memcmp(at(&bus->b[ANSWER]), bytes, len) == 0, "the answer");
@@ -246,10 +246,10 @@ static void test_script(void)
     for (size_t extra = 0; extra < 3; extra++) {
         struct bus bus;
         snprintf(doing, sizeof doing, "script S");
-        lend_bus(&bus, TABLES, 0, BUS_ANSWER_LEN + extra * 1000);
+        lend_bus(&bus, TABLES, 0, EZ_ANSWER_LEN + extra * 1000);
         for (int again = 0; again < 2; again++) {
             snprintf(doing, sizeof doing, "a fresh bus");
-            check(fresh(&bus) == BUS_DONE, "bus_fresh refuses");
+            check(fresh(&bus) == EZ_DONE, "eikelzwier_fresh refuses");
             run_script(&bus, LINES);
         }
         take_back_bus(&bus);
@@ -261,8 +261,8 @@ static void test_script(void)
 static void fill_sound(struct bus *bus)
 {
     struct bus sound;
-    lend_bus(&sound, TABLES, 0, BUS_ANSWER_LEN);
-    check(fresh(&sound) == BUS_DONE, "bus_fresh refuses");
+    lend_bus(&sound, TABLES, 0, EZ_ANSWER_LEN);
+    check(fresh(&sound) == EZ_DONE, "eikelzwier_fresh refuses");
     run_script(&sound, LINES - 2);
     for (int t = 0; t < TABLES; t++) {
         size_t a = bus->b[t].bytes, b = sound.b[t].bytes;
@@ -273,26 +273,26 @@ static void fill_sound(struct bus *bus)
 
 static void test_length(int t, size_t len, int sound)
 {
-    unsigned char bytes[BUS_ANSWER_LEN];
+    unsigned char bytes[EZ_ANSWER_LEN];
     struct bus bus;
 
-    lend_bus(&bus, t, len, BUS_ANSWER_LEN);
+    lend_bus(&bus, t, len, EZ_ANSWER_LEN);
     if (sound)
         fill_sound(&bus);
     snprintf(doing, sizeof doing, "%s of %zu elements, %s", shape[t].name, len,
              sound ? "sound contents" : "random contents");
-    check(fresh(&bus) == BUS_EIO, "bus_fresh does not return 5");
-    check(tables_same(&bus), "bus_fresh wrote");
+    check(fresh(&bus) == EZ_EIO, "eikelzwier_fresh does not return 5");
+    check(tables_same(&bus), "eikelzwier_fresh wrote");
     for (size_t i = 0; i <= LINES; i++) {
         /* The frames of S, and an empty one. */
         set_frame(&bus, bytes, i < LINES ? unhex(script[i][0], bytes) : 0);
-        BusOutcome o = command(&bus);
-        check(o.number == BUS_EIO && o.len == 1, "a command does not answer 5");
+        EzOutcome o = command(&bus);
+        check(o.number == EZ_EIO && o.len == 1, "a command does not answer 5");
     }
     take_back_bus(&bus);
 
     /* The answer buffer comes before the bus buffers. */
-    lend_bus(&bus, t, len, BUS_ANSWER_LEN - 1);
+    lend_bus(&bus, t, len, EZ_ANSWER_LEN - 1);
     if (sound)
         fill_sound(&bus);
     snprintf(doing, sizeof doing, "%s of %zu elements and 590 bytes of answer", shape[t].name, len);
@@ -315,8 +315,8 @@ static void test_lengths(void)
 
 static void test_short_answer(void)
 {
-    static const size_t lens[] = {BUS_ANSWER_LEN - 1, 1, 0};
-    unsigned char bytes[BUS_ANSWER_LEN];
+    static const size_t lens[] = {EZ_ANSWER_LEN - 1, 1, 0};
+    unsigned char bytes[EZ_ANSWER_LEN];
     for (size_t n = 0; n < sizeof lens / sizeof lens[0]; n++) {
         struct bus bus;
         lend_bus(&bus, TABLES, 0, lens[n]);
@@ -405,7 +405,7 @@ static void test_random(unsigned long rounds)
         struct bus bus;
         int kind = (int)below(4);
         snprintf(doing, sizeof doing, "random contents, round %lu", round);
-        lend_bus(&bus, TABLES, 0, BUS_ANSWER_LEN + below(3));
+        lend_bus(&bus, TABLES, 0, EZ_ANSWER_LEN + below(3));
         if (kind == 1)
             fill_sound(&bus);
         if (kind == 2)

@@ -1,4 +1,4 @@
--- Runs of calls of the two exported functions, `bus_fresh` and `bus_command`, which C and Rust link: of each call nothing is known but what the exported function's own contract
+-- Runs of calls of the two exported functions, `eikelzwier_fresh` and `eikelzwier_command`, which C and Rust link: of each call nothing is known but what the exported function's own contract
 -- ensures. Such a run is a run of calls of the core's two functions, and the other way round, so every theorem over those (crates/bus/proofs/Whole.antt) holds of it; the third
 -- demand and the number 5 are written out.
 -- Assumes nothing.
@@ -22,14 +22,14 @@ use Rattle.bus.proofs.Calls.{busIn, busOut, callIn, oldIn, madeOut, exchanged a
 use Rattle.bus.proofs.Calls.Calls.{made as core-made, call as core-call}
 use Rattle.bus.proofs.Whole.{demand-three-of-calls}
 use Rattle.bus.proofs.AnyBus.{five-of-calls, fresh-five-of-calls}
-use Rattle.export.proofs.bus_command as command
-use Rattle.export.proofs.bus_command.Kinds as command-kinds
-use Rattle.export.proofs.bus_command.Reads as command-reads
-use Rattle.export.proofs.bus_fresh as fresh
-use Rattle.export.proofs.bus_fresh.Kinds as fresh-kinds
-use Rattle.export.proofs.bus_fresh.Reads as fresh-reads
+use Rattle.export.proofs.eikelzwier_command as command
+use Rattle.export.proofs.eikelzwier_command.Kinds as command-kinds
+use Rattle.export.proofs.eikelzwier_command.Reads as command-reads
+use Rattle.export.proofs.eikelzwier_fresh as fresh
+use Rattle.export.proofs.eikelzwier_fresh.Kinds as fresh-kinds
+use Rattle.export.proofs.eikelzwier_fresh.Reads as fresh-reads
 
--- A call of `bus_command`: its arguments, its result, and the buffers when it returns.
+-- A call of `eikelzwier_command`: its arguments, its result, and the buffers when it returns.
 module _ (κs : Lifetimes.Lfts 11) where
   abbrev pub Arguments : Type 0
   Arguments = World.ArgsD command.signature κs
@@ -51,7 +51,7 @@ module _ (κs : Lifetimes.Lfts 11) where
   pub free : (a : Arguments) → command-reads.Asked κs a
   free a = tt
 
--- A call of `bus_fresh`, over buffers of any contents.
+-- A call of `eikelzwier_fresh`, over buffers of any contents.
 module _ (κs : Lifetimes.Lfts 9) where
   abbrev pub FreshArguments : Type 0
   FreshArguments = World.ArgsD fresh.signature κs
@@ -65,7 +65,7 @@ module _ (κs : Lifetimes.Lfts 9) where
   pub made-free : (a : FreshArguments) → fresh-reads.Asked κs a
   made-free a = tt
 
--- A run: a fresh bus in buffers of exact length, then calls of `bus_command`, each with the bus buffers as the one before left them, any frame and any answer buffer.
+-- A run: a fresh bus in buffers of exact length, then calls of `eikelzwier_command`, each with the bus buffers as the one before left them, any frame and any answer buffer.
 pub data ExportedCalls : List Exchange → Bus → Type 0 where
   made : (κs : Lifetimes.Lfts 9) (a : FreshArguments κs) (r : FreshReturned κs) (s : FreshLeft κs) → sizedOk (oldIn κs a) ≡ true → fresh-reads.Learnt κs a r s →
       ExportedCalls [] (madeOut κs s)
@@ -104,7 +104,7 @@ demand-three-of-exported-calls xs b t =
     let d = demand-three-of-calls xs b (exported-calls t) in
     record { run = d .run; next = λ κs a r s e l. d .next κs a (outcomeIn κs r) s e l }
 
--- 5 is returned exactly where a buffer lacks its length or, by `bus_command` with an answer buffer of at least 591 bytes, a number is beyond its range (docs/BUFFERS.md).
+-- 5 is returned exactly where a buffer lacks its length or, by `eikelzwier_command` with an answer buffer of at least 591 bytes, a number is beyond its range (docs/BUFFERS.md).
 pub five-of-exported-calls : (κs : Lifetimes.Lfts 11) (a : Arguments κs) (r : Returned κs) (s : Left κs) → command-reads.Learnt κs a r s → 591 ≤ length (callIn κs a .buffer) →
     FiveUnless (InRange (busIn κs a)) (r .number)
 five-of-exported-calls κs a r s l h = five-of-calls κs a (outcomeIn κs r) s l h

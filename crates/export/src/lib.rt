@@ -1,4 +1,5 @@
-// The bus as a static library: its two functions under C names, each with the contract of the function that it calls.
+// The bus as a static library: its two functions under C names, each with the contract of the function that it calls, and the version by
+// which a header is compared with the archive.
 ghost use mathlib.Core.Path.{_≡_};
 ghost use Rattle.view.specs.View.{busOf};
 ghost use Rattle.bus.specs.Command.{doneOf, commandOf, freshOf, freshNumber};
@@ -10,9 +11,19 @@ pub struct BusOutcome {
     pub len: usize,
 }
 
+// Version 0.4.0: 10,000 times the first part, 100 times the second, and the third.
+const VERSION: u32 = 400;
+
+#[no_mangle]
+pub extern "C" fn eikelzwier_version() -> u32
+    ensures { λ v. ⌜ v ≡ 400 ⌝ }
+{
+    VERSION
+}
+
 // A fresh bus, no peer opened. The number is 0, or 5 where a buffer lacks its length: then nothing is written.
 #[no_mangle]
-pub extern "C" fn bus_fresh(
+pub extern "C" fn eikelzwier_fresh(
     peers: &mut [u64],
     nodes: &mut [u64],
     handles: &mut [u64],
@@ -40,7 +51,7 @@ pub extern "C" fn bus_fresh(
 
 // One command. Its answer is written into the answer buffer.
 #[no_mangle]
-pub extern "C" fn bus_command(
+pub extern "C" fn eikelzwier_command(
     peers: &mut [u64],
     nodes: &mut [u64],
     handles: &mut [u64],

@@ -14,7 +14,7 @@ pub struct BusReport {
 
 // One command with a journal, of which `used` bytes are used.
 #[no_mangle]
-pub extern "C" fn bus_command_with_journal(
+pub extern "C" fn eikelzwier_command_with_journal(
     peers: &mut [u64],
     nodes: &mut [u64],
     handles: &mut [u64],

@@ -1,4 +1,4 @@
--- Runs of calls of the exported functions with a journal, `bus_fresh`, `bus_command_with_journal` and `bus_recover`, which C and Rust link: of each call nothing is known but what the
+-- Runs of calls of the exported functions with a journal, `eikelzwier_fresh`, `eikelzwier_command_with_journal` and `eikelzwier_recover`, which C and Rust link: of each call nothing is known but what the
 -- exported function's own contract ensures. Such a run is a run of calls of the journal's functions, so every theorem over those (crates/recovery/proofs/Calls.antt) holds of it.
 -- Assumes nothing.
 use Prim.Native.Nat.{ℕ, _≤_}
@@ -23,15 +23,15 @@ use Rattle.journal_model.specs.Runs.{replayHistory}
 use Rattle.recovery.proofs.Calls.{busIn, busOut, journalIn, journalOut, usedIn as usedLent, exchanged as core-exchanged, oldBus, foundBus, keptIn, Calls}
 use Rattle.recovery.proofs.Calls.Calls.{made as core-made, resumed as core-resumed, call as core-call}
 use Rattle.export.proofs.Exported.{FreshArguments, FreshReturned, FreshLeft}
-use Rattle.export.proofs.bus_fresh.Reads as fresh-reads
-use Rattle.export_journal.proofs.bus_command_with_journal as command
-use Rattle.export_journal.proofs.bus_command_with_journal.Kinds as command-kinds
-use Rattle.export_journal.proofs.bus_command_with_journal.Reads as command-reads
-use Rattle.export_recovery.proofs.bus_recover as recover
-use Rattle.export_recovery.proofs.bus_recover.Kinds as recover-kinds
-use Rattle.export_recovery.proofs.bus_recover.Reads as recover-reads
+use Rattle.export.proofs.eikelzwier_fresh.Reads as fresh-reads
+use Rattle.export_journal.proofs.eikelzwier_command_with_journal as command
+use Rattle.export_journal.proofs.eikelzwier_command_with_journal.Kinds as command-kinds
+use Rattle.export_journal.proofs.eikelzwier_command_with_journal.Reads as command-reads
+use Rattle.export_recovery.proofs.eikelzwier_recover as recover
+use Rattle.export_recovery.proofs.eikelzwier_recover.Kinds as recover-kinds
+use Rattle.export_recovery.proofs.eikelzwier_recover.Reads as recover-reads
 
--- A call of `bus_command_with_journal`: its arguments, its result, and the buffers when it returns.
+-- A call of `eikelzwier_command_with_journal`: its arguments, its result, and the buffers when it returns.
 module _ (κs : Lifetimes.Lfts 12) where
   abbrev pub Arguments : Type 0
   Arguments = World.ArgsD command.signature κs
@@ -52,7 +52,7 @@ module _ (κs : Lifetimes.Lfts 12) where
   pub free : (a : Arguments) → command-reads.Asked κs a
   free a = tt
 
--- A call of `bus_recover`, over bus buffers and bytes of any contents.
+-- A call of `eikelzwier_recover`, over bus buffers and bytes of any contents.
 module _ (κs : Lifetimes.Lfts 10) where
   abbrev pub RecoverArguments : Type 0
   RecoverArguments = World.ArgsD recover.signature κs
@@ -66,12 +66,12 @@ module _ (κs : Lifetimes.Lfts 10) where
   pub found-free : (a : RecoverArguments) → recover-reads.Asked κs a
   found-free a = tt
 
-  -- What the contract of `bus_recover` says of it: the number, the line, the place and the used length of the recovery, and its bus.
+  -- What the contract of `eikelzwier_recover` says of it: the number, the line, the place and the used length of the recovery, and its bus.
   pub told-said : (a : RecoverArguments) (r : RecoverReturned) (s : RecoverLeft) → recover-reads.Learnt κs a r s →
       toldFrom (r .number) (r .line) (r .place) (r .used) (foundBus κs s) ≡ toldOf (recovered (oldBus κs a) (keptIn κs a))
   told-said a r s l = l
 
--- A run: a fresh bus and any journal, nothing of it used; or a recovery that returned 0, and a journal that holds its used part in front; then calls of `bus_command_with_journal`, each
+-- A run: a fresh bus and any journal, nothing of it used; or a recovery that returned 0, and a journal that holds its used part in front; then calls of `eikelzwier_command_with_journal`, each
 -- with the bus, the journal and the used length as the one before left them, any frame and any answer buffer.
 pub data ExportedCalls : List Exchange → Bus → List ℕ → ℕ → Type 0 where
   made : (κs : Lifetimes.Lfts 9) (a : FreshArguments κs) (r : FreshReturned κs) (s : FreshLeft κs) → sizedOk (oldIn κs a) ≡ true → fresh-reads.Learnt κs a r s → (j : List ℕ) →

@@ -51,7 +51,7 @@ fn told(r: Recovered) -> BusRecovery
 
 // The bus after the whole lines of the bytes kept of a journal, or a fresh one where a line stopped it.
 #[no_mangle]
-pub extern "C" fn bus_recover(
+pub extern "C" fn eikelzwier_recover(
     peers: &mut [u64],
     nodes: &mut [u64],
     handles: &mut [u64],

@@ -18,6 +18,7 @@
 //! assert_eq!((recovered.lines, recovered.used), (1, 7));
 //! ```
 
+#[cfg(feature = "std")]
 use crate::{bus_call, raw, Bus, Outcome};
 
 /// A lent buffer in which every accepted command is kept as its line, and how
@@ -28,8 +29,8 @@ use crate::{bus_call, raw, Bus, Outcome};
 /// caller owes.
 #[derive(Debug)]
 pub struct Journal<'a> {
-    bytes: &'a mut [u8],
-    used: usize,
+    pub(crate) bytes: &'a mut [u8],
+    pub(crate) used: usize,
 }
 
 impl<'a> Journal<'a> {
@@ -75,6 +76,7 @@ pub struct Stopped {
     pub place: Option<usize>,
 }
 
+#[cfg(feature = "std")]
 impl Bus {
     /// Carries out one command as [`Bus::command`] does. If it is accepted and
     /// no question, it is appended to the journal as its line before the bus is

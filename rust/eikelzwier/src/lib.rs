@@ -1,11 +1,12 @@
 //! The proved message bus core, for Rust.
 //!
-//! [`Bus`] owns the buffers in which a bus lives and takes one frame at a time.
-//! What frames and answers look like is in document 01; the numbers of the
+//! [`Bus`] owns the buffers in which a bus lives and takes one frame at a time;
+//! [`Commands`] has a method for each command. [`InlineBus`] needs no heap.
+//! What frames and answers look like is in docs/WIRE.md; the numbers of the
 //! refusals are in [`Refusal`].
 //!
 //! Peer 0 of user 0 creates a node and hands it to peer 1, which sends a byte
-//! to it (script S of document 01):
+//! to it (script S of the README):
 //!
 //! ```
 //! use eikelzwier::{Bus, Refusal, ANSWER_LEN};
@@ -38,14 +39,24 @@
 //! ```
 
 #![warn(missing_docs)]
+#![cfg_attr(not(feature = "std"), no_std)]
 
 mod buffers;
+mod inline;
 mod journal;
+mod kept;
 pub mod raw;
 mod refusal;
+mod typed;
+mod version;
 
+pub use inline::InlineBus;
 pub use journal::{Journal, Recovered, Stopped};
-pub use refusal::Refusal;
+pub use kept::{Journalled, Kept};
+pub use refusal::{Refusal, UnknownNumber};
+pub use typed::{Commands, HandleId, Handles, Holders, Message, Peer, Quota, Received, User};
+pub use typed::{MAX_DESTINATIONS, MAX_HANDLES, MAX_PAYLOAD, MAX_ROOM};
+pub use version::{archive_version, VERSION};
 
 /// Bytes of the longest answer. A shorter answer buffer is refused.
 pub const ANSWER_LEN: usize = 591;
@@ -70,6 +81,7 @@ impl Outcome {
     }
 }
 
+#[cfg(feature = "std")]
 macro_rules! bus {
     ([$($name:ident: [$element:ty; $len:expr], $constant:ident;)*]) => {
         /// A message bus of eight peers, in buffers of its own on the heap.
@@ -90,16 +102,43 @@ macro_rules! bus {
         }
     };
 }
+#[cfg(feature = "std")]
 bus_buffers!(bus);
 
+#[cfg(feature = "std")]
 impl Default for Bus {
     fn default() -> Bus {
         Bus::new()
     }
 }
 
+#[cfg(feature = "std")]
+impl Commands for Bus {
+    #[inline]
+    fn command(&mut self, frame: &[u8], answer: &mut [u8]) -> Outcome {
+        Bus::command(self, frame, answer)
+    }
+}
+
+#[cfg(feature = "std")]
+impl Journalled for Bus {
+    #[inline]
+    fn command_with_journal(
+        &mut self,
+        frame: &[u8],
+        answer: &mut [u8],
+        journal: &mut Journal,
+    ) -> Outcome {
+        Bus::command_with_journal(self, frame, answer, journal)
+    }
+}
+
+#[cfg(feature = "std")]
 impl Bus {
     /// A fresh bus: no peer opened.
+    ///
+    /// # Panics
+    /// Where the archive is of another version than this crate.
     pub fn new() -> Bus {
         let mut bus = Bus::cleared();
         bus.reset();
@@ -108,6 +147,7 @@ impl Bus {
 
     /// Makes the bus fresh again: no peer opened.
     pub fn reset(&mut self) {
+        assert_eq!(archive_version(), VERSION, "the archive's version");
         // Safety: pointers and lengths are those of the buffers, which are
         // borrowed mutably here and lie apart.
         let number = unsafe { bus_call!(raw::bus_fresh, self) };

@@ -1,5 +1,6 @@
 //! The functions of the static library, as `include/eikelzwier.h` declares
-//! them, and the exact lengths of the bus buffers in elements.
+//! them, there with `eikelzwier` for `bus` in their names, and the exact lengths
+//! of the bus buffers in elements.
 //!
 //! Every buffer is passed as a pointer and its number of elements. Any length
 //! and any contents are safe.
@@ -68,6 +69,7 @@ macro_rules! functions {
             /// Each pointer is not null (also at length 0), aligned, and good for
             /// reading and writing as many elements as its length says. No two buffers
             /// overlap, and nobody else touches them during the call.
+            #[link_name = "eikelzwier_fresh"]
             pub fn bus_fresh(
                 $($name: *mut $element, _: usize,)*
             ) -> u8;
@@ -79,6 +81,7 @@ macro_rules! functions {
             ///
             /// # Safety
             /// As for [`bus_fresh`]; the frame is only read.
+            #[link_name = "eikelzwier_command"]
             pub fn bus_command(
                 $($name: *mut $element, _: usize,)*
                 frame: *const u8,
@@ -94,6 +97,7 @@ macro_rules! functions {
             ///
             /// # Safety
             /// As for [`bus_command`]; the journal is written.
+            #[link_name = "eikelzwier_command_with_journal"]
             pub fn bus_command_with_journal(
                 $($name: *mut $element, _: usize,)*
                 frame: *const u8,
@@ -112,6 +116,7 @@ macro_rules! functions {
             ///
             /// # Safety
             /// As for [`bus_fresh`]; the bytes kept are only read.
+            #[link_name = "eikelzwier_recover"]
             pub fn bus_recover(
                 $($name: *mut $element, _: usize,)*
                 kept: *const u8,

@@ -1,5 +1,8 @@
 //! The refusal numbers.
 
+use core::error::Error;
+use core::fmt;
+
 /// Why a command was refused; the discriminant is the number answered.
 #[derive(Clone, Copy, PartialEq, Eq, Hash, Debug)]
 #[repr(u8)]
@@ -72,5 +75,69 @@ impl Refusal {
     /// The refusal of this number, if it is one's.
     pub fn from_number(number: u8) -> Option<Refusal> {
         Refusal::ALL.into_iter().find(|r| r.number() == number)
+    }
+
+    /// Its name and what it says, for a log.
+    fn text(self) -> (&'static str, &'static str) {
+        match self {
+            Refusal::NotPermitted => ("EPERM", "not the owner, or the owner's last reference"),
+            Refusal::Damaged => ("EIO", "a bus buffer is damaged"),
+            Refusal::NoHandle => ("ENXIO", "the peer has no such handle"),
+            Refusal::NeverOpened => ("EBADF", "the peer was never opened"),
+            Refusal::NothingQueued => ("EAGAIN", "nothing is queued"),
+            Refusal::Exists => ("EEXIST", "open or held already"),
+            Refusal::Invalid => ("EINVAL", "an invalid frame or answer buffer"),
+            Refusal::UnknownCommand => ("ENOTTY", "an unknown command"),
+            Refusal::JournalFull => ("EFBIG", "the journal is full"),
+            Refusal::NoRoom => ("ENOSPC", "the owner has 16 nodes"),
+            Refusal::OverRoom => ("ERANGE", "the message is over the room"),
+            Refusal::Overflow => ("EOVERFLOW", "the bus has taken all its commands"),
+            Refusal::TooLarge => ("EMSGSIZE", "the send is too large"),
+            Refusal::Disconnected => ("ESHUTDOWN", "the peer has disconnected"),
+            Refusal::Destroyed => ("EHOSTUNREACH", "the node was destroyed"),
+            Refusal::Quota => ("EDQUOT", "over the quota"),
+        }
+    }
+
+    /// Its name, as C has it.
+    pub fn name(self) -> &'static str {
+        self.text().0
+    }
+}
+
+/// ```
+/// assert_eq!(eikelzwier::Refusal::Quota.to_string(), "EDQUOT (122): over the quota");
+/// ```
+impl fmt::Display for Refusal {
+    fn fmt(&self, f: &mut fmt::Formatter<'_>) -> fmt::Result {
+        let (name, what) = self.text();
+        write!(f, "{name} ({}): {what}", self.number())
+    }
+}
+
+impl Error for Refusal {}
+
+/// A number that is no refusal's.
+#[derive(Clone, Copy, PartialEq, Eq, Debug)]
+pub struct UnknownNumber(pub u8);
+
+impl fmt::Display for UnknownNumber {
+    fn fmt(&self, f: &mut fmt::Formatter<'_>) -> fmt::Result {
+        write!(f, "{} is no refusal's number", self.0)
+    }
+}
+
+impl Error for UnknownNumber {}
+
+/// ```
+/// use eikelzwier::{Refusal, UnknownNumber};
+/// assert_eq!(Refusal::try_from(113), Ok(Refusal::Destroyed));
+/// assert_eq!(Refusal::try_from(0), Err(UnknownNumber(0)));
+/// ```
+impl TryFrom<u8> for Refusal {
+    type Error = UnknownNumber;
+
+    fn try_from(number: u8) -> Result<Refusal, UnknownNumber> {
+        Refusal::from_number(number).ok_or(UnknownNumber(number))
     }
 }

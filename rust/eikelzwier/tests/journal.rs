@@ -293,7 +293,7 @@ fn every_byte() {
     assert!(tally.cuts > tally.kept && tally.stopped > 0 && tally.stopped < tally.damaged);
 }
 
-/// Script S of document 01 with a journal: the used lengths, and 27 in the
+/// Script S of the README with a journal: the used lengths, and 27 in the
 /// place of the receive where its line has no room.
 #[test]
 fn script_s() {
@@ -331,6 +331,6 @@ fn script_s() {
 fn version() {
     let header = concat!(env!("CARGO_MANIFEST_DIR"), "/../../include/eikelzwier.h");
     let header = std::fs::read_to_string(header).expect("the header");
-    let line = format!("#define BUS_VERSION \"{}\"", env!("CARGO_PKG_VERSION"));
+    let line = format!("#define EZ_VERSION \"{}\"", env!("CARGO_PKG_VERSION"));
     assert!(header.lines().any(|l| l == line), "{line}");
 }

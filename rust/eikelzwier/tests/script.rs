@@ -1,4 +1,4 @@
-//! Script S of document 01, and what holds of every [`Bus`].
+//! Script S of the README, and what holds of every [`Bus`].
 
 use eikelzwier::{Bus, Outcome, Refusal, ANSWER_LEN};
 

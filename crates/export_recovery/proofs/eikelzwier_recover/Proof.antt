@@ -1,8 +1,8 @@
--- `export_recovery::bus_recover` meets its contract: what `recover` comes to, told in numbers. Assumes nothing.
+-- `export_recovery::eikelzwier_recover` meets its contract: what `recover` comes to, told in numbers. Assumes nothing.
 use Rattle.journal_model.specs.Stops.{told-as}
 use borrow.Author.Needs.{needs}
-use Rattle.export_recovery.proofs.bus_recover.Statement.{statement}
-use Rattle.export_recovery.proofs.bus_recover.Tie as tie
+use Rattle.export_recovery.proofs.eikelzwier_recover.Statement.{statement}
+use Rattle.export_recovery.proofs.eikelzwier_recover.Tie as tie
 
 recover-requires : tie.Need-recover-requires
 recover-requires c κs = search needs
@@ -40,8 +40,8 @@ same-length-9 c = search needs
 returns : tie.Need-returns
 returns c = let q = (c .before .before .before .before .before .before .before .before .before .before .before .before .before .before .before .before .before .before .before .recover) .ensures in told-as (c .told .ensures) q
 
-pub bus-recover-spec : {M : Type 1} → statement M
-bus-recover-spec =
+pub eikelzwier-recover-spec : {M : Type 1} → statement M
+eikelzwier-recover-spec =
     tie.close
     (tie.spec
     recover-requires
