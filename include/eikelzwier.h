@@ -4,7 +4,7 @@
  * a function for each command; docs/WIRE.md has the frames and the answers by
  * bytes.
  *
- * A bus lives in nine buffers that the caller lends to each call. The library
+ * A bus lives in ten buffers that the caller lends to each call. The library
  * has no state of its own, allocates nothing and calls nothing of the host but
  * memset. Calls on different buses may run at the same time, calls on one bus
  * may not.
@@ -35,8 +35,8 @@ extern "C" {
  * the same version returns: 10,000 times the first part, 100 times the second,
  * and the third. A later version may have other rules, and a journal belongs to
  * the version that wrote it (docs/RECOVERY.md). */
-#define EZ_VERSION "0.4.0"
-#define EZ_VERSION_NUMBER 400
+#define EZ_VERSION "0.5.0"
+#define EZ_VERSION_NUMBER 500
 
 /* The version of the archive. Where it is not EZ_VERSION_NUMBER, this header is
  * not the archive's: its functions may have other parameters, and calling them
@@ -44,7 +44,7 @@ extern "C" {
 uint32_t eikelzwier_version(void);
 
 /* The exact length of each bus buffer, in elements. docs/BUFFERS.md says what
- * stands in each. Together they have 174,632 bytes. */
+ * stands in each. Together they have 178,824 bytes. */
 #define EZ_PEERS_LEN 25      /* uint64_t,    200 bytes */
 #define EZ_NODES_LEN 256     /* uint64_t,  2,048 bytes */
 #define EZ_HANDLES_LEN 4112  /* uint64_t, 32,896 bytes */
@@ -54,6 +54,7 @@ uint32_t eikelzwier_version(void);
 #define EZ_CARRIED_LEN 32768 /* uint8_t,  32,768 bytes */
 #define EZ_NUMBERS_LEN 4096  /* uint64_t, 32,768 bytes */
 #define EZ_POOL_LEN 32768    /* uint8_t,  32,768 bytes */
+#define EZ_SEEDS_LEN 4192    /* uint8_t,   4,192 bytes */
 
 /* The bus buffers in the order in which each function takes them, for code that
  * treats them alike: EACH(with, name, element type, length) of each, and
@@ -68,7 +69,8 @@ uint32_t eikelzwier_version(void);
     EACH(with, entries, uint16_t, EZ_ENTRIES_LEN) BETWEEN() \
     EACH(with, carried, uint8_t, EZ_CARRIED_LEN) BETWEEN()  \
     EACH(with, numbers, uint64_t, EZ_NUMBERS_LEN) BETWEEN() \
-    EACH(with, pool, uint8_t, EZ_POOL_LEN)
+    EACH(with, pool, uint8_t, EZ_POOL_LEN) BETWEEN()        \
+    EACH(with, seeds, uint8_t, EZ_SEEDS_LEN)
 
 /* The least length of an answer buffer, which is that of the longest answer,
  * and the length of the longest frame that is not refused; both in bytes. */
@@ -85,18 +87,19 @@ uint32_t eikelzwier_version(void);
                                 is over its length; never where both are handed on */
 #define EZ_ENXIO 6          /* an ID that the acting peer does not hold */
 #define EZ_EBADF 9          /* peer never opened */
-#define EZ_EAGAIN 11        /* receive, nothing queued */
+#define EZ_EAGAIN 11        /* receive, nothing queued; 0c, no seed set */
 #define EZ_EEXIST 17        /* open of an open peer; create with an ID the peer holds */
 #define EZ_EINVAL 22        /* answer buffer under 591 bytes; empty frame; wrong length;
-                                peer over 7; user over 3; send without destination;
-                                create with ID bit 0 or 1 set */
+                                peer over 7; user over 3; create with ID bit 0 or 1 set */
 #define EZ_ENOTTY 25        /* command byte unknown */
 #define EZ_EFBIG 27         /* with a journal alone: all else accepts the command, and
                                 its line has no room there */
 #define EZ_ENOSPC 28        /* create with 16 nodes counted */
-#define EZ_ERANGE 34        /* the next message is over the room of the receive */
+#define EZ_ERANGE 34        /* the next message is over the room of the receive, or the
+                                seed over that of 0c */
 #define EZ_EOVERFLOW 75     /* 2^40 - 1 commands accepted already; not for questions */
-#define EZ_EMSGSIZE 90      /* send with over 8 destinations, 8 handles or 512 bytes */
+#define EZ_EMSGSIZE 90      /* send or seed with over 8 destinations, 8 handles or 512
+                                bytes */
 #define EZ_ESHUTDOWN 108    /* peer disconnected */
 #define EZ_EHOSTUNREACH 113 /* destroy of, transfer of, or send to a destroyed node */
 #define EZ_EDQUOT 122       /* quota */
@@ -123,7 +126,8 @@ uint8_t eikelzwier_fresh(
     uint16_t *entries, size_t entries_len,
     uint8_t *carried, size_t carried_len,
     uint64_t *numbers, size_t numbers_len,
-    uint8_t *pool, size_t pool_len);
+    uint8_t *pool, size_t pool_len,
+    uint8_t *seeds, size_t seeds_len);
 
 /*
  * Carries out one command on a bus that eikelzwier_fresh made and other commands left.
@@ -151,6 +155,7 @@ EzOutcome eikelzwier_command(
     uint8_t *carried, size_t carried_len,
     uint64_t *numbers, size_t numbers_len,
     uint8_t *pool, size_t pool_len,
+    uint8_t *seeds, size_t seeds_len,
     const uint8_t *frame, size_t frame_len,
     uint8_t *answer, size_t answer_len);
 
@@ -195,6 +200,7 @@ EzReport eikelzwier_command_with_journal(
     uint8_t *carried, size_t carried_len,
     uint64_t *numbers, size_t numbers_len,
     uint8_t *pool, size_t pool_len,
+    uint8_t *seeds, size_t seeds_len,
     const uint8_t *frame, size_t frame_len,
     uint8_t *answer, size_t answer_len,
     uint8_t *journal, size_t journal_len,
@@ -239,6 +245,7 @@ EzRecovery eikelzwier_recover(
     uint8_t *carried, size_t carried_len,
     uint64_t *numbers, size_t numbers_len,
     uint8_t *pool, size_t pool_len,
+    uint8_t *seeds, size_t seeds_len,
     const uint8_t *kept, size_t kept_len);
 
 #ifdef __cplusplus

@@ -46,11 +46,13 @@ extern "C" {
 #define EZ_RECEIVE 0x08
 #define EZ_QUOTA 0x09
 #define EZ_HOLDERS 0x0a
+#define EZ_SHOW_SEED 0x0c
 
-/* What a receive takes out: byte 1 of its answer. */
+/* What a receive takes out, and what 0c shows: byte 1 of its answer. */
 #define EZ_MESSAGE 1
 #define EZ_NODE_DESTROYED 2
 #define EZ_NODE_RELEASED 3
+#define EZ_SEED 4
 
 /* Limits. */
 #define EZ_PEERS 8
@@ -59,7 +61,7 @@ extern "C" {
 #define EZ_MAX_DESTINATIONS 8
 #define EZ_MAX_HANDLES 8
 #define EZ_MAX_PAYLOAD 512
-#define EZ_MAX_ROOM (EZ_MAX_PAYLOAD + 8 * EZ_MAX_HANDLES) /* every message fits */
+#define EZ_MAX_ROOM (EZ_MAX_PAYLOAD + 8 * EZ_MAX_HANDLES) /* every message and seed fits */
 
 /* An attached handle whose node was destroyed. */
 #define EZ_INVALID_ID UINT64_MAX
@@ -73,15 +75,16 @@ typedef struct EzFrame {
     uint8_t bytes[EZ_FRAME_MAX];
 } EzFrame;
 
-/* What a receive took out. Of a notice only kind and id have a meaning. The
- * payload stands in the answer: on a bus it holds until the next command. */
+/* What a receive took out, or the seed that 0c showed. Of a notice only kind and
+ * id have a meaning. The payload stands in the answer: on a bus it holds until the
+ * next command. */
 typedef struct EzReceived {
-    uint8_t kind; /* EZ_MESSAGE, EZ_NODE_DESTROYED or EZ_NODE_RELEASED */
-    uint8_t user; /* the sender's */
+    uint8_t kind; /* EZ_MESSAGE, EZ_NODE_DESTROYED, EZ_NODE_RELEASED or EZ_SEED */
+    uint8_t user; /* the sender's; of a seed the peer's own */
     uint8_t more; /* 1: another message of the same send waits behind it here */
     uint8_t nh;
     uint16_t nb;
-    uint64_t id; /* the node, by the receiver's ID */
+    uint64_t id; /* the node, by the receiver's ID; of a seed EZ_INVALID_ID */
     uint64_t handles[EZ_MAX_HANDLES];
     const uint8_t *payload;
 } EzReceived;
@@ -142,14 +145,15 @@ static inline const char *ez_command_name(uint8_t command)
 {
     static const char *const names[] = {"unknown", "open",     "disconnect", "create",
                                         "destroy", "release",  "transfer",   "send",
-                                        "receive", "quota",    "holders"};
-    return names[command <= EZ_HOLDERS ? command : 0];
+                                        "receive", "quota",    "holders",    "unknown",
+                                        "show seed"};
+    return names[command <= EZ_SHOW_SEED ? command : 0];
 }
 
 static inline const char *ez_kind_name(uint8_t kind)
 {
-    static const char *const names[] = {"unknown", "message", "node destroyed", "node released"};
-    return names[kind <= EZ_NODE_RELEASED ? kind : 0];
+    static const char *const names[] = {"unknown", "message", "node destroyed", "node released", "seed"};
+    return names[kind <= EZ_SEED ? kind : 0];
 }
 
 /* ---- Numbers, big-endian ---- */
@@ -228,11 +232,9 @@ static inline size_t ez_put_ids_(uint8_t *at, const uint64_t *ids, size_t n)
     return 8 * n;
 }
 
-/* EZ_DONE; or EZ_EMSGSIZE where a list or the payload is over its limit: then
- * nothing is written but f->len, which is 0. A list without elements may be
- * NULL. The sizes are tested here before the bus tests anything. */
-static inline uint8_t ez_build_send(EzFrame *f, uint8_t peer, const uint64_t *to, size_t nd,
-                                    const uint64_t *handles, size_t nh, const void *payload, size_t nb)
+/* A send, or with no destination a seed. */
+static inline uint8_t ez_build_lists_(EzFrame *f, uint8_t peer, const uint64_t *to, size_t nd,
+                                      const uint64_t *handles, size_t nh, const void *payload, size_t nb)
 {
     size_t at = 6;
     f->len = 0;
@@ -252,10 +254,38 @@ static inline uint8_t ez_build_send(EzFrame *f, uint8_t peer, const uint64_t *to
     return EZ_DONE;
 }
 
+/* EZ_DONE; EZ_EINVAL without destination, since that frame would set the peer's
+ * seed; or EZ_EMSGSIZE where a list or the payload is over its limit. Where it is
+ * not EZ_DONE, nothing is written but f->len, which is 0. A list without elements
+ * may be NULL. The sizes are tested here before the bus tests anything. */
+static inline uint8_t ez_build_send(EzFrame *f, uint8_t peer, const uint64_t *to, size_t nd,
+                                    const uint64_t *handles, size_t nh, const void *payload, size_t nb)
+{
+    f->len = 0;
+    return nd == 0 ? EZ_EINVAL : ez_build_lists_(f, peer, to, nd, handles, nh, payload, nb);
+}
+
+/* The seed, a send with no destinations. The sizes are tested as in a send. */
+static inline uint8_t ez_build_set_seed(EzFrame *f, uint8_t peer, const uint64_t *handles, size_t nh,
+                                        const void *payload, size_t nb)
+{
+    return ez_build_lists_(f, peer, NULL, 0, handles, nh, payload, nb);
+}
+
+static inline void ez_build_room_(EzFrame *f, uint8_t command, uint8_t peer, uint16_t room)
+{
+    ez_build_short_(f, command, peer, (uint8_t)(room >> 8), 4);
+    f->bytes[3] = (uint8_t)room;
+}
+
 static inline void ez_build_receive(EzFrame *f, uint8_t peer, uint16_t room)
 {
-    ez_build_short_(f, EZ_RECEIVE, peer, (uint8_t)(room >> 8), 4);
-    f->bytes[3] = (uint8_t)room;
+    ez_build_room_(f, EZ_RECEIVE, peer, room);
+}
+
+static inline void ez_build_show_seed(EzFrame *f, uint8_t peer, uint16_t room)
+{
+    ez_build_room_(f, EZ_SHOW_SEED, peer, room);
 }
 
 static inline void ez_build_quota(EzFrame *f, uint8_t peer, uint8_t user)
@@ -274,7 +304,7 @@ static inline void ez_build_holders(EzFrame *f, uint8_t peer, uint64_t id)
  * EZ_UNREADABLE where the bytes are no answer to such a command. Nothing is
  * read behind len. */
 
-/* Of open, disconnect, create, destroy, release and send. */
+/* Of open, disconnect, create, destroy, release, send and set seed. */
 static inline uint8_t ez_decode_plain(const uint8_t *a, size_t len)
 {
     return len == 1 ? a[0] : EZ_UNREADABLE;
@@ -310,7 +340,8 @@ static inline uint8_t ez_decode_message_(const uint8_t *a, size_t len, EzReceive
     return EZ_DONE;
 }
 
-static inline uint8_t ez_decode_receive(const uint8_t *a, size_t len, EzReceived *r)
+/* The kind and the ID, of a receive and of 0c. */
+static inline uint8_t ez_decode_kind_(const uint8_t *a, size_t len, EzReceived *r)
 {
     if (len == 1 && a[0] != EZ_DONE)
         return a[0];
@@ -319,9 +350,25 @@ static inline uint8_t ez_decode_receive(const uint8_t *a, size_t len, EzReceived
     memset(r, 0, sizeof *r);
     r->kind = a[1];
     r->id = ez_get_id(a + 2);
+    return EZ_DONE;
+}
+
+static inline uint8_t ez_decode_receive(const uint8_t *a, size_t len, EzReceived *r)
+{
+    uint8_t number = ez_decode_kind_(a, len, r);
+    if (number != EZ_DONE)
+        return number;
     if (r->kind == EZ_MESSAGE)
         return ez_decode_message_(a, len, r);
     return len == 10 && (a[1] == EZ_NODE_DESTROYED || a[1] == EZ_NODE_RELEASED) ? EZ_DONE : EZ_UNREADABLE;
+}
+
+static inline uint8_t ez_decode_show_seed(const uint8_t *a, size_t len, EzReceived *r)
+{
+    uint8_t number = ez_decode_kind_(a, len, r);
+    if (number != EZ_DONE)
+        return number;
+    return r->kind == EZ_SEED ? ez_decode_message_(a, len, r) : EZ_UNREADABLE;
 }
 
 static inline uint8_t ez_decode_quota(const uint8_t *a, size_t len, EzQuota *q)
@@ -468,8 +515,8 @@ static inline uint8_t ez_transfer(EzBus *b, uint8_t peer, uint64_t id, uint8_t t
     return o.number == EZ_DONE ? ez_decode_transfer(b->answer, o.len, there) : o.number;
 }
 
-/* A message to each of nd nodes, with nh handles attached and nb bytes; as
- * ez_build_send tests it. */
+/* A message to each of nd nodes, at least one, with nh handles attached and nb
+ * bytes; as ez_build_send tests it. */
 static inline uint8_t ez_send(EzBus *b, uint8_t peer, const uint64_t *to, size_t nd,
                               const uint64_t *handles, size_t nh, const void *payload, size_t nb)
 {
@@ -485,6 +532,27 @@ static inline uint8_t ez_receive(EzBus *b, uint8_t peer, uint16_t room, EzReceiv
     ez_build_receive(&f, peer, room);
     EzOutcome o = ez_command(b, f.bytes, f.len);
     return o.number == EZ_DONE ? ez_decode_receive(b->answer, o.len, r) : o.number;
+}
+
+/* Replaces the peer's seed: a message that it keeps for itself, with nh handles
+ * attached and nb bytes. It is charged to nobody and stays until it is replaced
+ * or the peer disconnects. */
+static inline uint8_t ez_set_seed(EzBus *b, uint8_t peer, const uint64_t *handles, size_t nh,
+                                  const void *payload, size_t nb)
+{
+    EzFrame f;
+    uint8_t number = ez_build_set_seed(&f, peer, handles, nh, payload, nb);
+    return number == EZ_DONE ? ez_run(b, &f) : number;
+}
+
+/* Shows the peer's seed without taking it out; EZ_EAGAIN where none is set. Each
+ * time it adds a reference for each handle shown, as a receive does. */
+static inline uint8_t ez_show_seed(EzBus *b, uint8_t peer, uint16_t room, EzReceived *r)
+{
+    EzFrame f;
+    ez_build_show_seed(&f, peer, room);
+    EzOutcome o = ez_command(b, f.bytes, f.len);
+    return o.number == EZ_DONE ? ez_decode_show_seed(b->answer, o.len, r) : o.number;
 }
 
 /* What a user has queued at the peer. */

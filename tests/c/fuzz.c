@@ -119,10 +119,10 @@ static uint8_t some_peer(void)
     return c < 240 ? c % 4 : c % 16;
 }
 
-/* The lists and the payload of a send; sizes at and behind the limits too. */
+/* The lists and the payload of a send, or of a seed; sizes at and behind the limits too. */
 static size_t send_frame(uint8_t *frame)
 {
-    uint8_t c = take(), nd = c % 4 == 3 ? take() % 10 : 1 + c % 2, nh = c / 4 % 4 == 3 ? take() % 10 : c / 16 % 3;
+    uint8_t c = take(), nd = c % 4 == 3 ? take() % 10 : c % 4, nh = c / 4 % 4 == 3 ? take() % 10 : c / 16 % 3;
     size_t nb = c > 230 ? 8 * (size_t)take() % 520 : take() % 8, n = 2;
     n = put(frame, n, nd, 1);
     n = put(frame, n, nh, 1);
@@ -136,7 +136,7 @@ static size_t send_frame(uint8_t *frame)
 /* A frame of the numbers that the run knows. */
 static size_t built_frame(uint8_t *frame)
 {
-    uint8_t op = 1 + take() % 11;
+    uint8_t op = 1 + take() % 13;
     size_t n = put(frame, put(frame, 0, op, 1), some_peer(), 1);
     if (op == 1 || op == 9)
         return put(frame, n, take() % 5, 1);
@@ -148,7 +148,7 @@ static size_t built_frame(uint8_t *frame)
         return put(frame, n, some_id(), 8);
     if (op == 6)
         return put(frame, put(frame, n, some_id(), 8), some_peer(), 1);
-    if (op == 8)
+    if (op == 8 || op == 12)
         return put(frame, n, take() > 60 ? 576 : take(), 2);
     return op == 7 ? send_frame(frame) : n;
 }

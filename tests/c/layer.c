@@ -66,17 +66,22 @@ static void builders(void)
     same_frame(&f, "06 03 ffffffffffffffff 04");
     check(ez_build_send(&f, 1, to, 2, attached, 1, "3!", 2) == EZ_DONE, "a send is built");
     same_frame(&f, "07 01 02 01 0002 0102030405060708 0000000000000007 0000000000000008 3321");
-    check(ez_build_send(&f, 7, NULL, 0, NULL, 0, NULL, 0) == EZ_DONE, "a bare send is built");
+    check(ez_build_send(&f, 7, NULL, 0, NULL, 0, NULL, 0) == EZ_EINVAL && f.len == 0, "a send needs a destination");
+    check(ez_build_set_seed(&f, 1, attached, 1, "3!", 2) == EZ_DONE, "a seed is built");
+    same_frame(&f, "07 01 00 01 0002 0000000000000008 3321");
+    check(ez_build_set_seed(&f, 7, NULL, 0, NULL, 0) == EZ_DONE, "a bare seed is built");
     same_frame(&f, "07 07 00 00 0000");
     ez_build_receive(&f, 0, 0x0102);
     same_frame(&f, "08 00 0102");
+    ez_build_show_seed(&f, 2, 0x0102);
+    same_frame(&f, "0c 02 0102");
     ez_build_quota(&f, 4, 2);
     same_frame(&f, "09 04 02");
     ez_build_holders(&f, 7, 12);
     same_frame(&f, "0a 07 000000000000000c");
 }
 
-/* A send over a limit is refused, and the memory around the frame stays. */
+/* A send or a seed over a limit is refused, and the memory around the frame stays. */
 static void limits(void)
 {
     static const size_t sizes[][3] = {{9, 0, 0}, {1, 9, 0}, {1, 0, 513}, {SIZE_MAX, 0, 0},
@@ -95,14 +100,19 @@ static void limits(void)
         check(n == EZ_EMSGSIZE && at.frame.len == 0, "a send over a limit gives 90");
         old.frame.len = 0;
         check(memcmp(&at, &old, sizeof at) == 0, "a send over a limit writes nothing");
+        n = ez_build_set_seed(&at.frame, 0, ids, sizes[i][1], payload, sizes[i][2]);
+        check(sizes[i][0] > 8 || (n == EZ_EMSGSIZE && at.frame.len == 0), "a seed over a limit gives 90");
+        at = old;
     }
+    check(ez_build_set_seed(&at.frame, 0, ids, 8, payload, 512) == EZ_DONE, "the longest seed is built");
+    check(at.frame.len == 582, "the longest seed has 582 bytes");
     check(ez_build_send(&at.frame, 0, ids, 8, ids, 8, payload, 512) == EZ_DONE, "the longest send is built");
     check(at.frame.len == EZ_FRAME_MAX, "the longest send has 646 bytes");
     check(memcmp(at.before, old.before, 64) == 0 && memcmp(at.after, old.after, 64) == 0, "nothing around it");
 }
 
 /* What a decoder says of the bytes, which stand in memory of just their size. */
-enum decoder { PLAIN, TRANSFER, RECEIVE, QUOTA, HOLDERS };
+enum decoder { PLAIN, TRANSFER, RECEIVE, SHOW_SEED, QUOTA, HOLDERS };
 
 static EzReceived received;
 static EzQuota quota;
@@ -120,6 +130,7 @@ static uint8_t decode(enum decoder d, const uint8_t *bytes, size_t n)
     case PLAIN: number = ez_decode_plain(own, n); break;
     case TRANSFER: number = ez_decode_transfer(own, n, &there); break;
     case RECEIVE: number = ez_decode_receive(own, n, &received); break;
+    case SHOW_SEED: number = ez_decode_show_seed(own, n, &received); break;
     case QUOTA: number = ez_decode_quota(own, n, &quota); break;
     default: number = ez_decode_holders(own, n, &holders); break;
     }
@@ -159,6 +170,10 @@ static void decoders(void)
     check(received.kind == EZ_MESSAGE && received.id == 8 && received.user == 2 && received.more == 1, "a message");
     check(received.nb == 3 && received.nh == 2 && received.handles[0] == 11 && received.handles[1] == EZ_INVALID_ID,
           "the handles of a message");
+    whole_only(SHOW_SEED, "00 04 ffffffffffffffff 02 00 0003 02 000000000000000b ffffffffffffffff 333821");
+    check(received.kind == EZ_SEED && received.id == EZ_INVALID_ID && received.user == 2 && received.more == 0, "a seed");
+    check(received.nb == 3 && received.nh == 2 && received.handles[0] == 11 && received.handles[1] == EZ_INVALID_ID,
+          "the handles of a seed");
     for (int d = PLAIN; d <= HOLDERS; d++)
         check(decode((enum decoder)d, refusal, 1) == EZ_EDQUOT, "a refusal");
 }
@@ -169,12 +184,17 @@ static void strangers(void)
     static const char *const texts[] = {
         "00 04 0000000000000008", "00 00 0000000000000008", "01 01 0000000000000008 02 00 0000 00",
         "00 01 0000000000000008 02 00 0001 00", "00 01 0000000000000008 02 00 ffff 09",
+        "00 05 ffffffffffffffff 02 00 0000 00",
     };
     uint8_t a[EZ_ANSWER_LEN];
     for (size_t i = 0; i < sizeof texts / sizeof texts[0]; i++) {
         size_t n = bytes_of(texts[i], a);
-        check(decode(RECEIVE, a, n) == EZ_UNREADABLE, texts[i]);
+        check(decode(RECEIVE, a, n) == EZ_UNREADABLE && decode(SHOW_SEED, a, n) == EZ_UNREADABLE, texts[i]);
     }
+    /* A receive takes out no seed, and 0c shows nothing else. */
+    check(decode(RECEIVE, a, bytes_of("00 04 ffffffffffffffff 02 00 0000 00", a)) == EZ_UNREADABLE, "a seed received");
+    check(decode(SHOW_SEED, a, bytes_of("00 01 0000000000000008 02 00 0000 00", a)) == EZ_UNREADABLE, "a message shown");
+    check(decode(SHOW_SEED, a, bytes_of("00 02 0000000000000008", a)) == EZ_UNREADABLE, "a notice shown");
 }
 
 static EzBus bus;
@@ -214,6 +234,31 @@ static void questions(void)
     check(ez_send(&bus, 0, &seven, 9, NULL, 0, "", 0) == EZ_EMSGSIZE, "too many destinations");
 }
 
+/* A seed is kept, shown and replaced; it is no message and charged to nobody. */
+static void seeds(void)
+{
+    static EzReceived r;
+    static EzQuota q;
+    uint64_t ids[2] = {8, 12};
+    check(ez_init(&bus) == EZ_DONE && ez_open(&bus, 0, 2) == EZ_DONE, "a peer opens");
+    check(ez_show_seed(&bus, 0, EZ_MAX_ROOM, &r) == EZ_EAGAIN, "no seed is set");
+    check(ez_create(&bus, 0, 8) == EZ_DONE && ez_create(&bus, 0, 12) == EZ_DONE, "two nodes are created");
+    check(ez_set_seed(&bus, 0, ids, 2, "lamp", 4) == EZ_DONE, "a seed is set");
+    check(ez_destroy(&bus, 0, 12) == EZ_DONE, "one of its nodes is destroyed");
+    check(ez_show_seed(&bus, 0, 19, &r) == EZ_ERANGE, "4 and 16 bytes are over 19");
+    for (int again = 0; again < 2; again++) {
+        check(ez_show_seed(&bus, 0, 20, &r) == EZ_DONE && r.kind == EZ_SEED && r.id == EZ_INVALID_ID, "the seed is shown");
+        check(r.user == 2 && r.more == 0 && r.nb == 4 && memcmp(r.payload, "lamp", 4) == 0, "what was set");
+        check(r.nh == 2 && r.handles[0] == 8 && r.handles[1] == EZ_INVALID_ID, "the handles of the seed");
+    }
+    check(ez_quota(&bus, 0, 2, &q) == EZ_DONE && q.messages == 0 && q.bytes_left == 2048, "nothing is charged");
+    check(ez_release(&bus, 0, 8) == EZ_DONE && ez_release(&bus, 0, 8) == EZ_DONE, "each showing added a reference");
+    check(ez_release(&bus, 0, 8) == EZ_EPERM, "the last one stays");
+    check(ez_set_seed(&bus, 0, ids, 9, "", 0) == EZ_EMSGSIZE, "too many handles");
+    check(ez_set_seed(&bus, 0, NULL, 0, NULL, 0) == EZ_DONE, "an empty seed");
+    check(ez_show_seed(&bus, 0, 0, &r) == EZ_DONE && r.nb == 0 && r.nh == 0, "is a set one");
+}
+
 static void journals(void)
 {
     static const char lines[] = "010000\n010101\n03000000000000000008\n0600000000000000000801\n"
@@ -240,7 +285,8 @@ static void names(void)
     check(strcmp(ez_name(0), "done") == 0 && strcmp(ez_name(27), "EFBIG") == 0, "names of numbers");
     check(strcmp(ez_name(122), "EDQUOT") == 0 && strcmp(ez_name(2), "unknown") == 0, "names of numbers");
     check(strcmp(ez_command_name(7), "send") == 0 && strcmp(ez_command_name(11), "unknown") == 0, "names of commands");
-    check(strcmp(ez_kind_name(2), "node destroyed") == 0 && strcmp(ez_kind_name(4), "unknown") == 0, "names of kinds");
+    check(strcmp(ez_command_name(12), "show seed") == 0 && strcmp(ez_command_name(13), "unknown") == 0, "names of commands");
+    check(strcmp(ez_kind_name(2), "node destroyed") == 0 && strcmp(ez_kind_name(4), "seed") == 0 && strcmp(ez_kind_name(5), "unknown") == 0, "names of kinds");
 }
 
 int main(void)
@@ -253,6 +299,7 @@ int main(void)
     check(ez_init(&bus) == EZ_DONE, "a fresh bus");
     script();
     questions();
+    seeds();
     journals();
     printf("layer: %d checks, %d failed\n", checks, failures);
     return failures > 0;

@@ -333,16 +333,16 @@ static void test_short_answer(void)
 /* A random frame, mostly of a command's length and with small numbers. */
 static void random_frame(struct bus *bus)
 {
-    static const size_t lengths[] = {3, 2, 10, 10, 10, 11, 6, 4, 3, 10};
+    static const size_t lengths[] = {3, 2, 10, 10, 10, 11, 6, 4, 3, 10, 6, 4};
     unsigned char bytes[1400];
-    size_t kind = below(10), len = lengths[kind];
+    size_t kind = below(12), len = lengths[kind];
 
     for (size_t i = 0; i < sizeof bytes; i++)
         bytes[i] = (unsigned char)draw();
     bytes[0] = (unsigned char)(kind + 1);
     bytes[1] &= 7;
     if (kind == 6) {
-        size_t nd = 1 + below(8), nh = below(9), nb = below(513);
+        size_t nd = below(9), nh = below(9), nb = below(513);
         bytes[2] = (unsigned char)nd;
         bytes[3] = (unsigned char)nh;
         bytes[4] = (unsigned char)(nb >> 8);
@@ -353,10 +353,10 @@ static void random_frame(struct bus *bus)
         bytes[2] &= 3;
     if (kind == 5)
         bytes[10] &= 7;
-    if (kind == 7 && below(2))
+    if ((kind == 7 || kind == 11) && below(2))
         bytes[2] = 0xff;
     /* IDs that stand in the handle table. */
-    if (kind != 0 && kind != 1 && kind != 7 && kind != 8 && below(8)) {
+    if (kind != 0 && kind != 1 && kind != 7 && kind != 8 && kind < 10 && below(8)) {
         const unsigned char *handles = at(&bus->b[table_handles]);
         for (size_t i = kind == 6 ? 6 : 2; i + 8 <= len; i += 8) {
             size_t row = 128 * bytes[1] + below(128);

@@ -77,38 +77,38 @@ unfolding balanceBytes
 balance-stores o o₁ o₂ at b e f g = sets-then o o₁ o₂ 1 at (chargeBytes (b .queued)) (chargeBytes (b .left)) e (rw (charge-length (b .queued)) f) g
 
 -- the header: a byte, an ID, two bytes, a number of two bytes, a byte
-pub header-stores : (o o₁ o₂ : List ℕ) (at end : ℕ) (h : Header) → o₁ ≡ sets (set o 1 1) 2 (be 8 (h .to .0)) → at ≡ 2 + 8 →
+pub header-stores : (o o₁ o₂ : List ℕ) (at end kind : ℕ) (h : Header) → o₁ ≡ sets (set o 1 kind) 2 (be 8 (h .to .0)) → at ≡ 2 + 8 →
     o₂ ≡ sets (set (set o₁ at (h .user .0 % 256)) (at + 1) (bit (h .flag))) (at + 2) (be 2 (h .nb)) → end ≡ at + 2 + 2 →
-    set o₂ end (h .nh % 256) ≡ sets o 1 (headerBytes h)
+    set o₂ end (h .nh % 256) ≡ sets o 1 (headerBytes kind h)
 unfolding headerBytes
-header-stores o o₁ o₂ at end h e f g k =
+header-stores o o₁ o₂ at end kind h e f g k =
     let i : at ≡ 10 = omega arith in
     let j : end ≡ 14 = omega arith in
     let u : o₂ ≡ sets (set (set o₁ 10 (h .user .0 % 256)) 11 (bit (h .flag))) 12 (be 2 (h .nb)) = rw i at g in
     rw j
-    (sets-then (set o 1 1) o₁ (set o₂ 14 (h .nh % 256)) 2 10 (be 8 (h .to .0)) (h .user .0 % 256 ∷ bit (h .flag) ∷ be 2 (h .nb) ++ (h .nh % 256 ∷ [])) e
+    (sets-then (set o 1 kind) o₁ (set o₂ 14 (h .nh % 256)) 2 10 (be 8 (h .to .0)) (h .user .0 % 256 ∷ bit (h .flag) ∷ be 2 (h .nb) ++ (h .nh % 256 ∷ [])) e
     (rw (be-length 8 (h .to .0)))
     (sets-then (set (set o₁ 10 (h .user .0 % 256)) 11 (bit (h .flag))) o₂ (set o₂ 14 (h .nh % 256)) 12 14 (be 2 (h .nb)) (h .nh % 256 ∷ []) u
     (rw (be-length 2 (h .nb)))
     refl))
 
 -- a message: the header, at most 8 IDs, at most 512 bytes
-module _ (h : Header) (is bs : List ℕ) where
-  pub message-stores : (o o₁ o₂ o₃ : List ℕ) (at end n m : ℕ) → o₁ ≡ sets o 1 (headerBytes h) → at ≡ 15 → n ≡ min (length is) mostIds →
+module _ (kind : ℕ) (h : Header) (is bs : List ℕ) where
+  pub message-stores : (o o₁ o₂ o₃ : List ℕ) (at end n m : ℕ) → o₁ ≡ sets o 1 (headerBytes kind h) → at ≡ 15 → n ≡ min (length is) mostIds →
       o₂ ≡ sets o₁ at (idBytes (take n is)) → end ≡ at + 8 * length (take n is) → m ≡ min (length bs) mostBytes → o₃ ≡ sets o₂ end (take m bs) →
-      o₃ ≡ sets o 1 (messageBytes h is bs)
+      o₃ ≡ sets o 1 (messageBytes kind h is bs)
   unfolding messageBytes
   message-stores o o₁ o₂ o₃ at end n m e f i g j k l =
       let t : take n is ≡ take mostIds is = rw i (take-min mostIds is) in
       let s : take m bs ≡ take mostBytes bs = rw k (take-min mostBytes bs) in
-      sets-then o o₁ o₃ 1 at (headerBytes h) (idBytes (take mostIds is) ++ take mostBytes bs) e (rw (header-length h) f)
+      sets-then o o₁ o₃ 1 at (headerBytes kind h) (idBytes (take mostIds is) ++ take mostBytes bs) e (rw (header-length kind h) f)
       (sets-then o₁ o₂ o₃ at end (idBytes (take mostIds is)) (take mostBytes bs) (rw t at g) (rw (ids-length (take mostIds is)) (rw t at j)) (rw s at l))
 
   pub message-end : (at end n m r : ℕ) → at ≡ 15 → n ≡ min (length is) mostIds → end ≡ at + 8 * length (take n is) → m ≡ min (length bs) mostBytes →
-      r ≡ end + m → r ≡ 1 + length (messageBytes h is bs)
+      r ≡ end + m → r ≡ 1 + length (messageBytes kind h is bs)
   message-end at end n m r f i j k l =
       let a : length (take n is) ≡ min n (length is) = length-take n is in
-      omega (arith, message-length h is bs)
+      omega (arith, message-length kind h is bs)
 
 -- an answer, written or refused for want of room
 module _ (a : Answer) (is bs o : List ℕ) where

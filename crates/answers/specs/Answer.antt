@@ -14,7 +14,7 @@ use Rattle.quota.specs.declared.Charge.{Charge}
 use Rattle.quota.specs.declared.Balance.{Balance}
 use Rattle.answers.specs.declared.Header.{Header}
 use Rattle.answers.specs.declared.Received.{Received}
-use Rattle.answers.specs.declared.Received.the-variants.{Message, Destroyed, Released}
+use Rattle.answers.specs.declared.Received.the-variants.{Message, Destroyed, Released, Seed}
 use Rattle.answers.specs.declared.Answer.{Answer}
 use Rattle.answers.specs.declared.Answer.the-variants.{Refused, Done, Transferred, Received as received, Quota, Holders}
 use Rattle.answers.specs.declared.Outcome.{Outcome}
@@ -34,22 +34,23 @@ abbrev pub bit : Bool → ℕ
 bit true = 1
 bit false = 0
 
--- 01, destination ID, sender's user (1), flag (1), nb (2), nh (1).
-unfoldable pub headerBytes : Header → List ℕ
-headerBytes h = 1 ∷ be 8 (h .to .0) ++ (h .user .0 % 256 ∷ bit (h .flag) ∷ be 2 (h .nb) ++ (h .nh % 256 ∷ []))
+-- The kind, 01 or for a seed 04, then destination ID, sender's user (1), flag (1), nb (2), nh (1).
+unfoldable pub headerBytes : ℕ → Header → List ℕ
+headerBytes kind h = kind ∷ be 8 (h .to .0) ++ (h .user .0 % 256 ∷ bit (h .flag) ∷ be 2 (h .nb) ++ (h .nh % 256 ∷ []))
 
 -- The header, IDs, payload; of the two lists at most 8 IDs and 512 bytes.
-unfoldable pub messageBytes : Header → List ℕ → List ℕ → List ℕ
-messageBytes h is bs = headerBytes h ++ (idBytes (take mostIds is) ++ take mostBytes bs)
+unfoldable pub messageBytes : ℕ → Header → List ℕ → List ℕ → List ℕ
+messageBytes kind h is bs = headerBytes kind h ++ (idBytes (take mostIds is) ++ take mostBytes bs)
 
 unfoldable pub noticeBytes : ℕ → HandleId → List ℕ
 noticeBytes kind i = kind ∷ be 8 (i .0)
 
--- "Receive answers 01, ..; or 02 and an ID (node destroyed); or 03 and an ID (node released)."
+-- "Receive answers 01, ..; or 02 and an ID (node destroyed); or 03 and an ID (node released)." 02 No. 1: "shows the seed as kind 04 with a message's fields".
 unfoldable pub receivedBytes : Received → List ℕ → List ℕ → List ℕ
-receivedBytes (Message h) is bs = messageBytes h is bs
+receivedBytes (Message h) is bs = messageBytes 1 h is bs
 receivedBytes (Destroyed i) is bs = noticeBytes 2 i
 receivedBytes (Released i) is bs = noticeBytes 3 i
+receivedBytes (Seed h) is bs = messageBytes 4 h is bs
 
 -- Messages, bytes, handles, 2 bytes each.
 unfoldable pub chargeBytes : Charge → List ℕ

@@ -14,7 +14,7 @@ use Rattle.quota.specs.declared.Charge.{Charge}
 use Rattle.quota.specs.declared.Balance.{Balance}
 use Rattle.answers.specs.declared.Header.{Header}
 use Rattle.answers.specs.declared.Received.{Received}
-use Rattle.answers.specs.declared.Received.the-variants.{Message, Destroyed, Released}
+use Rattle.answers.specs.declared.Received.the-variants.{Message, Destroyed, Released, Seed}
 use Rattle.answers.specs.declared.Answer.{Answer}
 use Rattle.answers.specs.declared.Answer.the-variants.{Refused, Done, Transferred, Received as received, Quota, Holders}
 use Rattle.answers.specs.Answer.{idBytes, headerBytes, messageBytes, noticeBytes, receivedBytes, chargeBytes, balanceBytes, holderBytes, contentsOf, answerBytes, mostIds, mostBytes}
@@ -39,13 +39,13 @@ pub balance-length : (b : Balance) → length (balanceBytes b) ≡ 12
 unfolding balanceBytes
 balance-length b = rw (length-append, charge-length (b .queued), charge-length (b .left))
 
-pub header-length : (h : Header) → length (headerBytes h) ≡ 14
+pub header-length : (kind : ℕ) (h : Header) → length (headerBytes kind h) ≡ 14
 unfolding headerBytes
-header-length h = rw (length-append, length-append, be-length 8 (h .to .0), be-length 2 (h .nb))
+header-length kind h = rw (length-append, length-append, be-length 8 (h .to .0), be-length 2 (h .nb))
 
-pub message-length : (h : Header) (is bs : List ℕ) → length (messageBytes h is bs) ≡ 14 + (8 * min mostIds (length is) + min mostBytes (length bs))
+pub message-length : (kind : ℕ) (h : Header) (is bs : List ℕ) → length (messageBytes kind h is bs) ≡ 14 + (8 * min mostIds (length is) + min mostBytes (length bs))
 unfolding messageBytes
-message-length h is bs = rw (length-append, length-append, header-length h, ids-length (take mostIds is), length-take, length-take)
+message-length kind h is bs = rw (length-append, length-append, header-length kind h, ids-length (take mostIds is), length-take, length-take)
 
 pub notice-length : (kind : ℕ) (i : HandleId) → length (noticeBytes kind i) ≡ 9
 unfolding noticeBytes
@@ -54,9 +54,10 @@ notice-length kind i = rw (be-length 8 (i .0))
 -- the longest is a message with 8 IDs and 512 bytes
 pub received-size : (r : Received) (is bs : List ℕ) → length (receivedBytes r is bs) ≤ 590
 unfolding receivedBytes
-received-size (Message h) is bs = omega (arith, message-length h is bs)
+received-size (Message h) is bs = omega (arith, message-length 1 h is bs)
 received-size (Destroyed i) is bs = omega (arith, notice-length 2 i)
 received-size (Released i) is bs = omega (arith, notice-length 3 i)
+received-size (Seed h) is bs = omega (arith, message-length 4 h is bs)
 
 pub contents-size : (a : Answer) (is bs : List ℕ) → length (contentsOf a is bs) ≤ 590
 unfolding contentsOf holderBytes
@@ -106,7 +107,17 @@ module _ (h : Header) (is bs : List ℕ) (few : length is ≤ 8) where
 
   pub message-ids : All (λ i. i < 256 ^ 8) is → build (λ j. numAt (answerBytes (received (Message h)) is bs) (15 + 8 * j) 8) (length is) ≡ is
   unfolding answerBytes contentsOf receivedBytes messageBytes
-  message-ids a = rw (take-all 8 is few) (ids-at (0 ∷ headerBytes h) is (take mostBytes bs) 15 (ap suc (header-length h)) a)
+  message-ids a = rw (take-all 8 is few) (ids-at (0 ∷ headerBytes 1 h) is (take mostBytes bs) 15 (ap suc (header-length 1 h)) a)
+
+-- A seed, as a message.
+module _ (h : Header) (is bs : List ℕ) (few : length is ≤ 8) where
+  pub seed-count : h .nh ≡ length is → getD (answerBytes (received (Seed h)) is bs) 14 0 ≡ length is
+  unfolding answerBytes contentsOf receivedBytes messageBytes headerBytes
+  seed-count e = rw (be-eight (h .to .0), be-two (h .nb)) (omega arith)
+
+  pub seed-ids-at : All (λ i. i < 256 ^ 8) is → build (λ j. numAt (answerBytes (received (Seed h)) is bs) (15 + 8 * j) 8) (length is) ≡ is
+  unfolding answerBytes contentsOf receivedBytes messageBytes
+  seed-ids-at a = rw (take-all 8 is few) (ids-at (0 ∷ headerBytes 4 h) is (take mostBytes bs) 15 (ap suc (header-length 4 h)) a)
 
 -- The quota question: the queued messages, bytes and handles.
 module _ (b : Balance) (is bs : List ℕ) where

@@ -7,6 +7,7 @@ ghost use lib.Seq.{sets};
 ghost use Rattle.laws.specs.Bytes.{be};
 ghost use Rattle.answers.specs.Answer.{idBytes, headerBytes, messageBytes, noticeBytes, receivedBytes, chargeBytes, balanceBytes, holderBytes, contentsOf, numberOf, answerAfter, outcomeOf};
 ghost use Rattle.answers.specs.declared.Answer.the-variants as answer;
+ghost use Rattle.answers.specs.declared.Received.the-variants as received;
 use ids::ANSWER_SIZE;
 use ids::EINVAL;
 use ids::HandleId;
@@ -26,11 +27,12 @@ pub struct Header {
     pub nh: usize,
 }
 
-// What a receive takes out: a message, or the notice that a node was destroyed or released.
+// What a receive takes out: a message, or the notice that a node was destroyed or released. And the seed that 0c shows.
 pub enum Received {
     Message(Header),
     Destroyed(HandleId),
     Released(HandleId),
+    Seed(Header),
 }
 
 pub enum Answer {
@@ -95,11 +97,11 @@ fn put_charge(out: &mut [u8], at: usize, c: Charge) -> usize
 }
 
 // The numbers of a message, from the place 1 on.
-fn put_header(out: &mut [u8], h: Header) -> usize
+fn put_header(out: &mut [u8], kind: u8, h: Header) -> usize
     requires { ⌜ 15 ≤ length (now out) ⌝ }
-    ensures { λ r. ⌜ (r ≡ 15) × (now (out .exit) ≡ sets (now (out .entry)) 1 (headerBytes h)) ⌝ }
+    ensures { λ r. ⌜ (r ≡ 15) × (now (out .exit) ≡ sets (now (out .entry)) 1 (headerBytes kind h)) ⌝ }
 {
-    out[1] = 1;
+    out[1] = kind;
     let to = h.to;
     let at = put_id(out, 2, to.0);
     let user = h.user;
@@ -110,11 +112,11 @@ fn put_header(out: &mut [u8], h: Header) -> usize
     end + 1
 }
 
-fn put_message(out: &mut [u8], h: Header, ids: &[u64], payload: &[u8]) -> usize
+fn put_message(out: &mut [u8], kind: u8, h: Header, ids: &[u64], payload: &[u8]) -> usize
     requires { ⌜ 591 ≤ length (now out) ⌝ }
-    ensures { λ r. ⌜ (r ≡ 1 + length (messageBytes h (now (ids .entry)) (now (payload .entry)))) × (now (out .exit) ≡ sets (now (out .entry)) 1 (messageBytes h (now (ids .entry)) (now (payload .entry)))) ⌝ }
+    ensures { λ r. ⌜ (r ≡ 1 + length (messageBytes kind h (now (ids .entry)) (now (payload .entry)))) × (now (out .exit) ≡ sets (now (out .entry)) 1 (messageBytes kind h (now (ids .entry)) (now (payload .entry)))) ⌝ }
 {
-    let at = put_header(out, h);
+    let at = put_header(out, kind, h);
     let n = copies::least(ids.len(), MOST_IDS);
     let end = put_ids(out, at, &ids[..n]);
     let m = copies::least(payload.len(), MOST_BYTES);
@@ -135,9 +137,10 @@ fn put_received(out: &mut [u8], r: Received, ids: &[u64], payload: &[u8]) -> usi
     ensures { λ n. ⌜ (n ≡ 1 + length (receivedBytes r (now (ids .entry)) (now (payload .entry)))) × (now (out .exit) ≡ sets (now (out .entry)) 1 (receivedBytes r (now (ids .entry)) (now (payload .entry)))) ⌝ }
 {
     match r {
-        Received::Message(h) => put_message(out, h, ids, payload),
+        Received::Message(h) => put_message(out, 1, h, ids, payload),
         Received::Destroyed(id) => put_notice(out, 2, id),
         Received::Released(id) => put_notice(out, 3, id),
+        Received::Seed(h) => put_message(out, 4, h, ids, payload),
     }
 }
 
@@ -216,6 +219,26 @@ pub fn write_received(out: &mut [u8], r: Received) -> Outcome
     }
     out[0] = 0;
     let len = put_bare(out, r);
+    Outcome { number: 0, len }
+}
+
+// Writes a seed with its IDs and its payload. Apart from `write_answer`, so that this one has one caller, a message's, and
+// is compiled into it.
+pub fn write_seed(out: &mut [u8], h: Header, ids: &[u64], payload: &[u8]) -> Outcome
+    ensures { λ o.
+        let a = answer.Received (received.Seed h) in
+        let is = now (ids .entry) in
+        let bytes = now (payload .entry) in
+        ⌜ (o ≡ outcomeOf a is bytes (now (out .entry))) × (now (out .exit) ≡ answerAfter a is bytes (now (out .entry))) ⌝ }
+{
+    if out.len() < ANSWER_SIZE {
+        return Outcome {
+            number: EINVAL,
+            len: 0,
+        };
+    }
+    out[0] = 0;
+    let len = put_received(out, Received::Seed(h), ids, payload);
     Outcome { number: 0, len }
 }
 

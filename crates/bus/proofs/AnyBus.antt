@@ -8,23 +8,23 @@ use lib.ListN.{length, take}
 use contract.Lifetimes
 use Rattle.answers.specs.Answer.{answerSize}
 use Rattle.view.specs.View.{Bus}
-use Rattle.bus.specs.Command.{Done, commandOf}
-use Rattle.bus.specs.Ran.{Exchange, answerIn, exchangeOf}
-use Rattle.bus.specs.Apart.{any-buffer}
-use Rattle.bus.specs.Ranges.{Lengths, InRange, FiveUnless, code-five, fresh-five}
+use Rattle.bus_model.specs.Command.{Done, commandOf}
+use Rattle.bus_model.specs.Ran.{Exchange, answerIn, exchangeOf}
+use Rattle.bus_model.specs.Apart.{any-buffer}
+use Rattle.bus_model.specs.Ranges.{Lengths, InRange, FiveUnless, code-five, fresh-five}
 use Rattle.bus.proofs.Calls.{Arguments, Returned, Left, busIn, busOut, callIn, exchanged, FreshArguments, FreshReturned, FreshLeft, oldIn, made-said, left-is}
 use Rattle.bus.proofs.command.Reads as command-reads
 use Rattle.bus.proofs.fresh.Reads as fresh-reads
 
 -- `command`, with an answer buffer of at least 591 bytes, returns 5 exactly where a buffer lacks its length or a number is beyond its range (docs/BUFFERS.md).
-pub five-of-calls : (κs : Lifetimes.Lfts 11) (a : Arguments κs) (r : Returned κs) (s : Left κs) → command-reads.Learnt κs a r s → 591 ≤ length (callIn κs a .buffer) →
+pub five-of-calls : (κs : Lifetimes.Lfts 12) (a : Arguments κs) (r : Returned κs) (s : Left κs) → command-reads.Learnt κs a r s → 591 ≤ length (callIn κs a .buffer) →
     FiveUnless (InRange (busIn κs a)) (r .number)
 five-of-calls κs a r s l h =
     let e : r .number ≡ exchangeOf (busIn κs a) (callIn κs a) .outcome .number = ap (λ (x : Exchange). x .outcome .number) (left-is κs a r s (busIn κs a) refl l .0) in
     subst (λ (n : ℕ). FiveUnless (InRange (busIn κs a)) n) (sym e) (code-five (busIn κs a) (callIn κs a .frame) (callIn κs a .buffer) h)
 
 -- `fresh` returns 5 exactly where a buffer lacks its length.
-pub fresh-five-of-calls : (κs : Lifetimes.Lfts 9) (a : FreshArguments κs) (r : FreshReturned κs) (s : FreshLeft κs) → fresh-reads.Learnt κs a r s →
+pub fresh-five-of-calls : (κs : Lifetimes.Lfts 10) (a : FreshArguments κs) (r : FreshReturned κs) (s : FreshLeft κs) → fresh-reads.Learnt κs a r s →
     FiveUnless (Lengths (oldIn κs a)) r
 fresh-five-of-calls κs a r s l = subst (λ (n : ℕ). FiveUnless (Lengths (oldIn κs a)) n) (sym (made-said κs a r s l .0)) (fresh-five (oldIn κs a))
 
@@ -35,8 +35,8 @@ pub record SameAnswer (x y : Exchange) (b d : Bus) : Type 0 where
   pub bus : b ≡ d
   pub answer : answerIn x ≡ answerIn y
 
-pub any-buffer-of-calls : (κs : Lifetimes.Lfts 11) (a : Arguments κs) (r : Returned κs) (s : Left κs) → command-reads.Learnt κs a r s →
-    (κs′ : Lifetimes.Lfts 11) (a′ : Arguments κs′) (r′ : Returned κs′) (s′ : Left κs′) → command-reads.Learnt κs′ a′ r′ s′ →
+pub any-buffer-of-calls : (κs : Lifetimes.Lfts 12) (a : Arguments κs) (r : Returned κs) (s : Left κs) → command-reads.Learnt κs a r s →
+    (κs′ : Lifetimes.Lfts 12) (a′ : Arguments κs′) (r′ : Returned κs′) (s′ : Left κs′) → command-reads.Learnt κs′ a′ r′ s′ →
     busIn κs a ≡ busIn κs′ a′ → callIn κs a .frame ≡ callIn κs′ a′ .frame →
     answerSize ≤ length (callIn κs a .buffer) → answerSize ≤ length (callIn κs′ a′ .buffer) →
     SameAnswer (exchanged κs a r s) (exchanged κs′ a′ r′ s′) (busOut κs s) (busOut κs′ s′)

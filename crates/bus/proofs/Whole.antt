@@ -1,6 +1,6 @@
 -- What document 01 promises, of runs of calls of the code (Calls): of each call nothing is known but what the function's own contract ensures.
 -- Assumes nothing.
-use Prim.Native.Nat.{ℕ, suc, _%_, _≤_, _<_}
+use Prim.Native.Nat.{ℕ, suc, _-_, _^_, _%_, _≤_, _<_}
 use mathlib.Core.Path.{_≡_, refl, sym, ap, subst, _∙_}
 use mathlib.Core.Bool.{true, false}
 use mathlib.Core.Logic.{_⊎_}
@@ -12,17 +12,20 @@ use borrow.Fn.World
 use borrow.Fn.Kinds as Kinds′
 use denote.Triple.Clauses
 use Rattle.laws.specs.Weights.{All, all-imp}
-use Rattle.ids.specs.Refusals.{EIO, EINVAL}
-use Rattle.frames.specs.Frame.{opcode}
+use Rattle.ids.specs.Refusals.{EIO, EINVAL, EAGAIN}
+use Rattle.ids.specs.declared.Peer.{Peer}
+use Rattle.frames.specs.declared.Command.the-variants.{ShowSeed}
+use Rattle.frames.specs.declared.Parsed.the-variants.{Read}
+use Rattle.frames.specs.Frame.{opcode, parse}
 use Rattle.answers.specs.declared.Outcome.{Outcome}
 use Rattle.answers.specs.Answer.{answerSize}
 use Rattle.quota.specs.Rule.{left}
-use Rattle.model.specs.State.{isLive, slot}
+use Rattle.model.specs.State.{isLive, slot, Status.opened}
 use Rattle.model.specs.Step.{Call}
 use Rattle.model.specs.Notices.{Unnamed}
-use Rattle.model.specs.Book.{Node, Fed, answersMessage}
+use Rattle.model.specs.Book.{Node, Fed, answersMessage, actingPeer}
 use Rattle.model.specs.Ledger.{Item}
-use Rattle.model.specs.Rows.{bookOf, ledgerOf}
+use Rattle.model.specs.Rows.{bookOf, ledgerOf, standsIn}
 use Rattle.model.specs.Tally.{tally}
 use Rattle.model.specs.Happened.{Happened, happened-front}
 use Rattle.model.specs.Delivered.{Delivered}
@@ -32,6 +35,9 @@ use Rattle.model.specs.Shows.{Shows, Takes, ShownAsHeld, CreatedAnew}
 use Rattle.model.specs.ShowsOnce.{given-for-one}
 use Rattle.model.specs.ShowsAnew.{chosen-for-another}
 use Rattle.model.specs.ShowsHeld.{messages-as-held}
+use Rattle.model.specs.Seeds.{LastSeed, SeedShown}
+use Rattle.model.specs.SeedsLast.{none-gives-eleven}
+use Rattle.model.specs.SeedsProof.{shows-last-seed}
 use Rattle.model.specs.Given.{GivenOnce}
 use Rattle.model.specs.GivenIn.{givenIn, given-in}
 use Rattle.model.specs.HandlesIn.{HandlesOf, OrderedIn, handles-in, order-in}
@@ -49,20 +55,20 @@ use Rattle.tables.proofs.seek as seek
 use Rattle.tables.proofs.seek.Kinds as seek-kinds
 use Rattle.tables.proofs.seek.Reads as seek-reads
 use Rattle.view.specs.View.{Bus, stateOf}
-use Rattle.bus.specs.Command.{commandOf, freshOf}
-use Rattle.bus.specs.Ran.{Exchange, answerIn, exchangeOf, stateAfter}
-use Rattle.bus.specs.Demands.{never-five, code-refusals}
-use Rattle.bus.specs.Searched.{Search, every-search}
-use Rattle.bus.specs.Marked.{Large, Holds, code-marks, code-examples, Made, fresh-made-as}
-use Rattle.bus.specs.Untouched.{Written, code-tail, code-questions}
-use Rattle.bus.specs.Histories.{historyOf, ran-happened, code-slot-stays}
-use Rattle.bus.specs.Third.{Next, Demanded, code-demanded, code-next}
+use Rattle.bus_model.specs.Command.{commandOf, freshOf}
+use Rattle.bus_model.specs.Ran.{Exchange, answerIn, exchangeOf, stateAfter}
+use Rattle.bus_model.specs.Demands.{never-five, code-refusals}
+use Rattle.bus_model.specs.Searched.{Search, every-search}
+use Rattle.bus_model.specs.Marked.{Large, Holds, code-marks, code-examples, Made, fresh-made-as}
+use Rattle.bus_model.specs.Untouched.{Written, code-tail, code-questions}
+use Rattle.bus_model.specs.Histories.{historyOf, ran-happened, code-slot-stays}
+use Rattle.bus_model.specs.Third.{Next, Demanded, code-demanded, code-next}
 use Rattle.bus.proofs.Calls.{Arguments, Returned, Left, busIn, busOut, callIn, exchanged, FreshArguments, FreshReturned, FreshLeft, oldIn, madeOut, made-said, Calls, left-is, calls-ran}
 use Rattle.bus.proofs.command.Reads as command-reads
 use Rattle.bus.proofs.fresh.Reads as fresh-reads
 
 -- A call of `fresh`, over any buffers: the number is 0 exactly where every buffer has its length, and then the bus is a fresh one; otherwise it is 5, and nothing is written.
-pub fresh-number-of-calls : (κs : Lifetimes.Lfts 9) (a : FreshArguments κs) (r : FreshReturned κs) (s : FreshLeft κs) → fresh-reads.Learnt κs a r s →
+pub fresh-number-of-calls : (κs : Lifetimes.Lfts 10) (a : FreshArguments κs) (r : FreshReturned κs) (s : FreshLeft κs) → fresh-reads.Learnt κs a r s →
     Made (oldIn κs a) r (madeOut κs s)
 fresh-number-of-calls κs a r s l =
     let m = made-said κs a r s l in
@@ -120,6 +126,17 @@ module _ (hs : List Exchange) (b : Bus) (t : Calls hs b) where
       length ahead < receivesIn p ys → LostAt xs ys p ahead e ⊎ CameOut (LostIn xs ys p) ahead e (takenIn xs ys p)
   in-time-of-calls xs ys e = in-time-at xs ys (cut-at (xs ++ ys) e)
 
+  -- Document 02, No. 1: an accepted 0c shows the last accepted 07 with nd 0 of its peer, sizes and payload to the byte, and of each attached ID the node that it named then.
+  pub shows-last-seed-of-calls : (xs ys : List Fed) (x : Fed) → historyOf hs ≡ xs ++ (x ∷ ys) → x .number ≡ 0 → opcode (x .frame) ≡ 12 →
+      LastSeed xs (actingPeer (x .frame)) × ((s : LastSeed xs (actingPeer (x .frame))) → SeedShown xs x (actingPeer (x .frame)) s)
+  shows-last-seed-of-calls xs ys x e = shows-last-seed xs ys x (cut-at (xs ++ (x ∷ ys)) e)
+
+  -- 0c is 11 exactly where there is no such 07 and no row before it in the order applies.
+  pub none-gives-eleven-of-calls : (xs ys : List Fed) (x : Fed) → historyOf hs ≡ xs ++ (x ∷ ys) → (p : Peer) (room : ℕ) → parse (x .frame) ≡ Read (ShowSeed p room) →
+      (x .number ≡ EAGAIN → LastSeed xs (p .0) → ⊥)
+      × ((LastSeed xs (p .0) → ⊥) → (x .number ≡ EINVAL → ⊥) → tally xs < 2 ^ 40 - 1 → standsIn xs (p .0) ≡ opened → x .number ≡ EAGAIN)
+  none-gives-eleven-of-calls xs ys x e = none-gives-eleven xs ys x (cut-at (xs ++ (x ∷ ys)) e)
+
   -- What one command does to every queue: a destroy's and a release's notices, a send's messages, a disconnect's notices, those and no others.
   module _ (xs ys : List Fed) (x : Fed) (e : historyOf hs ≡ (xs ++ (x ∷ [])) ++ ys) (p : ℕ) where
     cut-here : Happened (xs ++ (x ∷ []))
@@ -161,7 +178,7 @@ pub record LeftAlone (b after : Bus) (c : Call) (o : Outcome) (out : List ℕ) :
   pub short : length (c .buffer) < answerSize → (o ≡ record { number = EINVAL; len = 0 }) × (out ≡ c .buffer)
   pub byte : answerSize ≤ length (c .buffer) → (o .len ≡ 1) × (out ≡ o .number ∷ drop 1 (c .buffer))
 
-pub refusals-of-calls : (κs : Lifetimes.Lfts 11) (a : Arguments κs) (r : Returned κs) (s : Left κs) → command-reads.Learnt κs a r s → (r .number ≡ 0 → ⊥) →
+pub refusals-of-calls : (κs : Lifetimes.Lfts 12) (a : Arguments κs) (r : Returned κs) (s : Left κs) → command-reads.Learnt κs a r s → (r .number ≡ 0 → ⊥) →
     LeftAlone (busIn κs a) (busOut κs s) (callIn κs a) r (exchanged κs a r s .after)
 refusals-of-calls κs a r s l h =
     let b = busIn κs a in
@@ -192,7 +209,7 @@ examples-of-calls = all-imp Holds HoldsOfCalls held-row examples code-examples
 -- The third demand, whole: of any list of calls, of the book that is fed them, and of every next call.
 pub record DemandThree (xs : List Exchange) (b : Bus) : Type 0 where
   pub run : Demanded xs b
-  pub next : (κs : Lifetimes.Lfts 11) (a : Arguments κs) (r : Returned κs) (s : Left κs) → busIn κs a ≡ b → command-reads.Learnt κs a r s →
+  pub next : (κs : Lifetimes.Lfts 12) (a : Arguments κs) (r : Returned κs) (s : Left κs) → busIn κs a ≡ b → command-reads.Learnt κs a r s →
       Next xs (exchanged κs a r s)
 
 pub demand-three-of-calls : (xs : List Exchange) (b : Bus) → Calls xs b → DemandThree xs b
@@ -203,13 +220,13 @@ demand-three-of-calls xs b t =
     }
 
 -- "Reusing a dead node's record while a queued message names it": a slot stays with its node while anything names it.
-module _ (xs : List Exchange) (b : Bus) (t : Calls xs b) (κs : Lifetimes.Lfts 11) (a : Arguments κs) (r : Returned κs) (s : Left κs) (e : busIn κs a ≡ b)
+module _ (xs : List Exchange) (b : Bus) (t : Calls xs b) (κs : Lifetimes.Lfts 12) (a : Arguments κs) (r : Returned κs) (s : Left κs) (e : busIn κs a ≡ b)
     (l : command-reads.Learnt κs a r s) where
   pub slot-stays-of-calls : (n : ℕ) → isLive (stateOf b .life n) ≡ false → isLive (stateOf (busOut κs s) .life n) ≡ true → Unnamed (stateOf b) n
   slot-stays-of-calls n d h = code-slot-stays xs b (calls-ran t) (callIn κs a) n d (subst (λ (w : Bus). isLive (stateOf w .life n) ≡ true) (left-is κs a r s b e l .1) h)
 
 -- What a call leaves alone, on any bus: the answer buffer behind the answer's length; and, for a question, every byte of the bus.
-module _ (κs : Lifetimes.Lfts 11) (a : Arguments κs) (r : Returned κs) (s : Left κs) (l : command-reads.Learnt κs a r s) where
+module _ (κs : Lifetimes.Lfts 12) (a : Arguments κs) (r : Returned κs) (s : Left κs) (l : command-reads.Learnt κs a r s) where
   pub tail-of-calls : Written (callIn κs a .buffer) (r .number) (r .len) (exchanged κs a r s .after)
   tail-of-calls =
       subst (λ (x : Exchange). Written (callIn κs a .buffer) (x .outcome .number) (x .outcome .len) (x .after)) (sym (left-is κs a r s (busIn κs a) refl l .0))

@@ -1,4 +1,4 @@
-// The bus: a fresh one, and one command in, one answer out, over nine lent tables and an answer buffer.
+// The bus: a fresh one, and one command in, one answer out, over ten lent tables and an answer buffer.
 ghost use mathlib.Core.Path.{_≡_};
 ghost use Prim.Native.Nat.{_<_, _≤_};
 ghost use lib.ListN.{length, replicate};
@@ -9,10 +9,7 @@ ghost use Rattle.queues.specs.Queues.{Short};
 ghost use Rattle.judges.specs.Orders.{sight, rulingOf};
 ghost use Rattle.rings.specs.Rings.{ringsOf};
 ghost use Rattle.ids.specs.Sizes.{peers as peerCount, peersSize, endsSize};
-ghost use Rattle.tables.specs.Handles.{handlesSize};
-ghost use Rattle.tables.specs.Charges.{chargesSize};
-ghost use Rattle.bus.specs.Command.{sizedOk, peerOk, rangesOk, soundOk, doneOf, replyTo, altered, changedOf, changed, carriedOut, commandOf, freshOf, freshNumber, Fair};
-use answers::Answer;
+ghost use Rattle.bus_model.specs.Command.{sizedOk, peerOk, rangesOk, soundOk, doneOf, carriedOut, commandOf, freshOf, freshNumber};
 use answers::Outcome;
 use frames::Command;
 use frames::Parsed;
@@ -34,8 +31,7 @@ use ids::PEERS;
 use ids::PEERS_SIZE;
 use ids::POOL_SIZE;
 use ids::RING;
-use judges::Order;
-use judges::Ruling;
+use ids::SEEDS_SIZE;
 
 // The rows of a ring as a number of the table of heads and lengths.
 const RING_ROWS: u16 = RING as u16;
@@ -51,8 +47,9 @@ fn sized(
     carried: &[u8],
     numbers: &[u64],
     pool: &[u8],
+    seeds: &[u8],
 ) -> bool
-    ensures { λ r. ⌜ r ≡ sizedOk (busOf (now (peers .entry)) (now (nodes .entry)) (now (handles .entry)) (now (charges .entry)) (now (ends .entry)) (now (entries .entry)) (now (carried .entry)) (now (numbers .entry)) (now (pool .entry))) ⌝ }
+    ensures { λ r. ⌜ r ≡ sizedOk (busOf (now (peers .entry)) (now (nodes .entry)) (now (handles .entry)) (now (charges .entry)) (now (ends .entry)) (now (entries .entry)) (now (carried .entry)) (now (numbers .entry)) (now (pool .entry)) (now (seeds .entry))) ⌝ }
 {
     if peers.len() != PEERS_SIZE {
         return false;
@@ -78,7 +75,10 @@ fn sized(
     if numbers.len() != NUMBERS_SIZE {
         return false;
     }
-    pool.len() == POOL_SIZE
+    if pool.len() != POOL_SIZE {
+        return false;
+    }
+    seeds.len() == SEEDS_SIZE
 }
 
 // Are the numbers of a peer in their ranges?
@@ -128,8 +128,9 @@ pub fn is_sound(
     carried: &[u8],
     numbers: &[u64],
     pool: &[u8],
+    seeds: &[u8],
 ) -> bool
-    ensures { λ r. ⌜ r ≡ soundOk (busOf (now (peers .entry)) (now (nodes .entry)) (now (handles .entry)) (now (charges .entry)) (now (ends .entry)) (now (entries .entry)) (now (carried .entry)) (now (numbers .entry)) (now (pool .entry))) ⌝ }
+    ensures { λ r. ⌜ r ≡ soundOk (busOf (now (peers .entry)) (now (nodes .entry)) (now (handles .entry)) (now (charges .entry)) (now (ends .entry)) (now (entries .entry)) (now (carried .entry)) (now (numbers .entry)) (now (pool .entry)) (now (seeds .entry))) ⌝ }
 {
     if !sized(
         peers,
@@ -141,6 +142,7 @@ pub fn is_sound(
         carried,
         numbers,
         pool,
+        seeds,
     ) {
         return false;
     }
@@ -149,129 +151,6 @@ pub fn is_sound(
 
 // From here to `obey` the tables peers, nodes, handles and charges are ps, ns, hs and cs, and the frame is f, as in the
 // specs.
-
-// The answer to a refusal or a question; to any other order that shows neither an ID nor a message it is 00 alone.
-fn reply(hs: &[u64], cs: &[u16], order: Order) -> Answer
-    requires { ⌜ (length (now hs) ≡ handlesSize) × (length (now cs) ≡ chargesSize) × Fair order ⌝ }
-    ensures { λ a. ⌜ a ≡ replyTo (now (hs .entry)) (now (cs .entry)) order ⌝ }
-{
-    match order {
-        Order::Refuse(n) => Answer::Refused(n),
-        Order::Quota(p, u) => {
-            let c = tables::load(cs, p);
-            Answer::Quota(c.balance(u))
-        }
-        Order::Holders(s) => Answer::Holders(tables::holders(hs, s)),
-        _ => Answer::Done,
-    }
-}
-
-// The change by an open, disconnect, create, destroy or release. A refusal and a question change nothing.
-fn alter(
-    ps: &mut [u64],
-    ns: &mut [u64],
-    hs: &mut [u64],
-    cs: &mut [u16],
-    ends: &mut [u16],
-    entries: &mut [u16],
-    carried: &mut [u8],
-    numbers: &mut [u64],
-    pool: &mut [u8],
-    order: Order,
-)
-    requires { ⌜ Shape (busOf (now ps) (now ns) (now hs) (now cs) (now ends) (now entries) (now carried) (now numbers) (now pool)) × Fair order ⌝ }
-    ensures { λ _. ⌜ busOf (now (ps .exit)) (now (ns .exit)) (now (hs .exit)) (now (cs .exit)) (now (ends .exit)) (now (entries .exit)) (now (carried .exit)) (now (numbers .exit)) (now (pool .exit)) ≡ altered (busOf (now (ps .entry)) (now (ns .entry)) (now (hs .entry)) (now (cs .entry)) (now (ends .entry)) (now (entries .entry)) (now (carried .entry)) (now (numbers .entry)) (now (pool .entry))) order ⌝ }
-{
-    match order {
-        Order::Open(p, u) => effects::open_peer(ps, p, u),
-        Order::Disconnect(p) => {
-            effects::disconnect(ps, ns, hs, cs, ends, entries, carried, numbers, p)
-        }
-        Order::Create(p, i, s) => effects::create(ps, ns, hs, p, i, s),
-        Order::Destroy(p, s) => {
-            effects::destroy(ps, ns, hs, ends, entries, carried, numbers, p, s)
-        }
-        Order::Release(p, s) => {
-            effects::release(ps, ns, hs, cs, ends, entries, carried, numbers, pool, p, s)
-        }
-        _ => {}
-    }
-}
-
-// An order carried out, other than a receive, which writes its answer itself. The answer comes back.
-fn change(
-    ps: &mut [u64],
-    ns: &mut [u64],
-    hs: &mut [u64],
-    cs: &mut [u16],
-    ends: &mut [u16],
-    entries: &mut [u16],
-    carried: &mut [u8],
-    numbers: &mut [u64],
-    pool: &mut [u8],
-    f: &[u8],
-    r: Ruling,
-) -> Answer
-    requires { ⌜ Shape (busOf (now ps) (now ns) (now hs) (now cs) (now ends) (now entries) (now carried) (now numbers) (now pool)) × Fair (r .order) ⌝ }
-    ensures { λ a. ⌜ changedOf a (busOf (now (ps .exit)) (now (ns .exit)) (now (hs .exit)) (now (cs .exit)) (now (ends .exit)) (now (entries .exit)) (now (carried .exit)) (now (numbers .exit)) (now (pool .exit))) ≡ changed (busOf (now (ps .entry)) (now (ns .entry)) (now (hs .entry)) (now (cs .entry)) (now (ends .entry)) (now (entries .entry)) (now (carried .entry)) (now (numbers .entry)) (now (pool .entry))) (now (f .entry)) (r .order) (r .places) ⌝ }
-{
-    let order = r.order;
-    match order {
-        Order::Transfer(q, s) => {
-            let id = effects::transfer(ps, ns, hs, ends, entries, carried, numbers, q, s);
-            Answer::Transferred(id)
-        }
-        Order::Send(p, z) => {
-            let w = r.places;
-            let data = frames::payload(f);
-            effects::send(ps, cs, ends, entries, carried, numbers, pool, p, z, w, data);
-            Answer::Done
-        }
-        _ => {
-            let a = reply(hs, cs, order);
-            alter(ps, ns, hs, cs, ends, entries, carried, numbers, pool, order);
-            a
-        }
-    }
-}
-
-// An order carried out; it cannot fail.
-pub fn carry_out(
-    ps: &mut [u64],
-    ns: &mut [u64],
-    hs: &mut [u64],
-    cs: &mut [u16],
-    ends: &mut [u16],
-    entries: &mut [u16],
-    carried: &mut [u8],
-    numbers: &mut [u64],
-    pool: &mut [u8],
-    f: &[u8],
-    r: Ruling,
-    out: &mut [u8],
-) -> Outcome
-    requires { ⌜ Shape (busOf (now ps) (now ns) (now hs) (now cs) (now ends) (now entries) (now carried) (now numbers) (now pool)) × Short (now ends) × Fair (r .order) ⌝ }
-    ensures { λ o. ⌜ doneOf o (busOf (now (ps .exit)) (now (ns .exit)) (now (hs .exit)) (now (cs .exit)) (now (ends .exit)) (now (entries .exit)) (now (carried .exit)) (now (numbers .exit)) (now (pool .exit))) (now (out .exit)) ≡ carriedOut (busOf (now (ps .entry)) (now (ns .entry)) (now (hs .entry)) (now (cs .entry)) (now (ends .entry)) (now (entries .entry)) (now (carried .entry)) (now (numbers .entry)) (now (pool .entry))) (now (f .entry)) (now (out .entry)) r ⌝ }
-{
-    let order = r.order;
-    let Order::Receive(p) = order else {
-        let a = change(ps, ns, hs, cs, ends, entries, carried, numbers, pool, f, r);
-        return answers::write_plain(out, a);
-    };
-    effects::receive(
-        ps,
-        ns,
-        hs,
-        cs,
-        ends,
-        entries,
-        carried,
-        numbers,
-        pool,
-        p,
-        out,
-    )
-}
 
 // A command judged and carried out.
 fn execute(
@@ -284,15 +163,16 @@ fn execute(
     carried: &mut [u8],
     numbers: &mut [u64],
     pool: &mut [u8],
+    seeds: &mut [u8],
     f: &[u8],
     c: Command,
     out: &mut [u8],
 ) -> Outcome
-    requires { ⌜ Shape (busOf (now ps) (now ns) (now hs) (now cs) (now ends) (now entries) (now carried) (now numbers) (now pool)) × Short (now ends) × Legal (now f) c ⌝ }
-    ensures { λ o. ⌜ doneOf o (busOf (now (ps .exit)) (now (ns .exit)) (now (hs .exit)) (now (cs .exit)) (now (ends .exit)) (now (entries .exit)) (now (carried .exit)) (now (numbers .exit)) (now (pool .exit))) (now (out .exit)) ≡ carriedOut (busOf (now (ps .entry)) (now (ns .entry)) (now (hs .entry)) (now (cs .entry)) (now (ends .entry)) (now (entries .entry)) (now (carried .entry)) (now (numbers .entry)) (now (pool .entry))) (now (f .entry)) (now (out .entry)) (rulingOf (sight (now (ps .entry)) (now (ns .entry)) (now (hs .entry)) (now (cs .entry)) (ringsOf (now (ends .entry)) (now (entries .entry)) (now (carried .entry)) (now (numbers .entry)))) (now (f .entry)) c) ⌝ }
+    requires { ⌜ Shape (busOf (now ps) (now ns) (now hs) (now cs) (now ends) (now entries) (now carried) (now numbers) (now pool) (now seeds)) × Short (now ends) × Legal (now f) c ⌝ }
+    ensures { λ o. ⌜ doneOf o (busOf (now (ps .exit)) (now (ns .exit)) (now (hs .exit)) (now (cs .exit)) (now (ends .exit)) (now (entries .exit)) (now (carried .exit)) (now (numbers .exit)) (now (pool .exit)) (now (seeds .exit))) (now (out .exit)) ≡ carriedOut (busOf (now (ps .entry)) (now (ns .entry)) (now (hs .entry)) (now (cs .entry)) (now (ends .entry)) (now (entries .entry)) (now (carried .entry)) (now (numbers .entry)) (now (pool .entry)) (now (seeds .entry))) (now (f .entry)) (now (out .entry)) (rulingOf (sight (now (ps .entry)) (now (ns .entry)) (now (hs .entry)) (now (cs .entry)) (ringsOf (now (ends .entry)) (now (entries .entry)) (now (carried .entry)) (now (numbers .entry))) (now (seeds .entry))) (now (f .entry)) c) ⌝ }
 {
-    let r = judges::judge(ps, ns, hs, cs, ends, entries, carried, numbers, f, c);
-    carry_out(
+    let r = judges::judge(ps, ns, hs, cs, ends, entries, carried, numbers, seeds, f, c);
+    execution::carry_out(
         ps,
         ns,
         hs,
@@ -302,6 +182,7 @@ fn execute(
         carried,
         numbers,
         pool,
+        seeds,
         f,
         r,
         out,
@@ -319,13 +200,14 @@ fn obey(
     carried: &mut [u8],
     numbers: &mut [u64],
     pool: &mut [u8],
+    seeds: &mut [u8],
     f: &[u8],
     out: &mut [u8],
 ) -> Outcome
     requires { ⌜ answerSize ≤ length (now out) ⌝ }
-    ensures { λ o. ⌜ doneOf o (busOf (now (ps .exit)) (now (ns .exit)) (now (hs .exit)) (now (cs .exit)) (now (ends .exit)) (now (entries .exit)) (now (carried .exit)) (now (numbers .exit)) (now (pool .exit))) (now (out .exit)) ≡ commandOf (busOf (now (ps .entry)) (now (ns .entry)) (now (hs .entry)) (now (cs .entry)) (now (ends .entry)) (now (entries .entry)) (now (carried .entry)) (now (numbers .entry)) (now (pool .entry))) (now (f .entry)) (now (out .entry)) ⌝ }
+    ensures { λ o. ⌜ doneOf o (busOf (now (ps .exit)) (now (ns .exit)) (now (hs .exit)) (now (cs .exit)) (now (ends .exit)) (now (entries .exit)) (now (carried .exit)) (now (numbers .exit)) (now (pool .exit)) (now (seeds .exit))) (now (out .exit)) ≡ commandOf (busOf (now (ps .entry)) (now (ns .entry)) (now (hs .entry)) (now (cs .entry)) (now (ends .entry)) (now (entries .entry)) (now (carried .entry)) (now (numbers .entry)) (now (pool .entry)) (now (seeds .entry))) (now (f .entry)) (now (out .entry)) ⌝ }
 {
-    if !is_sound(ps, ns, hs, cs, ends, entries, carried, numbers, pool) {
+    if !is_sound(ps, ns, hs, cs, ends, entries, carried, numbers, pool, seeds) {
         return answers::write_refusal(out, EIO);
     }
     match frames::parse(f) {
@@ -340,6 +222,7 @@ fn obey(
             carried,
             numbers,
             pool,
+            seeds,
             f,
             c,
             out,
@@ -359,10 +242,11 @@ pub fn command(
     carried: &mut [u8],
     numbers: &mut [u64],
     pool: &mut [u8],
+    seeds: &mut [u8],
     frame: &[u8],
     out: &mut [u8],
 ) -> Outcome
-    ensures { λ o. ⌜ doneOf o (busOf (now (peers .exit)) (now (nodes .exit)) (now (handles .exit)) (now (charges .exit)) (now (ends .exit)) (now (entries .exit)) (now (carried .exit)) (now (numbers .exit)) (now (pool .exit))) (now (out .exit)) ≡ commandOf (busOf (now (peers .entry)) (now (nodes .entry)) (now (handles .entry)) (now (charges .entry)) (now (ends .entry)) (now (entries .entry)) (now (carried .entry)) (now (numbers .entry)) (now (pool .entry))) (now (frame .entry)) (now (out .entry)) ⌝ }
+    ensures { λ o. ⌜ doneOf o (busOf (now (peers .exit)) (now (nodes .exit)) (now (handles .exit)) (now (charges .exit)) (now (ends .exit)) (now (entries .exit)) (now (carried .exit)) (now (numbers .exit)) (now (pool .exit)) (now (seeds .exit))) (now (out .exit)) ≡ commandOf (busOf (now (peers .entry)) (now (nodes .entry)) (now (handles .entry)) (now (charges .entry)) (now (ends .entry)) (now (entries .entry)) (now (carried .entry)) (now (numbers .entry)) (now (pool .entry)) (now (seeds .entry))) (now (frame .entry)) (now (out .entry)) ⌝ }
 {
     if out.len() < ANSWER_SIZE {
         return Outcome {
@@ -380,6 +264,7 @@ pub fn command(
         carried,
         numbers,
         pool,
+        seeds,
         frame,
         out,
     )
@@ -426,8 +311,9 @@ pub fn fresh(
     carried: &mut [u8],
     numbers: &mut [u64],
     pool: &mut [u8],
+    seeds: &mut [u8],
 ) -> u8
-    ensures { λ r. ⌜ (r ≡ freshNumber (busOf (now (peers .entry)) (now (nodes .entry)) (now (handles .entry)) (now (charges .entry)) (now (ends .entry)) (now (entries .entry)) (now (carried .entry)) (now (numbers .entry)) (now (pool .entry)))) × (busOf (now (peers .exit)) (now (nodes .exit)) (now (handles .exit)) (now (charges .exit)) (now (ends .exit)) (now (entries .exit)) (now (carried .exit)) (now (numbers .exit)) (now (pool .exit)) ≡ freshOf (busOf (now (peers .entry)) (now (nodes .entry)) (now (handles .entry)) (now (charges .entry)) (now (ends .entry)) (now (entries .entry)) (now (carried .entry)) (now (numbers .entry)) (now (pool .entry)))) ⌝ }
+    ensures { λ r. ⌜ (r ≡ freshNumber (busOf (now (peers .entry)) (now (nodes .entry)) (now (handles .entry)) (now (charges .entry)) (now (ends .entry)) (now (entries .entry)) (now (carried .entry)) (now (numbers .entry)) (now (pool .entry)) (now (seeds .entry)))) × (busOf (now (peers .exit)) (now (nodes .exit)) (now (handles .exit)) (now (charges .exit)) (now (ends .exit)) (now (entries .exit)) (now (carried .exit)) (now (numbers .exit)) (now (pool .exit)) (now (seeds .exit)) ≡ freshOf (busOf (now (peers .entry)) (now (nodes .entry)) (now (handles .entry)) (now (charges .entry)) (now (ends .entry)) (now (entries .entry)) (now (carried .entry)) (now (numbers .entry)) (now (pool .entry)) (now (seeds .entry)))) ⌝ }
 {
     if !sized(
         peers,
@@ -439,6 +325,7 @@ pub fn fresh(
         carried,
         numbers,
         pool,
+        seeds,
     ) {
         return EIO;
     }
@@ -451,5 +338,6 @@ pub fn fresh(
     clear_bytes(carried);
     clear_words(numbers);
     clear_bytes(pool);
+    clear_bytes(seeds);
     0
 }

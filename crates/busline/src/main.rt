@@ -9,7 +9,7 @@ ghost use lib.ListN.{length, take, drop};
 ghost use Rattle.lines.specs.Line.{mostCarried, carriedOf};
 ghost use Rattle.view.specs.View.{busOf};
 ghost use Rattle.session.specs.Session.{longest, Chunk, Underway};
-ghost use Rattle.bus.specs.Command.{freshBus};
+ghost use Rattle.bus_model.specs.Command.{freshBus};
 use ids::CARRIED_SIZE;
 use ids::CHARGES_SIZE;
 use ids::ENDS_SIZE;
@@ -19,6 +19,7 @@ use ids::NODES_SIZE;
 use ids::NUMBERS_SIZE;
 use ids::PEERS_SIZE;
 use ids::POOL_SIZE;
+use ids::SEEDS_SIZE;
 use libc::EAGAIN;
 use libc::EINTR;
 use libc::STDERR_FILENO;
@@ -161,11 +162,12 @@ fn answer_chunk(
     carried: &mut [u8],
     numbers: &mut [u64],
     pool: &mut [u8],
+    seeds: &mut [u8],
     s: &[u8],
     text: &mut [u8],
 ) -> Sent
     requires { ⌜ longest ≤ length (now text) ⌝ }
-    ensures { λ r. ⌜ Chunk (busOf (now (peers .entry)) (now (nodes .entry)) (now (handles .entry)) (now (charges .entry)) (now (ends .entry)) (now (entries .entry)) (now (carried .entry)) (now (numbers .entry)) (now (pool .entry))) (now (s .entry)) (busOf (now (peers .exit)) (now (nodes .exit)) (now (handles .exit)) (now (charges .exit)) (now (ends .exit)) (now (entries .exit)) (now (carried .exit)) (now (numbers .exit)) (now (pool .exit))) (r .from) (r .whole) ⌝ }
+    ensures { λ r. ⌜ Chunk (busOf (now (peers .entry)) (now (nodes .entry)) (now (handles .entry)) (now (charges .entry)) (now (ends .entry)) (now (entries .entry)) (now (carried .entry)) (now (numbers .entry)) (now (pool .entry)) (now (seeds .entry))) (now (s .entry)) (busOf (now (peers .exit)) (now (nodes .exit)) (now (handles .exit)) (now (charges .exit)) (now (ends .exit)) (now (entries .exit)) (now (carried .exit)) (now (numbers .exit)) (now (pool .exit)) (now (seeds .exit))) (r .from) (r .whole) ⌝ }
 {
     let mut p = beginning();
     while p.more {
@@ -179,6 +181,7 @@ fn answer_chunk(
             carried,
             numbers,
             pool,
+            seeds,
             s,
             p.from,
             text,
@@ -267,12 +270,13 @@ fn take_turn(
     carried: &mut [u8],
     numbers: &mut [u64],
     pool: &mut [u8],
+    seeds: &mut [u8],
     buf: &mut [u8],
     held: usize,
     text: &mut [u8],
 ) -> Turn
-    requires { ⌜ (held ≤ mostCarried) × (length (now buf) ≡ 65536) × (longest ≤ length (now text)) × Underway (busOf (now peers) (now nodes) (now handles) (now charges) (now ends) (now entries) (now carried) (now numbers) (now pool)) (take held (now buf)) ⌝ }
-    ensures { λ r. ⌜ (r .held ≤ mostCarried) × (r .more ≡ true → Underway (busOf (now (peers .exit)) (now (nodes .exit)) (now (handles .exit)) (now (charges .exit)) (now (ends .exit)) (now (entries .exit)) (now (carried .exit)) (now (numbers .exit)) (now (pool .exit))) (take (r .held) (now (buf .exit)))) ⌝ }
+    requires { ⌜ (held ≤ mostCarried) × (length (now buf) ≡ 65536) × (longest ≤ length (now text)) × Underway (busOf (now peers) (now nodes) (now handles) (now charges) (now ends) (now entries) (now carried) (now numbers) (now pool) (now seeds)) (take held (now buf)) ⌝ }
+    ensures { λ r. ⌜ (r .held ≤ mostCarried) × (r .more ≡ true → Underway (busOf (now (peers .exit)) (now (nodes .exit)) (now (handles .exit)) (now (charges .exit)) (now (ends .exit)) (now (entries .exit)) (now (carried .exit)) (now (numbers .exit)) (now (pool .exit)) (now (seeds .exit))) (take (r .held) (now (buf .exit)))) ⌝ }
 {
     let got = next_chunk(buf, held);
     if got == 0 {
@@ -289,6 +293,7 @@ fn take_turn(
         carried,
         numbers,
         pool,
+        seeds,
         &buf[..end],
         text,
     );
@@ -306,10 +311,11 @@ fn run(
     carried: &mut [u8],
     numbers: &mut [u64],
     pool: &mut [u8],
+    seeds: &mut [u8],
     buf: &mut [u8],
     text: &mut [u8],
 )
-    requires { ⌜ (length (now buf) ≡ 65536) × (longest ≤ length (now text)) × (busOf (now peers) (now nodes) (now handles) (now charges) (now ends) (now entries) (now carried) (now numbers) (now pool) ≡ freshBus) ⌝ }
+    requires { ⌜ (length (now buf) ≡ 65536) × (longest ≤ length (now text)) × (busOf (now peers) (now nodes) (now handles) (now charges) (now ends) (now entries) (now carried) (now numbers) (now pool) (now seeds) ≡ freshBus) ⌝ }
 {
     let mut held = 0;
     let mut turns = u64::MAX;
@@ -324,6 +330,7 @@ fn run(
             carried,
             numbers,
             pool,
+            seeds,
             buf,
             held,
             text,
@@ -346,6 +353,7 @@ fn main() {
     let mut carried = [0u8; CARRIED_SIZE];
     let mut numbers = [0u64; NUMBERS_SIZE];
     let mut pool = [0u8; POOL_SIZE];
+    let mut seeds = [0u8; SEEDS_SIZE];
     let mut buf = io::large_buffer();
     let mut text = io::large_buffer();
     bus::fresh(
@@ -358,6 +366,7 @@ fn main() {
         &mut carried,
         &mut numbers,
         &mut pool,
+        &mut seeds,
     );
     run(
         &mut peers,
@@ -369,6 +378,7 @@ fn main() {
         &mut carried,
         &mut numbers,
         &mut pool,
+        &mut seeds,
         &mut buf,
         &mut text,
     );

@@ -4,10 +4,11 @@ use Prim.Native.Nat.{ℕ}
 use mathlib.Core.List.{List}
 use Rattle.frames.specs.declared.Sizes.{Sizes}
 use Rattle.judges.specs.declared.Places.{Places}
-use Rattle.view.specs.View.{Bus, setPeers, setNodes, setHandles, setCharges, setRings}
+use Rattle.seeds.specs.Seeds.{dropped as unseeded}
+use Rattle.view.specs.View.{Bus, setPeers, setNodes, setHandles, setCharges, setRings, setSeeds}
 use Rattle.queues.specs.Queues.{setQueues}
 pub use Rattle.queues.specs.Queues.{queuesIn}
-use Rattle.effects.specs.Effects.{openedPeers, created, destroys, releases, transfers, sends, disconnects, received}
+use Rattle.effects.specs.Effects.{openedPeers, created, destroys, releases, transfers, sends, replaced, disconnects, received, shows}
 
 abbrev pub afterOpen : Bus → ℕ → ℕ → Bus
 afterOpen b p u = setPeers b (openedPeers (b .peers) p u)
@@ -35,7 +36,7 @@ afterTransfer b q s =
 abbrev pub afterSend : Bus → ℕ → Sizes → Places → List ℕ → Bus
 afterSend b p z w bytes =
     let x = sends (b .peers) (queuesIn b) p z w bytes in
-    setQueues (setPeers b (x .peers)) (x .queues)
+    setSeeds (setQueues (setPeers b (x .peers)) (x .queues)) (replaced (b .seeds) p z w bytes)
 
 abbrev pub afterReceive : Bus → ℕ → List ℕ → Bus
 afterReceive b p out =
@@ -45,4 +46,9 @@ afterReceive b p out =
 abbrev pub afterDisconnect : Bus → ℕ → Bus
 afterDisconnect b p =
     let x = disconnects (b .peers) (b .nodes) (b .handles) (b .charges) (b .rings) p in
-    setRings (setCharges (setHandles (setNodes (setPeers b (x .peers)) (x .nodes)) (x .handles)) (x .charges)) (x .rings)
+    setSeeds (setRings (setCharges (setHandles (setNodes (setPeers b (x .peers)) (x .nodes)) (x .handles)) (x .charges)) (x .rings)) (unseeded (b .seeds) p)
+
+abbrev pub afterShow : Bus → ℕ → List ℕ → Bus
+afterShow b p out =
+    let x = shows (b .peers) (b .nodes) (b .handles) (b .rings) (b .seeds) p out in
+    setRings (setHandles (setPeers b (x .peers)) (x .handles)) (x .rings)

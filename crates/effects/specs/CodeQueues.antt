@@ -12,7 +12,7 @@ use Rattle.ids.specs.declared.User.{User}
 use Rattle.frames.specs.declared.Sizes.{Sizes}
 use Rattle.quota.specs.declared.Charges.{Charges}
 use Rattle.answers.specs.declared.Answer.the-variants.{Received as isReceived}
-use Rattle.answers.specs.declared.Received.the-variants.{Message, Destroyed, Released}
+use Rattle.answers.specs.declared.Received.the-variants.{Message, Destroyed, Released, Seed}
 use Rattle.answers.specs.declared.Outcome.{Outcome}
 use Rattle.answers.specs.Answer.{answerAfter, outcomeOf}
 use Rattle.rings.specs.declared.Entry.{Entry}
@@ -26,9 +26,11 @@ use Rattle.judges.specs.declared.Places.{Places}
 use Rattle.notices.specs.declared.Asked.the-variants.{Living}
 use Rattle.notices.specs.Notices.{setOf, destroyedOf, destroyedSet, toldOwners}
 use Rattle.grants.specs.Grants.{givesOf, givesTo, idOrInvalid}
-use Rattle.effects.specs.Effects.{countedOf, counted, messageTo, sentTo, sendsOf, sends, disconnectsOf, disconnects, ringsAfter, messageAnswer, shownIds, shownBytes, receivedOf, receivedMessage, noticeTakenOf, noticeTaken, noticeAnswer, received}
+use Rattle.effects.specs.Effects.{countedOf, counted, messageTo, sentTo, sendsOf, sends, disconnectsOf, disconnects, ringsAfter, messageAnswer, shownIds, shownBytes, receivedOf, receivedMessage, noticeTakenOf, noticeTaken, noticeAnswer, received, replaced, seedAnswer, shownOf, shows}
 use Rattle.ids.specs.Sizes.{peers, slots, mostIds}
-use Rattle.model.specs.Numbers.{nodes}
+use Rattle.model.specs.Numbers.{nodes, invalid}
+use Rattle.seeds.specs.Seeds.{bytesAt, slotsAt, pieceAt, stored}
+use Rattle.seeds.specs.Seeds.{countAt as carriedAt}
 
 -- deliver: what the first k destinations made of the tables, whose lengths stay.
 pub record Delivering (cs es xs ks vs ts : List ℕ) (u nh : ℕ) (w : Places) (bytes : List ℕ) (n nd : ℕ) (cs′ es′ xs′ ks′ vs′ ts′ : List ℕ) (k : ℕ) : Type 0 where
@@ -63,6 +65,16 @@ pub send-done : (ps : List ℕ) (q : Queues) (p : ℕ) (z : Sizes) (w : Places) 
     {u : User} → u ≡ record { 0 = userAt ps′ p } → {q′ : Queues} → q′ ≡ sentTo q (u .0) (z .nh) w bytes n (z .nd) → sendsOf ps′ q′ ≡ sends ps q p z w bytes
 unfolding sends
 send-done ps q p z w bytes en eu eq = rw (eq, eu, ← en)
+
+-- replace_seed
+module _ (t : List ℕ) (p : ℕ) (z : Sizes) (w : Places) (bytes : List ℕ) {t′ : List ℕ} where
+  pub replace-done : z .nd ≡ 0 → t′ ≡ stored t p (z .nh) (w .carried) bytes → t′ ≡ replaced t p z w bytes
+  unfolding replaced
+  replace-done e h = rw (eq-eqb (z .nd) 0 e) h
+
+  pub replace-none : (z .nd ≡ 0 → ⊥) → t′ ≡ t → t′ ≡ replaced t p z w bytes
+  unfolding replaced
+  replace-none e h = rw (ne-eqb (z .nd) 0 e) h
 
 -- disconnect
 pub disconnect-done : (ps ns hs cs : List ℕ) (r : Rings) (p : ℕ) {n : ℕ} {ps₁ : List ℕ} → countedOf n ps₁ ≡ counted ps → {set : ℕ} → set ≡ setOf ns hs p Living →
@@ -121,3 +133,23 @@ module _ (ps ns hs : List ℕ) (q : Queues) (p : ℕ) (out : List ℕ) {ps₁ : 
       receivedOf o out′ ps₂ hs′ q′ ≡ received ps ns hs q p out
   unfolding received
   receive-message t x = rw (← ee, ← eb, t, ← en) x
+
+-- write_seed
+pub write-seed-done : (sd : List ℕ) (p u nh : ℕ) (ids out : List ℕ) {nb : ℕ} → nb ≡ bytesAt sd p → {is bs : List ℕ} → is ≡ take nh ids → bs ≡ pieceAt sd p nb →
+    {o : Outcome} {out′ : List ℕ} →
+    (o ≡ outcomeOf (isReceived (Seed (record { to = record { 0 = invalid }; user = record { 0 = u }; flag = false; nb = nb; nh = nh }))) is bs out)
+    × (out′ ≡ answerAfter (isReceived (Seed (record { to = record { 0 = invalid }; user = record { 0 = u }; flag = false; nb = nb; nh = nh }))) is bs out) →
+    (o ≡ outcomeOf (seedAnswer u (bytesAt sd p) nh) (take nh ids) (pieceAt sd p (bytesAt sd p)) out)
+    × (out′ ≡ answerAfter (seedAnswer u (bytesAt sd p) nh) (take nh ids) (pieceAt sd p (bytesAt sd p)) out)
+unfolding seedAnswer
+write-seed-done sd p u nh ids out eb ei es z = (rw (← eb, ← ei, ← es) (z .0), rw (← eb, ← ei, ← es) (z .1))
+
+-- show_seed
+pub show-done : (ps ns hs : List ℕ) (r : Rings) (sd : List ℕ) (p : ℕ) (out : List ℕ) {ps₁ : List ℕ} → ps₁ ≡ countCommand ps → {u : User} → u ≡ record { 0 = userAt ps₁ p } →
+    {ss : List ℕ} → ss ≡ slotsAt sd p → {nh : ℕ} → nh ≡ carriedAt sd p → {is ps′ hs′ : List ℕ} {r′ : Rings} → givesOf is ps′ hs′ r′ ≡ givesTo ns ps₁ hs r p ss nh →
+    {o : Outcome} {out′ : List ℕ} →
+    (o ≡ outcomeOf (seedAnswer (u .0) (bytesAt sd p) nh) (take nh is) (pieceAt sd p (bytesAt sd p)) out)
+    × (out′ ≡ answerAfter (seedAnswer (u .0) (bytesAt sd p) nh) (take nh is) (pieceAt sd p (bytesAt sd p)) out) →
+    shownOf o out′ ps′ hs′ r′ ≡ shows ps ns hs r sd p out
+unfolding shows
+show-done ps ns hs r sd p out ep eu es en eg z = rw (z .0, z .1, eu, ← ep, ← es, ← en, ← eg)

@@ -23,11 +23,12 @@ use Rattle.tables.specs.ChargesView.{chargesV, charges-length}
 use Rattle.queues.specs.Queues.{Queues, queuesIn, setQueued, emptied, emptiedCharges}
 use Rattle.queues.specs.Entering.{empty-view, empty-charges, all-discharged}
 use Rattle.model.specs.Numbers.{owner}
-use Rattle.model.specs.State.{Status, Status.unopened, Status.opened, Status.disconnected, isLive, Handle.none, held, Entry.released, messagesIn, State, byOwnerId}
-use Rattle.model.specs.Tables.{accept, withStatus, withHandles, withQueues, withCharges}
+use Rattle.model.specs.State.{Status, Status.unopened, Status.opened, Status.disconnected, isLive, Handle.none, held, Entry.released, messagesIn, Seed.unset, State, byOwnerId}
+use Rattle.model.specs.Tables.{accept, withStatus, withHandles, withQueues, withCharges, withSeed}
 use Rattle.model.specs.Changes.{dischargedAll, takeOut, pushAll, fell, releaseNotices, notifyAll, destroyAll}
 use Rattle.model.specs.Effects as model
-use Rattle.view.specs.View.{Bus, Shape, queueV, stateOf, setPeers, setHandles, setCharges, setRings, shape-peers, shape-handles, shape-charges, shape-rings}
+use Rattle.seeds.specs.SeedsView.{dropped-length}
+use Rattle.view.specs.View.{Bus, Shape, queueV, stateOf, setPeers, setNodes, setHandles, setCharges, setRings, shape-peers, shape-handles, shape-charges, shape-rings, shape-seeds}
 use Rattle.view.specs.Rows.{queue-count}
 use Rattle.notices.specs.declared.Asked.the-variants.{Living}
 use Rattle.notices.specs.Rising.{Apart}
@@ -37,6 +38,7 @@ use Rattle.effects.specs.Effects.{counted, destroys, ringsAfter, disconn
 use Rattle.effects.specs.After.{afterDestroy, afterDisconnect}
 use Rattle.effects.specs.Good.{Good}
 use Rattle.effects.specs.Counting.{counting, shape-counted, counted-view}
+use Rattle.effects.specs.Seeding.{dropped-view}
 use Rattle.ids.specs.Sizes.{peers, peersSize}
 
 -- A set of p's nodes that live, destroyed by the command that is counted.
@@ -215,12 +217,20 @@ module _ (b : Bus) (shape : Shape b) (g : Good (stateOf b)) (p : ℕ) (l : p < p
       number-is b shape g p l living lives agrees all-alive
       ∙ sym (accepted-disconnected (countCommand (b .peers)) (counted-length (b .peers) ∙ shape .peers) p l)
 
-  told-view : stateOf (afterDisconnect b p) ≡ notifyAll (stateOf (counting b)) (stateOf leftBus)
+  -- The bus with its seed as it was.
+  abbrev toldBus : Bus
+  toldBus =
+      let x = disconnects (b .peers) (b .nodes) (b .handles) (b .charges) (b .rings) p in
+      setRings (setCharges (setHandles (setNodes (setPeers b (x .peers)) (x .nodes)) (x .handles)) (x .charges)) (x .rings)
+
+  told-view : stateOf toldBus ≡ notifyAll (stateOf (counting b)) (stateOf leftBus)
   unfolding disconnects counted notifyAll pushAll withQueues releaseNotices fell
   told-view = rw (told-more .view, left-number)
 
-  pub disconnect-view : stateOf b .status p ≡ opened → stateOf (afterDisconnect b p) ≡ model.disconnects (accept (stateOf b)) p
-  disconnect-view was = counted-so ∙ ap (λ (x : State). model.disconnects x p) (counted-view b shape g)
+  pub disconnect-view : stateOf b .status p ≡ opened → stateOf (afterDisconnect b p) ≡ withSeed (model.disconnects (accept (stateOf b)) p) p unset
+  disconnect-view was =
+      dropped-view toldBus p (shape .seeds) l
+      ∙ ap (λ (x : State). withSeed x p unset) (counted-so ∙ ap (λ (x : State). model.disconnects x p) (counted-view b shape g))
     where
       present : statusV (b .peers) p ≡ unopened → ⊥
       present e = never (sym was ∙ e)
@@ -232,15 +242,17 @@ module _ (b : Bus) (shape : Shape b) (g : Good (stateOf b)) (p : ℕ) (l : p < p
           ∙ ap (λ (x : State). withStatus (withHandles x p (λ s. none)) p disconnected)
           (emptied-view ∙ ap (λ (x : State). takeOut x p (messagesIn (queueV (b .rings) (b .pool) p)) []) died-view)
 
-      counted-so : stateOf (afterDisconnect b p) ≡ model.disconnects (stateOf (counting b)) p
+      counted-so : stateOf toldBus ≡ model.disconnects (stateOf (counting b)) p
       counted-so = told-view ∙ ap (notifyAll (stateOf (counting b))) left ∙ sym (model-disconnects (stateOf (counting b)) p)
 
   pub shape-disconnect : Shape (afterDisconnect b p)
   unfolding disconnects counted emptiedCharges
   shape-disconnect =
-      shape-rings
+      shape-seeds
+      (shape-rings
       (shape-charges
       (shape-handles (shape-peers died-shape (disconnected-length (countCommand (b .peers)) p ∙ counted-length (b .peers) ∙ shape .peers))
       (handles-cleared (b .handles) p ∙ shape .handles))
       (charges-length (b .charges) p freshCharges ∙ shape .charges))
-      (told-more .ends) (told-more .sized)
+      (told-more .ends) (told-more .sized))
+      (dropped-length (b .seeds) p ∙ shape .seeds)

@@ -1,7 +1,7 @@
 -- What each order does to the tables, in the order in which the code does it. The command is counted first.
 -- Assumes nothing.
 use Prim.Native.Nat.{ℕ, zero, suc, _+_, _*_, _-_, _/_, _%_, min}
-use mathlib.Core.Bool.{Bool}
+use mathlib.Core.Bool.{Bool, false}
 use mathlib.Core.List.{List, []}
 use lib.ListN.{length, getD, take}
 use lib.Dec.{eqb}
@@ -10,7 +10,7 @@ use Rattle.ids.specs.declared.HandleId.{HandleId}
 use Rattle.frames.specs.declared.Sizes.{Sizes}
 use Rattle.answers.specs.declared.Answer.{Answer}
 use Rattle.answers.specs.declared.Answer.the-variants.{Received as isReceived}
-use Rattle.answers.specs.declared.Received.the-variants.{Message, Destroyed, Released}
+use Rattle.answers.specs.declared.Received.the-variants.{Message, Destroyed, Released, Seed}
 use Rattle.answers.specs.declared.Outcome.{Outcome}
 use Rattle.answers.specs.Answer.{answerAfter, outcomeOf}
 use Rattle.rings.specs.declared.Entry.{Entry}
@@ -27,7 +27,9 @@ use Rattle.notices.specs.declared.Asked.the-variants.{Living}
 use Rattle.notices.specs.Notices.{noticeOf, setOf, destroyedSet, toldOwners}
 use Rattle.grants.specs.Grants.{Given, givenTo, givesTo, idOrInvalid}
 use Rattle.ids.specs.Sizes.{peers, mostIds}
-use Rattle.model.specs.Numbers.{nodes}
+use Rattle.model.specs.Numbers.{nodes, invalid}
+use Rattle.seeds.specs.Seeds.{bytesAt, slotsAt, pieceAt, stored}
+use Rattle.seeds.specs.Seeds.{countAt as carriedAt}
 
 -- A command is counted: its number, and the table of peers.
 pub record Counted : Type 0 where
@@ -130,6 +132,10 @@ sendsOf ps q = record { peers = ps; queues = q }
 unfoldable pub sends : List ℕ → Queues → ℕ → Sizes → Places → List ℕ → Sends
 sends ps q p z w bytes = sendsOf (counted ps .peers) (sentTo q (userAt (counted ps .peers) p) (z .nh) w bytes (counted ps .number) (z .nd))
 
+-- A send with no destinations replaces the peer's own seed; another leaves it.
+unfoldable pub replaced : List ℕ → ℕ → Sizes → Places → List ℕ → List ℕ
+replaced t p z w bytes = pick (eqb (z .nd) 0) (stored t p (z .nh) (w .carried) bytes) t
+
 -- Disconnect: the live nodes are destroyed, the queue is emptied, the owners are told, the handles go.
 pub record Disconnects : Type 0 where
   pub peers : List ℕ
@@ -206,3 +212,26 @@ received ps ns hs q p out =
     pick (isMessage e)
     (receivedMessage (countCommand ps) ns hs q p e out)
     (receivedOf (x .outcome) (x .out) (countCommand ps) hs (setQueued q (ringsAfter (q .rings) (x .ends))))
+
+-- Show the seed, which stays: what it carries is given. The answer has no destination, the user u and no flag.
+unfoldable pub seedAnswer : ℕ → ℕ → ℕ → Answer
+seedAnswer u nb nh = isReceived (Seed (record { to = record { 0 = invalid }; user = record { 0 = u }; flag = false; nb = nb; nh = nh }))
+
+pub record Shown : Type 0 where
+  pub outcome : Outcome
+  pub out : List ℕ
+  pub peers : List ℕ
+  pub handles : List ℕ
+  pub rings : Rings
+
+abbrev pub shownOf : Outcome → List ℕ → List ℕ → List ℕ → Rings → Shown
+shownOf o out ps hs r = record { outcome = o; out = out; peers = ps; handles = hs; rings = r }
+
+-- The peer p is shown its seed, with its own user.
+unfoldable pub shows : List ℕ → List ℕ → List ℕ → Rings → List ℕ → ℕ → List ℕ → Shown
+shows ps ns hs r sd p out =
+    let g = givesTo ns (countCommand ps) hs r p (slotsAt sd p) (carriedAt sd p) in
+    let a = seedAnswer (userAt (countCommand ps) p) (bytesAt sd p) (carriedAt sd p) in
+    let ids = take (carriedAt sd p) (g .ids) in
+    let bytes = pieceAt sd p (bytesAt sd p) in
+    shownOf (outcomeOf a ids bytes out) (answerAfter a ids bytes out) (g .peers) (g .handles) (g .rings)

@@ -4,10 +4,12 @@ pub mod CodeQueues
 pub mod After
 pub mod Good
 pub mod Counting
+pub mod Seeding
 pub mod Opening
 pub mod Sending
 pub mod Releasing
 pub mod Receiving
+pub mod Showing
 pub mod Ranges
 pub mod Destroying
 pub mod Listing

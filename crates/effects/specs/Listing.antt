@@ -11,7 +11,7 @@ use Rattle.tables.specs.Handles.{countAt}
 use Rattle.tables.specs.HandlesView.{handleV, count-is}
 use Rattle.tables.specs.Listed.{isGiven, AllListed, listed-made, listed-reduced, listed-cleared}
 use Rattle.model.specs.Numbers.{peers, slots, nodes}
-use Rattle.model.specs.State.{State, Handle, Handle.none, Handle.some, held, count, isLive, heldByAny, named, counts, freePlace}
+use Rattle.model.specs.State.{State, Handle, Handle.none, Handle.some, held, count, isLive, heldByAny, named, seeded, counts, freePlace}
 use Rattle.model.specs.Lists.{either, anyBelow}
 use Rattle.model.specs.Occurs.{either-false, any-below}
 use Rattle.tables.specs.PeersView.{given-counted}
@@ -31,8 +31,8 @@ free-unheld b p lp l =
     let s = p * slots + k in
     let t : not (counts b s) ≡ true = first-found (λ j. not (counts b (p * slots + j))) slots l in
     let c = not-counts (counts b s) t in
-    let x = either-false (isLive (b .life s)) (either (anyBelow (λ q. held (b .handle q s)) peers) (named (b .queue) s)) c in
-    let y = either-false (anyBelow (λ q. held (b .handle q s)) peers) (named (b .queue) s) (x .1) in
+    let x = either-false (isLive (b .life s)) (either (anyBelow (λ q. held (b .handle q s)) peers) (either (named (b .queue) s) (seeded (b .seed) s))) c in
+    let y = either-false (anyBelow (λ q. held (b .handle q s)) peers) (either (named (b .queue) s) (seeded (b .seed) s)) (x .1) in
     any-below (λ q. held (b .handle q s)) peers p lp (y .0)
   where
     not-counts : (x : Bool) → not x ≡ true → x ≡ false

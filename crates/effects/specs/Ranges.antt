@@ -33,10 +33,12 @@ use Rattle.judges.specs.declared.Places.{Places}
 use Rattle.notices.specs.declared.Asked.the-variants.{Falling, Living}
 use Rattle.notices.specs.Notices.{Destroyed, noticeOf, aboveAt, leastAt, postedTo, addressees, following, told, setOf, releasedIn, destroyedSet, toldOwners}
 use Rattle.grants.specs.Grants.{Given, Numbered, numbered, numberedOf, shownTo, referenced, givenTo, givesTo}
-use Rattle.effects.specs.Effects.{Taken, counted, openedPeers, created, destroys, releases, transfers, sends, disconnects, received, dropped, forgotten, notified, leftBehind, messageTo, sentTo, ringsAfter, receivedMessage, noticeTaken}
-use Rattle.effects.specs.After.{queuesIn, afterOpen, afterCreate, afterDestroy, afterRelease, afterTransfer, afterSend, afterReceive, afterDisconnect}
+use Rattle.effects.specs.Effects.{Taken, counted, openedPeers, created, destroys, releases, transfers, sends, disconnects, received, shows, dropped, forgotten, notified, leftBehind, messageTo, sentTo, ringsAfter, receivedMessage, noticeTaken}
+use Rattle.effects.specs.After.{queuesIn, afterOpen, afterCreate, afterDestroy, afterRelease, afterTransfer, afterSend, afterReceive, afterDisconnect, afterShow}
 use Rattle.effects.specs.Good.{Good}
 use Rattle.ids.specs.Sizes.{peers, mostIds, acceptedEnd, givenEnd}
+use Rattle.seeds.specs.Seeds.{slotsAt}
+use Rattle.seeds.specs.Seeds.{countAt as carriedAt}
 
 pub record Raw (b : Bus) : Type 0 where
   pub states : (p : ℕ) → p < peers → stateAt (b .peers) p ≤ 2
@@ -286,7 +288,7 @@ module _ (ps : List ℕ) (p : ℕ) (f : Fits p (mostIds * mostCommands) ps) wher
   received-raw old ns hs q out c h =
       rw c (pick-all RawTaken (isMessage (firstOf (q .rings) p)) _ _ (message-raw ns hs q (firstOf (q .rings) p) out h) (f .0, h))
 
--- The eight orders.
+-- The nine orders.
 module _ (b : Bus) (r : Raw b) (g : Good (stateOf b)) where
   room : acceptedAt (b .peers) + 1 < modulus
   room = omega (arith, g .bounded .few, accepted-is (b .peers))
@@ -364,6 +366,15 @@ module _ (b : Bus) (r : Raw b) (g : Good (stateOf b)) where
       let t = received-raw (countCommand (b .peers)) p (given-few p l) (b .peers) (b .nodes) (b .handles) (queuesIn b) out refl
       (popped-raw (b .rings) p (s .ends) l (r .heads)) in
       raw-parts (afterReceive b p out) (t .0) (t .1)
+
+  pub raw-show : (p : ℕ) (out : List ℕ) → p < peers → Raw (afterShow b p out)
+  unfolding shows
+  raw-show p out l =
+      let ps = countCommand (b .peers) in
+      let ss = slotsAt (b .seeds) p in
+      let n = carriedAt (b .seeds) p in
+      raw-parts (afterShow b p out) (gives-raw (b .nodes) ps (b .handles) (b .rings) p (mostIds * mostCommands) ss n (omega arith) (given-few p l) .0)
+      (heads-raw (b .rings) (afterShow b p out .rings) (gives-heads (b .nodes) ps (b .handles) (b .rings) p ss n) (r .heads))
 
 -- What the tests of the ranges ask, for a bus that stands for a good state.
 pub record InRange (b : Bus) (p : ℕ) : Type 0 where

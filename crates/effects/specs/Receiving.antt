@@ -95,7 +95,7 @@ give-accepted x p s = go (look (isLive (x .life s)))
     go (is-true e) = rw e
     go (is-false e) = rw e
 
-shown-accepted : (x : State) (p : ℕ) (ss : List ℕ) → shownAll (accept x) p ss ≡ shownAll x p ss
+pub shown-accepted : (x : State) (p : ℕ) (ss : List ℕ) → shownAll (accept x) p ss ≡ shownAll x p ss
 shown-accepted x p [] = refl
 shown-accepted x p (s ∷ ss) =
     ap₂ _∷_ (unfold shown accept in refl) (ap (λ (y : State). shownAll y p ss) (give-accepted x p s) ∙ shown-accepted (give x p s) p ss)
@@ -109,14 +109,14 @@ unfolding handleV upto
 past-handles hs q s e = rw e
 
 -- How far counts and given IDs of a state are from the end of what is read of them.
-few-counts : (b : Bus) → Good (stateOf b) → (q s : ℕ) → count (stateOf b .handle q s) ≤ mostIds * stateOf b .accepted
+pub few-counts : (b : Bus) → Good (stateOf b) → (q s : ℕ) → count (stateOf b .handle q s) ≤ mostIds * stateOf b .accepted
 few-counts b g q s = go (look (ltb q peers))
   where
     go : Seen (ltb q peers) → count (handleV (b .handles) q s) ≤ mostIds * stateOf b .accepted
     go (is-true e) = omega (arith, total-one (handleV (b .handles)) s q (ltb-true q peers e), g .bounded .sums s)
     go (is-false e) = rw (past-handles (b .handles) q s e) (omega arith)
 
-good-lone : (b : Bus) → Good (stateOf b) → Lone (handleV (b .handles)) (queueV (b .rings) (b .pool))
+pub good-lone : (b : Bus) → Good (stateOf b) → Lone (handleV (b .handles)) (queueV (b .rings) (b .pool))
 good-lone b g = lone-stands (stateOf b .handle) (stateOf b .life) (stateOf b .queue) (g .noted .stands)
 
 -- A transfer.
@@ -162,7 +162,7 @@ all-behind P [] h = tt
 all-behind P (x ∷ xs) h = h .1
 
 -- Equal answers.
-answers-same : (a c : Answer) (is js bs ds out : List ℕ) → a ≡ c → is ≡ js → bs ≡ ds →
+pub answers-same : (a c : Answer) (is js bs ds out : List ℕ) → a ≡ c → is ≡ js → bs ≡ ds →
     (outcomeOf a is bs out ≡ outcomeOf c js ds out) × (answerAfter a is bs out ≡ answerAfter c js ds out)
 answers-same a c is js bs ds out e f g = rw (e, f, g) (refl, refl)
 

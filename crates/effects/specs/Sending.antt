@@ -34,12 +34,12 @@ use Rattle.tables.specs.PeersView.{statusV, userV, status-counted, user-counted
 use Rattle.tables.specs.ChargesView.{chargesV, charges-four}
 use Rattle.judges.specs.Orders.{eight, placesOf}
 use Rattle.model.specs.Numbers.{slots, nodes, owner}
-use Rattle.model.specs.State.{Status, Status.unopened, Status.opened, Status.disconnected, Entry, Message, messagesIn, State, slot}
+use Rattle.model.specs.State.{Status, Status.unopened, Status.opened, Status.disconnected, Entry, Message, messagesIn, Seed.kept, State, slot}
 use Rattle.model.specs.State.Entry.{message}
 use Rattle.model.specs.Requests.{destinations, attached}
 use Rattle.model.specs.Tables.{accept, withQueues, withCharges}
 use Rattle.model.specs.Refusals.{placesAt, adds, fits, refusesSend, refusal}
-use Rattle.model.specs.Changes.{pushAll, arriving, deliver}
+use Rattle.model.specs.Changes.{pushAll, arriving, deliver, reseed}
 use Rattle.model.specs.Tested.{tested}
 use Rattle.model.specs.Resources.{Resource, limit, amount, share}
 use Rattle.model.specs.Resources.Resource.{messages as ofMessages, bytes as ofBytes, handles as ofHandles}
@@ -49,7 +49,7 @@ use Rattle.model.specs.ChargedProof.{charged-deliver, known-open}
 use Rattle.model.specs.ChargedBounds.{queuedAll, sound-within}
 use Rattle.model.specs.Sending.{arriving-load}
 use Rattle.model.specs.Quiet.{messages-append}
-use Rattle.view.specs.View.{Bus, Shape, entryV, queueV, stateOf, shape-peers}
+use Rattle.view.specs.View.{Bus, Shape, entryV, queueV, stateOf, shape-peers, shape-seeds, setPeers}
 use Rattle.view.specs.Rows.{queue-count}
 use Rattle.queues.specs.Queues.{Queues, isMessage, enqueued, chargeIn, setQueues, shape-queues}
 use Rattle.queues.specs.Entering.{entry-message, Filled, enqueue-sized, enqueue-ends, enqueue-pool, enqueue-size, enqueue-other, enqueue-length, enqueue-lengths, enqueue-charges, enqueue-sum, enqueue-view, filled-enqueued, filled-view, queue-bytes}
@@ -58,6 +58,7 @@ use Rattle.effects.specs.Effects.{counted, messageTo, sentTo, sends}
 use Rattle.effects.specs.After.{queuesIn, afterSend}
 use Rattle.effects.specs.Good.{Good}
 use Rattle.effects.specs.Counting.{counting, counted-view, counted-number}
+use Rattle.effects.specs.Seeding.{replaced-length, replaced-view}
 use Rattle.ids.specs.Sizes.{peers, carriedFields}
 use Rattle.tables.specs.Charges.{chargesSize}
 
@@ -408,9 +409,11 @@ unfolding sends counted
 shape-send b p z w bytes s =
     let u = userAt (countCommand (b .peers)) p in
     let n = acceptedAt (countCommand (b .peers)) in
-    shape-queues (shape-peers s (counted-length (b .peers) ∙ s .peers)) (sent-charges (queuesIn b) u (z .nh) w bytes n (z .nd) ∙ s .charges)
+    shape-seeds
+    (shape-queues (shape-peers s (counted-length (b .peers) ∙ s .peers)) (sent-charges (queuesIn b) u (z .nh) w bytes n (z .nd) ∙ s .charges)
     (sent-ends (queuesIn b) u (z .nh) w bytes n (z .nd) ∙ s .ends) (sent-sized (queuesIn b) u (z .nh) w bytes n (s .rows) (z .nd))
-    (sent-pool (queuesIn b) u (z .nh) w bytes n (z .nd) ∙ s .pool)
+    (sent-pool (queuesIn b) u (z .nh) w bytes n (z .nd) ∙ s .pool))
+    (replaced-length (b .seeds) p z w bytes ∙ s .seeds)
 
 -- The user of a peer that is open, in the table with the command counted.
 abbrev isOpened : Status → Bool
@@ -418,7 +421,7 @@ isOpened unopened = false
 isOpened opened = true
 isOpened disconnected = false
 
-user-now : (ps : List ℕ) (p : ℕ) → p < peers → statusV ps p ≡ opened → userAt (countCommand ps) p ≡ userV ps p
+pub user-now : (ps : List ℕ) (p : ℕ) → p < peers → statusV ps p ≡ opened → userAt (countCommand ps) p ≡ userV ps p
 user-now ps p l o =
     let same-status : statusV (countCommand ps) p ≡ opened = ap (λ (f : ℕ → Status). f p) (status-counted ps) ∙ o in
     sym (user-is (countCommand ps) p l (λ e. clash (ap isOpened (sym same-status ∙ e)))) ∙ ap (λ (f : ℕ → ℕ). f p) (user-counted ps)
@@ -449,12 +452,18 @@ deliver-view b s g u ds hs payload lu few lh lb ind inh ok x e =
     (λ (t : State). withCharges (withQueues t (λ q. a .queue q ++ arriving a u ds hs payload q)) (λ q. charged (a .charges q) (record { 0 = u }) (adds q ds (length payload) (length hs))))
     (counted-view b s g)
 
-pub send-view : (b : Bus) → Shape b → Good (stateOf b) → (p : ℕ) → p < peers → (f : List ℕ) (z : Sizes) → legal.Sized f z →
+-- The bus with the messages queued, and the seed as it was.
+abbrev sentBus : Bus → ℕ → Sizes → Places → List ℕ → Bus
+sentBus b p z w bytes =
+    let x = sends (b .peers) (queuesIn b) p z w bytes in
+    setQueues (setPeers b (x .peers)) (x .queues)
+
+sent-view : (b : Bus) → Shape b → Good (stateOf b) → (p : ℕ) → p < peers → (f : List ℕ) (z : Sizes) → legal.Sized f z →
     refusesSend (stateOf b) p (destinations f z) (attached f z) (length (payloadOf f)) ≡ 0 →
-    stateOf (afterSend b p z (placesOf (slot (stateOf b) p) f z) (payloadOf f))
+    stateOf (sentBus b p z (placesOf (slot (stateOf b) p) f z) (payloadOf f))
     ≡ deliver (accept (stateOf b)) (stateOf b .user p) (map (slot (stateOf b) p) (destinations f z)) (map (slot (stateOf b) p) (attached f z)) (payloadOf f)
 unfolding sends counted placesOf refusal
-send-view b s g p l f z sizes e =
+sent-view b s g p l f z sizes e =
     let st = stateOf b in
     let t = tested st f (Send (record { 0 = p }) z) e in
     let ds = map (slot st p) (destinations f z) in
@@ -468,3 +477,23 @@ send-view b s g p l f z sizes e =
     (all-map (λ d. d < nodes) (slot st p) (destinations f z) (t .holds)) (all-map (λ d. d < nodes) (slot st p) (attached f z) (t .holds-attached)) ok
     (sentTo (queuesIn b) (userAt (countCommand (b .peers)) p) (z .nh) (record { to = eight ds; carried = eight hs }) (payloadOf f) (acceptedAt (countCommand (b .peers))) (z .nd))
     (rw (u, counted-number b s g, nd, nh))
+
+pub send-view : (b : Bus) → Shape b → Good (stateOf b) → (p : ℕ) → p < peers → (f : List ℕ) (z : Sizes) → legal.Sized f z →
+    refusesSend (stateOf b) p (destinations f z) (attached f z) (length (payloadOf f)) ≡ 0 →
+    stateOf (afterSend b p z (placesOf (slot (stateOf b) p) f z) (payloadOf f))
+    ≡ reseed (deliver (accept (stateOf b)) (stateOf b .user p) (map (slot (stateOf b) p) (destinations f z)) (map (slot (stateOf b) p) (attached f z)) (payloadOf f))
+    (eqb (z .nd) 0) p (kept (payloadOf f) (map (slot (stateOf b) p) (attached f z)))
+unfolding placesOf refusal
+send-view b s g p l f z sizes e =
+    let st = stateOf b in
+    let t = tested st f (Send (record { 0 = p }) z) e in
+    let hs = map (slot st p) (attached f z) in
+    let w = placesOf (slot st p) f z in
+    let nh : length hs ≡ z .nh = length-map (attached f z) (slot st p) ∙ build-length (λ k. sendId f (z .nd + k) .0) (z .nh) in
+    let least : length hs ≤ mostIds = omega (arith, nh, sizes .few-attached) in
+    let inside : All (λ d. d < nodes) hs = all-map (λ d. d < nodes) (slot st p) (attached f z) (t .holds-attached) in
+    replaced-view (sentBus b p z w (payloadOf f)) p z w hs (payloadOf f) (s .seeds) l (omega (arith, payload-length f z sizes, sizes .small)) (sizes .few-attached)
+    (eight-length hs)
+    (λ k lk. let m : k < length hs = omega (arith, nh) in rw (eight-at hs least k m) (all-at (λ d. d < nodes) hs k 0 inside m))
+    (ap (λ (n : ℕ). take n (eight hs)) (sym nh) ∙ eight-front hs least)
+    ∙ ap (λ (x : State). reseed x (eqb (z .nd) 0) p (kept (payloadOf f) hs)) (sent-view b s g p l f z sizes e)

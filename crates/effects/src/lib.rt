@@ -1,7 +1,7 @@
 // What each order does to the tables. The command is counted first; no order fails.
 ghost use mathlib.Core.Path.{_≡_};
 ghost use Prim.Native.Nat.{_-_, _<_, _≤_};
-ghost use lib.ListN.{length};
+ghost use lib.ListN.{length, take};
 ghost use Rattle.rings.specs.Rings.{ringsOf, endsSize, lengthOf, ringSize, QueueTables};
 ghost use Rattle.pool.specs.Pool.{poolSize};
 ghost use Rattle.answers.specs.Answer.{answerAfter, outcomeOf};
@@ -9,16 +9,18 @@ ghost use Rattle.queues.specs.Queues.{queuesOf};
 ghost use Rattle.view.specs.View.{busOf};
 ghost use Rattle.grants.specs.Grants.{givenOf};
 ghost use Rattle.tables.specs.Handles.{handlesSize};
-ghost use Rattle.effects.specs.Effects.{countedOf, counted, openedPeers, createdOf, created, destroysOf, destroys, dropped, droppedOf, forgotten, notified, releasesOf, releases, transfers, messageTo, sentTo, sends, sendsOf, disconnectsOf, disconnects, messageAnswer, shownIds, shownBytes, receivedMessage, noticeTaken, noticeTakenOf, received, receivedOf};
-ghost use Rattle.ids.specs.Sizes.{peers as peerCount, peersSize, nodesSize, mostIds};
+ghost use Rattle.effects.specs.Effects.{countedOf, counted, openedPeers, createdOf, created, destroysOf, destroys, dropped, droppedOf, forgotten, notified, releasesOf, releases, transfers, messageTo, sentTo, sends, sendsOf, disconnectsOf, disconnects, messageAnswer, shownIds, shownBytes, receivedMessage, noticeTaken, noticeTakenOf, received, receivedOf, replaced, seedAnswer, shownOf, shows};
+ghost use Rattle.ids.specs.Sizes.{peers as peerCount, peersSize, nodesSize, seedsSize, mostIds};
 ghost use Rattle.model.specs.Numbers.{nodes as nodeCount};
 ghost use Rattle.tables.specs.Charges.{chargesSize};
+ghost use Rattle.seeds.specs.Seeds.{bytesAt, pieceAt};
 use answers::Answer;
 use answers::Header;
 use answers::Outcome;
 use answers::Received;
 use frames::Sizes;
 use ids::HandleId;
+use ids::INVALID;
 use ids::MOST_IDS;
 use ids::NODES;
 use ids::Peer;
@@ -264,6 +266,17 @@ pub fn send(
     );
 }
 
+// A send with no destinations replaces the peer's own seed.
+pub fn replace_seed(seeds: &mut [u8], p: Peer, z: Sizes, w: Places, payload: &[u8])
+    requires { ⌜ (length (now seeds) ≡ seedsSize) × (p .0 < peerCount) ⌝ }
+    ensures { λ _. ⌜ now (seeds .exit) ≡ replaced (now (seeds .entry)) (p .0) z w (now (payload .entry)) ⌝ }
+{
+    if z.nd == 0 {
+        let slots = w.carried;
+        seeds::put(seeds, p, z.nh, slots, payload);
+    }
+}
+
 pub fn disconnect(
     peers: &mut [u64],
     nodes: &mut [u64],
@@ -409,4 +422,71 @@ pub fn receive(
         e,
         out,
     )
+}
+
+// The answer of a seed: no destination, the peer's own user, no flag.
+fn write_seed(
+    out: &mut [u8],
+    seeds: &[u8],
+    p: Peer,
+    user: User,
+    nh: usize,
+    ids: [u64; 8],
+) -> Outcome
+    requires { ⌜ (length (now seeds) ≡ seedsSize) × (p .0 < peerCount) × (nh ≤ mostIds) ⌝ }
+    ensures { λ r.
+        let nb = bytesAt (now (seeds .entry)) (p .0) in
+        let a = seedAnswer (user .0) nb nh in
+        let bytes = pieceAt (now (seeds .entry)) (p .0) nb in
+        ⌜ (r ≡ outcomeOf a (take nh ids) bytes (now (out .entry))) × (now (out .exit) ≡ answerAfter a (take nh ids) bytes (now (out .entry))) ⌝ }
+{
+    let nb = seeds::nb_of(seeds, p);
+    let h = Header {
+        to: HandleId(INVALID),
+        user,
+        flag: false,
+        nb,
+        nh,
+    };
+    answers::write_seed(out, h, &ids[..nh], seeds::piece(seeds, p, nb))
+}
+
+// The peer's seed is shown and stays: what it carries is given, each time anew.
+pub fn show_seed(
+    peers: &mut [u64],
+    nodes: &[u64],
+    handles: &mut [u64],
+    ends: &mut [u16],
+    entries: &mut [u16],
+    carried: &mut [u8],
+    numbers: &mut [u64],
+    seeds: &[u8],
+    p: Peer,
+    out: &mut [u8],
+) -> Outcome
+    requires { ⌜ (length (now peers) ≡ peersSize) × (length (now nodes) ≡ nodesSize) × (length (now handles) ≡ handlesSize)
+        × QueueTables (now ends) (now entries) (now carried) (now numbers) × (length (now seeds) ≡ seedsSize) × (p .0 < peerCount) ⌝ }
+    ensures { λ r.
+        let before = ringsOf (now (ends .entry)) (now (entries .entry)) (now (carried .entry)) (now (numbers .entry)) in
+        let after = ringsOf (now (ends .exit)) (now (entries .exit)) (now (carried .exit)) (now (numbers .exit)) in
+        ⌜ shownOf r (now (out .exit)) (now (peers .exit)) (now (handles .exit)) after
+        ≡ shows (now (peers .entry)) (now (nodes .entry)) (now (handles .entry)) before (now (seeds .entry)) (p .0) (now (out .entry)) ⌝ }
+{
+    tables::count_command(peers);
+    let user = tables::user_of(peers, p);
+    let slots = seeds::slots_of(seeds, p);
+    let nh = seeds::nh_of(seeds, p);
+    let ids = grants::give_all(
+        peers,
+        nodes,
+        handles,
+        ends,
+        entries,
+        carried,
+        numbers,
+        p,
+        slots,
+        nh,
+    );
+    write_seed(out, seeds, p, user, nh, ids)
 }

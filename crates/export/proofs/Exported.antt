@@ -14,10 +14,10 @@ use denote.Triple.Clauses
 use Rattle.answers.specs.declared.Outcome.{Outcome}
 use Rattle.model.specs.Step.{Call}
 use Rattle.view.specs.View.{Bus}
-use Rattle.bus.specs.Command.{sizedOk}
-use Rattle.bus.specs.Ran.{Exchange, Ran}
-use Rattle.bus.specs.Third.{Demanded, Next}
-use Rattle.bus.specs.Ranges.{Lengths, InRange, FiveUnless}
+use Rattle.bus_model.specs.Command.{sizedOk}
+use Rattle.bus_model.specs.Ran.{Exchange, Ran}
+use Rattle.bus_model.specs.Third.{Demanded, Next}
+use Rattle.bus_model.specs.Ranges.{Lengths, InRange, FiveUnless}
 use Rattle.bus.proofs.Calls.{busIn, busOut, callIn, oldIn, madeOut, exchanged as core-exchanged, Calls, calls-ran, calls-exist}
 use Rattle.bus.proofs.Calls.Calls.{made as core-made, call as core-call}
 use Rattle.bus.proofs.Whole.{demand-three-of-calls}
@@ -30,7 +30,7 @@ use Rattle.export.proofs.eikelzwier_fresh.Kinds as fresh-kinds
 use Rattle.export.proofs.eikelzwier_fresh.Reads as fresh-reads
 
 -- A call of `eikelzwier_command`: its arguments, its result, and the buffers when it returns.
-module _ (κs : Lifetimes.Lfts 11) where
+module _ (κs : Lifetimes.Lfts 12) where
   abbrev pub Arguments : Type 0
   Arguments = World.ArgsD command.signature κs
 
@@ -38,7 +38,7 @@ module _ (κs : Lifetimes.Lfts 11) where
   Returned = World.ResD command.signature κs
 
   abbrev pub Left : Type 0
-  Left = Clauses.AtExit (Kinds′.endedOf 11 command-kinds.ps command-kinds.r) κs
+  Left = Clauses.AtExit (Kinds′.endedOf 12 command-kinds.ps command-kinds.r) κs
 
   -- The result as the core's: the same number and the same length.
   abbrev pub outcomeIn : Returned → Outcome
@@ -52,7 +52,7 @@ module _ (κs : Lifetimes.Lfts 11) where
   free a = tt
 
 -- A call of `eikelzwier_fresh`, over buffers of any contents.
-module _ (κs : Lifetimes.Lfts 9) where
+module _ (κs : Lifetimes.Lfts 10) where
   abbrev pub FreshArguments : Type 0
   FreshArguments = World.ArgsD fresh.signature κs
 
@@ -60,16 +60,16 @@ module _ (κs : Lifetimes.Lfts 9) where
   FreshReturned = World.ResD fresh.signature κs
 
   abbrev pub FreshLeft : Type 0
-  FreshLeft = Clauses.AtExit (Kinds′.endedOf 9 fresh-kinds.ps fresh-kinds.r) κs
+  FreshLeft = Clauses.AtExit (Kinds′.endedOf 10 fresh-kinds.ps fresh-kinds.r) κs
 
   pub made-free : (a : FreshArguments) → fresh-reads.Asked κs a
   made-free a = tt
 
 -- A run: a fresh bus in buffers of exact length, then calls of `eikelzwier_command`, each with the bus buffers as the one before left them, any frame and any answer buffer.
 pub data ExportedCalls : List Exchange → Bus → Type 0 where
-  made : (κs : Lifetimes.Lfts 9) (a : FreshArguments κs) (r : FreshReturned κs) (s : FreshLeft κs) → sizedOk (oldIn κs a) ≡ true → fresh-reads.Learnt κs a r s →
+  made : (κs : Lifetimes.Lfts 10) (a : FreshArguments κs) (r : FreshReturned κs) (s : FreshLeft κs) → sizedOk (oldIn κs a) ≡ true → fresh-reads.Learnt κs a r s →
       ExportedCalls [] (madeOut κs s)
-  call : {xs : List Exchange} {b : Bus} (κs : Lifetimes.Lfts 11) (a : Arguments κs) (r : Returned κs) (s : Left κs) → ExportedCalls xs b → busIn κs a ≡ b →
+  call : {xs : List Exchange} {b : Bus} (κs : Lifetimes.Lfts 12) (a : Arguments κs) (r : Returned κs) (s : Left κs) → ExportedCalls xs b → busIn κs a ≡ b →
       command-reads.Learnt κs a r s → ExportedCalls (xs ++ (exchanged κs a r s ∷ [])) (busOut κs s)
 
 -- Each is a run of calls of the core's functions, and so of the definitions.
@@ -97,7 +97,7 @@ exported-calls-exist old s cs =
 -- The third demand, whole: of any list of calls, of the book that is fed them, and of every next call.
 pub record DemandThree (xs : List Exchange) (b : Bus) : Type 0 where
   pub run : Demanded xs b
-  pub next : (κs : Lifetimes.Lfts 11) (a : Arguments κs) (r : Returned κs) (s : Left κs) → busIn κs a ≡ b → command-reads.Learnt κs a r s → Next xs (exchanged κs a r s)
+  pub next : (κs : Lifetimes.Lfts 12) (a : Arguments κs) (r : Returned κs) (s : Left κs) → busIn κs a ≡ b → command-reads.Learnt κs a r s → Next xs (exchanged κs a r s)
 
 pub demand-three-of-exported-calls : (xs : List Exchange) (b : Bus) → ExportedCalls xs b → DemandThree xs b
 demand-three-of-exported-calls xs b t =
@@ -105,10 +105,10 @@ demand-three-of-exported-calls xs b t =
     record { run = d .run; next = λ κs a r s e l. d .next κs a (outcomeIn κs r) s e l }
 
 -- 5 is returned exactly where a buffer lacks its length or, by `eikelzwier_command` with an answer buffer of at least 591 bytes, a number is beyond its range (docs/BUFFERS.md).
-pub five-of-exported-calls : (κs : Lifetimes.Lfts 11) (a : Arguments κs) (r : Returned κs) (s : Left κs) → command-reads.Learnt κs a r s → 591 ≤ length (callIn κs a .buffer) →
+pub five-of-exported-calls : (κs : Lifetimes.Lfts 12) (a : Arguments κs) (r : Returned κs) (s : Left κs) → command-reads.Learnt κs a r s → 591 ≤ length (callIn κs a .buffer) →
     FiveUnless (InRange (busIn κs a)) (r .number)
 five-of-exported-calls κs a r s l h = five-of-calls κs a (outcomeIn κs r) s l h
 
-pub fresh-five-of-exported-calls : (κs : Lifetimes.Lfts 9) (a : FreshArguments κs) (r : FreshReturned κs) (s : FreshLeft κs) → fresh-reads.Learnt κs a r s →
+pub fresh-five-of-exported-calls : (κs : Lifetimes.Lfts 10) (a : FreshArguments κs) (r : FreshReturned κs) (s : FreshLeft κs) → fresh-reads.Learnt κs a r s →
     FiveUnless (Lengths (oldIn κs a)) r
 fresh-five-of-exported-calls κs a r s l = fresh-five-of-calls κs a r s l

@@ -2,7 +2,7 @@
 // which a header is compared with the archive.
 ghost use mathlib.Core.Path.{_≡_};
 ghost use Rattle.view.specs.View.{busOf};
-ghost use Rattle.bus.specs.Command.{doneOf, commandOf, freshOf, freshNumber};
+ghost use Rattle.bus_model.specs.Command.{doneOf, commandOf, freshOf, freshNumber};
 
 // What comes back of a command: the number, 0 or the refusal, and the answer's length.
 #[repr(C)]
@@ -11,12 +11,12 @@ pub struct BusOutcome {
     pub len: usize,
 }
 
-// Version 0.4.0: 10,000 times the first part, 100 times the second, and the third.
-const VERSION: u32 = 400;
+// Version 0.5.0: 10,000 times the first part, 100 times the second, and the third.
+const VERSION: u32 = 500;
 
 #[no_mangle]
 pub extern "C" fn eikelzwier_version() -> u32
-    ensures { λ v. ⌜ v ≡ 400 ⌝ }
+    ensures { λ v. ⌜ v ≡ 500 ⌝ }
 {
     VERSION
 }
@@ -33,8 +33,9 @@ pub extern "C" fn eikelzwier_fresh(
     carried: &mut [u8],
     numbers: &mut [u64],
     pool: &mut [u8],
+    seeds: &mut [u8],
 ) -> u8
-    ensures { λ r. ⌜ (r ≡ freshNumber (busOf (now (peers .entry)) (now (nodes .entry)) (now (handles .entry)) (now (charges .entry)) (now (ends .entry)) (now (entries .entry)) (now (carried .entry)) (now (numbers .entry)) (now (pool .entry)))) × (busOf (now (peers .exit)) (now (nodes .exit)) (now (handles .exit)) (now (charges .exit)) (now (ends .exit)) (now (entries .exit)) (now (carried .exit)) (now (numbers .exit)) (now (pool .exit)) ≡ freshOf (busOf (now (peers .entry)) (now (nodes .entry)) (now (handles .entry)) (now (charges .entry)) (now (ends .entry)) (now (entries .entry)) (now (carried .entry)) (now (numbers .entry)) (now (pool .entry)))) ⌝ }
+    ensures { λ r. ⌜ (r ≡ freshNumber (busOf (now (peers .entry)) (now (nodes .entry)) (now (handles .entry)) (now (charges .entry)) (now (ends .entry)) (now (entries .entry)) (now (carried .entry)) (now (numbers .entry)) (now (pool .entry)) (now (seeds .entry)))) × (busOf (now (peers .exit)) (now (nodes .exit)) (now (handles .exit)) (now (charges .exit)) (now (ends .exit)) (now (entries .exit)) (now (carried .exit)) (now (numbers .exit)) (now (pool .exit)) (now (seeds .exit)) ≡ freshOf (busOf (now (peers .entry)) (now (nodes .entry)) (now (handles .entry)) (now (charges .entry)) (now (ends .entry)) (now (entries .entry)) (now (carried .entry)) (now (numbers .entry)) (now (pool .entry)) (now (seeds .entry)))) ⌝ }
 {
     bus::fresh(
         peers,
@@ -46,6 +47,7 @@ pub extern "C" fn eikelzwier_fresh(
         carried,
         numbers,
         pool,
+        seeds,
     )
 }
 
@@ -61,10 +63,11 @@ pub extern "C" fn eikelzwier_command(
     carried: &mut [u8],
     numbers: &mut [u64],
     pool: &mut [u8],
+    seeds: &mut [u8],
     frame: &[u8],
     out: &mut [u8],
 ) -> BusOutcome
-    ensures { λ o. ⌜ doneOf (record { number = o .number; len = o .len }) (busOf (now (peers .exit)) (now (nodes .exit)) (now (handles .exit)) (now (charges .exit)) (now (ends .exit)) (now (entries .exit)) (now (carried .exit)) (now (numbers .exit)) (now (pool .exit))) (now (out .exit)) ≡ commandOf (busOf (now (peers .entry)) (now (nodes .entry)) (now (handles .entry)) (now (charges .entry)) (now (ends .entry)) (now (entries .entry)) (now (carried .entry)) (now (numbers .entry)) (now (pool .entry))) (now (frame .entry)) (now (out .entry)) ⌝ }
+    ensures { λ o. ⌜ doneOf (record { number = o .number; len = o .len }) (busOf (now (peers .exit)) (now (nodes .exit)) (now (handles .exit)) (now (charges .exit)) (now (ends .exit)) (now (entries .exit)) (now (carried .exit)) (now (numbers .exit)) (now (pool .exit)) (now (seeds .exit))) (now (out .exit)) ≡ commandOf (busOf (now (peers .entry)) (now (nodes .entry)) (now (handles .entry)) (now (charges .entry)) (now (ends .entry)) (now (entries .entry)) (now (carried .entry)) (now (numbers .entry)) (now (pool .entry)) (now (seeds .entry))) (now (frame .entry)) (now (out .entry)) ⌝ }
 {
     let o = bus::command(
         peers,
@@ -76,6 +79,7 @@ pub extern "C" fn eikelzwier_command(
         carried,
         numbers,
         pool,
+        seeds,
         frame,
         out,
     );

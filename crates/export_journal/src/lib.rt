@@ -24,12 +24,13 @@ pub extern "C" fn eikelzwier_command_with_journal(
     carried: &mut [u8],
     numbers: &mut [u64],
     pool: &mut [u8],
+    seeds: &mut [u8],
     frame: &[u8],
     out: &mut [u8],
     journal: &mut [u8],
     used: usize,
 ) -> BusReport
-    ensures { λ k. ⌜ returnedWith (record { number = k .number; len = k .len; used = k .used }) (busOf (now (peers .exit)) (now (nodes .exit)) (now (handles .exit)) (now (charges .exit)) (now (ends .exit)) (now (entries .exit)) (now (carried .exit)) (now (numbers .exit)) (now (pool .exit))) (now (out .exit)) (now (journal .exit)) ≡ commandWith (busOf (now (peers .entry)) (now (nodes .entry)) (now (handles .entry)) (now (charges .entry)) (now (ends .entry)) (now (entries .entry)) (now (carried .entry)) (now (numbers .entry)) (now (pool .entry))) (now (frame .entry)) (now (out .entry)) (now (journal .entry)) used ⌝ }
+    ensures { λ k. ⌜ returnedWith (record { number = k .number; len = k .len; used = k .used }) (busOf (now (peers .exit)) (now (nodes .exit)) (now (handles .exit)) (now (charges .exit)) (now (ends .exit)) (now (entries .exit)) (now (carried .exit)) (now (numbers .exit)) (now (pool .exit)) (now (seeds .exit))) (now (out .exit)) (now (journal .exit)) ≡ commandWith (busOf (now (peers .entry)) (now (nodes .entry)) (now (handles .entry)) (now (charges .entry)) (now (ends .entry)) (now (entries .entry)) (now (carried .entry)) (now (numbers .entry)) (now (pool .entry)) (now (seeds .entry))) (now (frame .entry)) (now (out .entry)) (now (journal .entry)) used ⌝ }
 {
     let k = journal::command_with_journal(
         peers,
@@ -41,6 +42,7 @@ pub extern "C" fn eikelzwier_command_with_journal(
         carried,
         numbers,
         pool,
+        seeds,
         frame,
         out,
         journal,

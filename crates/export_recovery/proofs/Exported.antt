@@ -12,8 +12,8 @@ use borrow.Fn.World
 use borrow.Fn.Kinds as Kinds′
 use denote.Triple.Clauses
 use Rattle.view.specs.View.{Bus}
-use Rattle.bus.specs.Command.{sizedOk, freshBus}
-use Rattle.bus.specs.Ran.{Exchange}
+use Rattle.bus_model.specs.Command.{sizedOk, freshBus}
+use Rattle.bus_model.specs.Ran.{Exchange}
 use Rattle.bus.proofs.Calls.{oldIn, madeOut}
 use Rattle.journal_model.specs.declared.JournalOutcome.{JournalOutcome}
 use Rattle.journal_model.specs.declared.Recovered.{Recovered}
@@ -32,7 +32,7 @@ use Rattle.export_recovery.proofs.eikelzwier_recover.Kinds as recover-k
 use Rattle.export_recovery.proofs.eikelzwier_recover.Reads as recover-reads
 
 -- A call of `eikelzwier_command_with_journal`: its arguments, its result, and the buffers when it returns.
-module _ (κs : Lifetimes.Lfts 12) where
+module _ (κs : Lifetimes.Lfts 13) where
   abbrev pub Arguments : Type 0
   Arguments = World.ArgsD command.signature κs
 
@@ -40,7 +40,7 @@ module _ (κs : Lifetimes.Lfts 12) where
   Returned = World.ResD command.signature κs
 
   abbrev pub Left : Type 0
-  Left = Clauses.AtExit (Kinds′.endedOf 12 command-kinds.ps command-kinds.r) κs
+  Left = Clauses.AtExit (Kinds′.endedOf 13 command-kinds.ps command-kinds.r) κs
 
   -- The result as the journal's: the same number, length and used length.
   abbrev pub outcomeIn : Returned → JournalOutcome
@@ -53,7 +53,7 @@ module _ (κs : Lifetimes.Lfts 12) where
   free a = tt
 
 -- A call of `eikelzwier_recover`, over bus buffers and bytes of any contents.
-module _ (κs : Lifetimes.Lfts 10) where
+module _ (κs : Lifetimes.Lfts 11) where
   abbrev pub RecoverArguments : Type 0
   RecoverArguments = World.ArgsD recover.signature κs
 
@@ -61,7 +61,7 @@ module _ (κs : Lifetimes.Lfts 10) where
   RecoverReturned = World.ResD recover.signature κs
 
   abbrev pub RecoverLeft : Type 0
-  RecoverLeft = Clauses.AtExit (Kinds′.endedOf 10 recover-kinds.ps recover-kinds.r) κs
+  RecoverLeft = Clauses.AtExit (Kinds′.endedOf 11 recover-kinds.ps recover-kinds.r) κs
 
   pub found-free : (a : RecoverArguments) → recover-reads.Asked κs a
   found-free a = tt
@@ -74,12 +74,12 @@ module _ (κs : Lifetimes.Lfts 10) where
 -- A run: a fresh bus and any journal, nothing of it used; or a recovery that returned 0, and a journal that holds its used part in front; then calls of `eikelzwier_command_with_journal`, each
 -- with the bus, the journal and the used length as the one before left them, any frame and any answer buffer.
 pub data ExportedCalls : List Exchange → Bus → List ℕ → ℕ → Type 0 where
-  made : (κs : Lifetimes.Lfts 9) (a : FreshArguments κs) (r : FreshReturned κs) (s : FreshLeft κs) → sizedOk (oldIn κs a) ≡ true → fresh-reads.Learnt κs a r s → (j : List ℕ) →
+  made : (κs : Lifetimes.Lfts 10) (a : FreshArguments κs) (r : FreshReturned κs) (s : FreshLeft κs) → sizedOk (oldIn κs a) ≡ true → fresh-reads.Learnt κs a r s → (j : List ℕ) →
       ExportedCalls [] (madeOut κs s) j 0
-  resumed : (κs : Lifetimes.Lfts 10) (a : RecoverArguments κs) (r : RecoverReturned κs) (s : RecoverLeft κs) → sizedOk (oldBus κs a) ≡ true → recover-reads.Learnt κs a r s →
+  resumed : (κs : Lifetimes.Lfts 11) (a : RecoverArguments κs) (r : RecoverReturned κs) (s : RecoverLeft κs) → sizedOk (oldBus κs a) ≡ true → recover-reads.Learnt κs a r s →
       r .number ≡ 0 → (j : List ℕ) → r .used ≤ length j → take (r .used) j ≡ take (r .used) (keptIn κs a) →
       ExportedCalls (replayHistory freshBus (linesIn (keptIn κs a))) (foundBus κs s) j (r .used)
-  call : {xs : List Exchange} {b : Bus} {j : List ℕ} {u : ℕ} (κs : Lifetimes.Lfts 12) (a : Arguments κs) (r : Returned κs) (s : Left κs) → ExportedCalls xs b j u →
+  call : {xs : List Exchange} {b : Bus} {j : List ℕ} {u : ℕ} (κs : Lifetimes.Lfts 13) (a : Arguments κs) (r : Returned κs) (s : Left κs) → ExportedCalls xs b j u →
       busIn κs a ≡ b → journalIn κs a ≡ j → usedLent κs a ≡ u → command-reads.Learnt κs a r s →
       ExportedCalls (xs ++ (exchanged κs a r s ∷ [])) (busOut κs s) (journalOut κs s) (r .used)
 

@@ -61,9 +61,10 @@ pub extern "C" fn eikelzwier_recover(
     carried: &mut [u8],
     numbers: &mut [u64],
     pool: &mut [u8],
+    seeds: &mut [u8],
     kept: &[u8],
 ) -> BusRecovery
-    ensures { λ t. ⌜ toldFrom (t .number) (t .line) (t .place) (t .used) (busOf (now (peers .exit)) (now (nodes .exit)) (now (handles .exit)) (now (charges .exit)) (now (ends .exit)) (now (entries .exit)) (now (carried .exit)) (now (numbers .exit)) (now (pool .exit))) ≡ toldOf (recovered (busOf (now (peers .entry)) (now (nodes .entry)) (now (handles .entry)) (now (charges .entry)) (now (ends .entry)) (now (entries .entry)) (now (carried .entry)) (now (numbers .entry)) (now (pool .entry))) (now (kept .entry))) ⌝ }
+    ensures { λ t. ⌜ toldFrom (t .number) (t .line) (t .place) (t .used) (busOf (now (peers .exit)) (now (nodes .exit)) (now (handles .exit)) (now (charges .exit)) (now (ends .exit)) (now (entries .exit)) (now (carried .exit)) (now (numbers .exit)) (now (pool .exit)) (now (seeds .exit))) ≡ toldOf (recovered (busOf (now (peers .entry)) (now (nodes .entry)) (now (handles .entry)) (now (charges .entry)) (now (ends .entry)) (now (entries .entry)) (now (carried .entry)) (now (numbers .entry)) (now (pool .entry)) (now (seeds .entry))) (now (kept .entry))) ⌝ }
 {
     let r = recovery::recover(
         peers,
@@ -75,6 +76,7 @@ pub extern "C" fn eikelzwier_recover(
         carried,
         numbers,
         pool,
+        seeds,
         kept,
     );
     told(r)

@@ -24,22 +24,18 @@ module _ (n p nd nh nb : ℕ) (over : Bool) (e : over ≡ oversized nd nh nb) wh
   unfolding parseSizes
   sizes-peer h = rw (lt-ltb 7 p h)
 
-  pub sizes-none : p ≤ 7 → nd ≡ 0 → Refused EINVAL ≡ parseSizes n p nd nh nb
+  pub sizes-over : p ≤ 7 → over ≡ true → Refused EMSGSIZE ≡ parseSizes n p nd nh nb
   unfolding parseSizes
-  sizes-none h k = rw (le-ltb 7 p h, k)
+  sizes-over h t = rw (le-ltb 7 p h, ← e, t)
 
-  pub sizes-over : p ≤ 7 → (nd ≡ 0 → ⊥) → over ≡ true → Refused EMSGSIZE ≡ parseSizes n p nd nh nb
+  pub sizes-length : p ≤ 7 → over ≡ false → (n ≡ 6 + 8 * (nd + nh) + nb → ⊥) → Refused EINVAL ≡ parseSizes n p nd nh nb
   unfolding parseSizes
-  sizes-over h k t = rw (le-ltb 7 p h, ne-eqb nd 0 k, ← e, t)
+  sizes-length h t l = rw (le-ltb 7 p h, ← e, t, ne-eqb n (6 + 8 * (nd + nh) + nb) l)
 
-  pub sizes-length : p ≤ 7 → (nd ≡ 0 → ⊥) → over ≡ false → (n ≡ 6 + 8 * (nd + nh) + nb → ⊥) → Refused EINVAL ≡ parseSizes n p nd nh nb
-  unfolding parseSizes
-  sizes-length h k t l = rw (le-ltb 7 p h, ne-eqb nd 0 k, ← e, t, ne-eqb n (6 + 8 * (nd + nh) + nb) l)
-
-  pub sizes-read : p ≤ 7 → (nd ≡ 0 → ⊥) → over ≡ false → n ≡ 6 + 8 * (nd + nh) + nb →
+  pub sizes-read : p ≤ 7 → over ≡ false → n ≡ 6 + 8 * (nd + nh) + nb →
       Read (Send (record { 0 = p }) (record { nd = nd; nh = nh; nb = nb })) ≡ parseSizes n p nd nh nb
   unfolding parseSizes
-  sizes-read h k t l = rw (le-ltb 7 p h, ne-eqb nd 0 k, ← e, t, eq-eqb n (6 + 8 * (nd + nh) + nb) l)
+  sizes-read h t l = rw (le-ltb 7 p h, ← e, t, eq-eqb n (6 + 8 * (nd + nh) + nb) l)
 
 module _ (f : List ℕ) where
   pub send-short : length f < 6 → Refused EINVAL ≡ parseSend f
@@ -67,9 +63,9 @@ module _ (f : List ℕ) where
 pub sized : (n op k : ℕ) → n ≡ frameLength op → op ≡ k → n ≡ frameLength k
 sized n op k h e = rw (← e) h
 
-pub sized-else : (n op : ℕ) → n ≡ frameLength op → (op ≡ 1 → ⊥) → (op ≡ 2 → ⊥) → (op ≡ 6 → ⊥) → (op ≡ 8 → ⊥) → (op ≡ 9 → ⊥) → n ≡ 10
+pub sized-else : (n op : ℕ) → n ≡ frameLength op → (op ≡ 1 → ⊥) → (op ≡ 2 → ⊥) → (op ≡ 6 → ⊥) → (op ≡ 8 → ⊥) → (op ≡ 9 → ⊥) → (op ≡ 12 → ⊥) → n ≡ 10
 unfolding frameLength
-sized-else n op h a b c d e = rw (ne-eqb op 1 a, ne-eqb op 2 b, ne-eqb op 6 c, ne-eqb op 8 d, ne-eqb op 9 e) at h
+sized-else n op h a b c d e g = rw (ne-eqb op 1 a, ne-eqb op 2 b, ne-eqb op 6 c, ne-eqb op 8 d, ne-eqb op 9 e, ne-eqb op 12 g) at h
 
 pub two-bytes : (n op : ℕ) → n ≡ frameLength op → 2 ≤ n
 unfolding frameLength
@@ -80,14 +76,15 @@ two-bytes n op e =
     (pick-all least (eqb op 2) 2 _ (omega arith)
     (pick-all least (eqb op 6) 11 _ (omega arith)
     (pick-all least (eqb op 8) 4 _ (omega arith)
-    (pick-all least (eqb op 9) 3 10 (omega arith) (omega arith))))))
+    (pick-all least (eqb op 9) 3 _ (omega arith)
+    (pick-all least (eqb op 12) 4 10 (omega arith) (omega arith)))))))
 
 -- The holders question is what is left of the commands.
 pub rest-else : (op : ℕ) (p : Peer) (f : List ℕ) → (op ≡ 1 → ⊥) → (op ≡ 2 → ⊥) → (op ≡ 3 → ⊥) → (op ≡ 4 → ⊥) → (op ≡ 5 → ⊥) → (op ≡ 6 → ⊥) → (op ≡ 8 → ⊥) →
-    (op ≡ 9 → ⊥) → (i : HandleId) → i ≡ idAt f 2 → Read (Holders p i) ≡ parseRest op p f
+    (op ≡ 9 → ⊥) → (op ≡ 12 → ⊥) → (i : HandleId) → i ≡ idAt f 2 → Read (Holders p i) ≡ parseRest op p f
 unfolding parseRest
-rest-else op p f a b c d e g h j i t =
-    rw (ne-eqb op 1 a, ne-eqb op 2 b, ne-eqb op 3 c, ne-eqb op 4 d, ne-eqb op 5 e, ne-eqb op 6 g, ne-eqb op 8 h, ne-eqb op 9 j, ← t)
+rest-else op p f a b c d e g h j k i t =
+    rw (ne-eqb op 1 a, ne-eqb op 2 b, ne-eqb op 3 c, ne-eqb op 4 d, ne-eqb op 5 e, ne-eqb op 6 g, ne-eqb op 8 h, ne-eqb op 9 j, ne-eqb op 12 k, ← t)
 
 module _ (f : List ℕ) where
   pub parse-empty : length f ≡ 0 → Refused EINVAL ≡ parse f
@@ -102,13 +99,17 @@ module _ (f : List ℕ) where
   unfolding parse
   parse-zero h e = rw (ne-eqb (length f) 0 h, e)
 
-  pub parse-over : (length f ≡ 0 → ⊥) → (getD f 0 0 ≡ 0 → ⊥) → 10 < getD f 0 0 → Refused ENOTTY ≡ parse f
+  pub parse-eleven : (length f ≡ 0 → ⊥) → getD f 0 0 ≡ 11 → Refused ENOTTY ≡ parse f
   unfolding parse
-  parse-over h z e = rw (ne-eqb (length f) 0 h, ne-eqb (getD f 0 0) 0 z, lt-leb (getD f 0 0) 10 e)
+  parse-eleven h e = rw (ne-eqb (length f) 0 h, e)
 
-  pub parse-other : (r : Parsed) → (length f ≡ 0 → ⊥) → (getD f 0 0 ≡ 7 → ⊥) → (getD f 0 0 ≡ 0 → ⊥) → getD f 0 0 ≤ 10 → r ≡ parseOther f → r ≡ parse f
+  pub parse-over : (length f ≡ 0 → ⊥) → (getD f 0 0 ≡ 0 → ⊥) → (getD f 0 0 ≡ 11 → ⊥) → 12 < getD f 0 0 → Refused ENOTTY ≡ parse f
   unfolding parse
-  parse-other r h s z e k = rw (ne-eqb (length f) 0 h, ne-eqb (getD f 0 0) 0 z, le-leb (getD f 0 0) 10 e, ne-eqb (getD f 0 0) 7 s) k
+  parse-over h z y e = rw (ne-eqb (length f) 0 h, ne-eqb (getD f 0 0) 0 z, ne-eqb (getD f 0 0) 11 y, lt-leb (getD f 0 0) 12 e)
+
+  pub parse-other : (r : Parsed) → (length f ≡ 0 → ⊥) → (getD f 0 0 ≡ 7 → ⊥) → (getD f 0 0 ≡ 0 → ⊥) → (getD f 0 0 ≡ 11 → ⊥) → getD f 0 0 ≤ 12 → r ≡ parseOther f → r ≡ parse f
+  unfolding parse
+  parse-other r h s z y e k = rw (ne-eqb (length f) 0 h, ne-eqb (getD f 0 0) 0 z, ne-eqb (getD f 0 0) 11 y, le-leb (getD f 0 0) 12 e, ne-eqb (getD f 0 0) 7 s) k
 
   pub id-past : (k : ℕ) → length f < 14 + 8 * k → invalidId ≡ sendId f k
   unfolding sendId

@@ -31,7 +31,7 @@ examples =
     ∷ answers (7 ∷ 0 ∷ 9 ∷ 0 ∷ 0 ∷ []) 22
     -- peer 8 and nd 9; nd 0 and nh 9; nd 9 and a wrong length; nh 9; 513 bytes
     ∷ answers (7 ∷ 8 ∷ 9 ∷ 0 ∷ 0 ∷ 0 ∷ []) 22
-    ∷ answers (7 ∷ 0 ∷ 0 ∷ 9 ∷ 255 ∷ 255 ∷ []) 22
+    ∷ answers (7 ∷ 0 ∷ 0 ∷ 9 ∷ 255 ∷ 255 ∷ []) 90
     ∷ answers (7 ∷ 0 ∷ 9 ∷ 0 ∷ 0 ∷ 0 ∷ []) 90
     ∷ answers (7 ∷ 0 ∷ 1 ∷ 9 ∷ 0 ∷ 0 ∷ []) 90
     ∷ answers (7 ∷ 0 ∷ 1 ∷ 0 ∷ 2 ∷ 1 ∷ []) 90
@@ -39,6 +39,16 @@ examples =
     ∷ answers (7 ∷ 0 ∷ 1 ∷ 0 ∷ 2 ∷ 0 ∷ []) 22
     ∷ answers (7 ∷ 0 ∷ 1 ∷ 0 ∷ 0 ∷ 0 ∷ 0 ∷ 0 ∷ 0 ∷ 0 ∷ 0 ∷ 0 ∷ 0 ∷ 8 ∷ []) 0
     ∷ answers (7 ∷ 0 ∷ 1 ∷ 0 ∷ 0 ∷ 0 ∷ 0 ∷ 0 ∷ 0 ∷ 0 ∷ 0 ∷ 0 ∷ 0 ∷ 8 ∷ 51 ∷ []) 22
+    -- nd 0, a seed (02 No. 1): the empty one; an ID announced and none there; one byte
+    ∷ answers (7 ∷ 0 ∷ 0 ∷ 0 ∷ 0 ∷ 0 ∷ []) 0
+    ∷ answers (7 ∷ 0 ∷ 0 ∷ 1 ∷ 0 ∷ 0 ∷ []) 22
+    ∷ answers (7 ∷ 0 ∷ 0 ∷ 0 ∷ 0 ∷ 1 ∷ 51 ∷ []) 0
+    -- 0c: of 4 bytes; of 3 and of 5; peer 8; 0d is unknown
+    ∷ answers (12 ∷ 7 ∷ 2 ∷ 88 ∷ []) 0
+    ∷ answers (12 ∷ 7 ∷ 2 ∷ []) 22
+    ∷ answers (12 ∷ 7 ∷ 2 ∷ 88 ∷ 0 ∷ []) 22
+    ∷ answers (12 ∷ 8 ∷ 2 ∷ 88 ∷ []) 22
+    ∷ answers (13 ∷ 7 ∷ 2 ∷ 88 ∷ []) 25
     -- open: user 3, user 4, a byte too few
     ∷ answers (1 ∷ 7 ∷ 3 ∷ []) 0
     ∷ answers (1 ∷ 7 ∷ 4 ∷ []) 22

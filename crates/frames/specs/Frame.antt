@@ -11,7 +11,7 @@ use Rattle.ids.specs.Refusals.{EINVAL, ENOTTY, EMSGSIZE}
 pub use Rattle.ids.specs.Sizes.{mostIds, mostBytes}
 use Rattle.ids.specs.declared.HandleId.{HandleId}
 use Rattle.ids.specs.declared.Peer.{Peer}
-use Rattle.frames.specs.declared.Command.the-variants.{Open, Disconnect, Create, Destroy, Release, Transfer, Send, Receive, Quota, Holders}
+use Rattle.frames.specs.declared.Command.the-variants.{Open, Disconnect, Create, Destroy, Release, Transfer, Send, Receive, Quota, Holders, ShowSeed}
 use Rattle.frames.specs.declared.Parsed.{Parsed}
 use Rattle.frames.specs.declared.Parsed.the-variants.{Read, Refused}
 
@@ -52,13 +52,12 @@ oversized nd nh nb = pick (ltb mostIds nd) true (pick (ltb mostIds nh) true (ltb
 abbrev pub sendLength : ℕ → ℕ → ℕ → ℕ
 sendLength nd nh nb = 6 + 8 * (nd + nh) + nb
 
--- "then peer, then nd 0, then EMSGSIZE, then length", of a frame of n bytes.
+-- "then peer, .. then EMSGSIZE, then length", of a frame of n bytes. nd 0 is a seed (02 No. 1).
 unfoldable pub parseSizes : ℕ → ℕ → ℕ → ℕ → ℕ → Parsed
 parseSizes n p nd nh nb =
     invalidIf (ltb lastPeer p)
-    (invalidIf (eqb nd 0)
     (pick (oversized nd nh nb) (Refused EMSGSIZE)
-    (pick (eqb n (sendLength nd nh nb)) (Read (Send (record { 0 = p }) (record { nd = nd; nh = nh; nb = nb }))) (Refused EINVAL))))
+    (pick (eqb n (sendLength nd nh nb)) (Read (Send (record { 0 = p }) (record { nd = nd; nh = nh; nb = nb }))) (Refused EINVAL)))
 
 -- 07: nd (1), nh (1), nb (2), nd IDs, nh IDs, nb payload bytes. "for send, a frame under 6 bytes, then ..".
 unfoldable pub parseSend : List ℕ → Parsed
@@ -71,7 +70,8 @@ frameLength op =
     (pick (eqb op 2) 2
     (pick (eqb op 6) 11
     (pick (eqb op 8) 4
-    (pick (eqb op 9) 3 10))))
+    (pick (eqb op 9) 3
+    (pick (eqb op 12) 4 10)))))
 
 -- 01 open: user (1).
 unfoldable pub parseOpen : Peer → ℕ → Parsed
@@ -100,7 +100,8 @@ parseRest op p f =
     (pick (eqb op 6) (parseTransfer p (idAt f 2) (getD f 10 0))
     (pick (eqb op 8) (Read (Receive p (shortAt f 2)))
     (pick (eqb op 9) (parseQuota p (getD f 2 0))
-    (Read (Holders p (idAt f 2))))))))))
+    (pick (eqb op 12) (Read (ShowSeed p (shortAt f 2)))
+    (Read (Holders p (idAt f 2)))))))))))
 
 -- "for others length, then the rest of EINVAL".
 unfoldable pub parseOther : List ℕ → Parsed
@@ -109,9 +110,9 @@ parseOther f =
     (invalidIf (ltb lastPeer (getD f 1 0)) (parseRest (opcode f) (peerAt f 1) f))
     (Refused EINVAL)
 
--- ENOTTY: "command byte unknown"; the known ones are 01 to 0a.
+-- ENOTTY: "command byte unknown"; the known ones are 01 to 0a and 0c.
 abbrev pub known : ℕ → Bool
-known op = pick (eqb op 0) false (leb op 10)
+known op = pick (eqb op 0) false (pick (eqb op 11) false (leb op 12))
 
 -- "empty frame; ENOTTY; for send, ..; for others ..".
 unfoldable pub parse : List ℕ → Parsed

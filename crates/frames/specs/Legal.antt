@@ -10,12 +10,12 @@ use mathlib.Core.List.{List}
 use native.Mathlib.Omega.{arith}
 use lib.ListN.{length, getD, length-drop}
 use lib.Dec.{eqb, ltb}
-use borrow.Author.Tests.{ltb-false, eqb-true, eqb-false}
+use borrow.Author.Tests.{ltb-false, eqb-true}
 use Rattle.ids.specs.Refusals.{EINVAL, EMSGSIZE, ENOTTY}
 use Rattle.laws.specs.Tests.{pick, pick-cases, pick-all, pick-else, clash}
 use Rattle.ids.specs.declared.Peer.{Peer}
 use Rattle.frames.specs.declared.Command.{Command}
-use Rattle.frames.specs.declared.Command.the-variants.{Open, Disconnect, Create, Destroy, Release, Transfer, Send, Receive, Quota, Holders}
+use Rattle.frames.specs.declared.Command.the-variants.{Open, Disconnect, Create, Destroy, Release, Transfer, Send, Receive, Quota, Holders, ShowSeed}
 use Rattle.frames.specs.declared.Sizes.{Sizes}
 use Rattle.frames.specs.declared.Parsed.{Parsed}
 use Rattle.frames.specs.declared.Parsed.the-variants.{Read, Refused}
@@ -26,7 +26,6 @@ pub record Sized (f : List ℕ) (z : Sizes) : Type 0 where
   pub destinations : z .nd ≡ getD f 2 0
   pub attached : z .nh ≡ getD f 3 0
   pub bytes : z .nb ≡ shortAt f 4
-  pub some : 0 < z .nd
   pub few : z .nd ≤ mostIds
   pub few-attached : z .nh ≤ mostIds
   pub small : z .nb ≤ mostBytes
@@ -44,6 +43,7 @@ Legal f (Send p z) = (p .0 ≤ lastPeer) × Sized f z
 Legal f (Receive p r) = p .0 ≤ lastPeer
 Legal f (Quota p u) = (p .0 ≤ lastPeer) × (u .0 ≤ lastUser)
 Legal f (Holders p i) = p .0 ≤ lastPeer
+Legal f (ShowSeed p r) = p .0 ≤ lastPeer
 
 abbrev pub Outcome : List ℕ → Parsed → Type 0
 Outcome f (Read c) = Legal f c
@@ -72,7 +72,6 @@ legal-send f =
     let nb = shortAt f 4 in
     unless f (ltb (length f) 6) _ (λ long.
     unless f (ltb lastPeer p) _ (λ peer.
-    unless f (eqb nd 0) _ (λ some.
     pick-cases (Outcome f) (oversized nd nh nb) (Refused EMSGSIZE) _ (λ over. inr (inr refl)) (λ sizes.
     pick-cases (Outcome f) (eqb (length f) (sendLength nd nh nb)) _ (Refused EINVAL) (λ whole.
     let b = in-bounds nd nh nb sizes in (
@@ -81,14 +80,13 @@ legal-send f =
         destinations = refl;
         attached = refl;
         bytes = refl;
-        some = let z : nd ≡ 0 → ⊥ = eqb-false nd 0 some in omega arith;
         few = b .0;
         few-attached = b .1;
         small = b .2;
         whole = eqb-true (length f) (sendLength nd nh nb) whole;
       },
     ))
-    (λ other. invalid f)))))
+    (λ other. invalid f))))
 
 legal-rest : (f : List ℕ) (op : ℕ) (p : Peer) → p .0 ≤ lastPeer → Outcome f (parseRest op p f)
 unfolding parseRest parseOpen parseCreate parseTransfer parseQuota
@@ -101,7 +99,7 @@ legal-rest f op p h =
     (pick-all (Outcome f) (eqb op 6) _ _ (unless f (ltb lastPeer (getD f 10 0)) _ (λ e. (h, ltb-false lastPeer (getD f 10 0) e)))
     (pick-all (Outcome f) (eqb op 8) _ _ h
     (pick-all (Outcome f) (eqb op 9) _ _ (unless f (ltb lastUser (getD f 2 0)) _ (λ e. (h, ltb-false lastUser (getD f 2 0) e)))
-    h)))))))
+    (pick-all (Outcome f) (eqb op 12) _ _ h h))))))))
 
 legal-other : (f : List ℕ) → Outcome f (parseOther f)
 unfolding parseOther

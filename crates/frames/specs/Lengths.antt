@@ -15,7 +15,7 @@ use Rattle.frames.specs.declared.Parsed.the-variants.{Read, Refused}
 use Rattle.frames.specs.Frame.{invalidIf, lastPeer, mostIds, mostBytes, peerAt, opcode, shortAt, oversized, known, sendLength, frameLength, parseSizes, parseSend, parseRest, parseOther, parse}
 use Rattle.frames.specs.Legal.{in-bounds}
 
--- "One send: 1 to 8 destinations, 0 to 8 attached handles, 0 to 512 payload bytes": the bytes of the longest.
+-- "One send: 1 to 8 destinations, 0 to 8 attached handles, 0 to 512 payload bytes", and by 02 No. 1 a seed with none: the bytes of the longest.
 abbrev pub longestFrame : ℕ
 longestFrame = sendLength mostIds mostIds mostBytes
 
@@ -38,7 +38,8 @@ short-length op =
     (pick-all (λ (n : ℕ). n ≤ longestFrame) (eqb op 2) 2 _ (omega arith)
     (pick-all (λ (n : ℕ). n ≤ longestFrame) (eqb op 6) 11 _ (omega arith)
     (pick-all (λ (n : ℕ). n ≤ longestFrame) (eqb op 8) 4 _ (omega arith)
-    (pick-all (λ (n : ℕ). n ≤ longestFrame) (eqb op 9) 3 10 (omega arith) (omega arith)))))
+    (pick-all (λ (n : ℕ). n ≤ longestFrame) (eqb op 9) 3 _ (omega arith)
+    (pick-all (λ (n : ℕ). n ≤ longestFrame) (eqb op 12) 4 10 (omega arith) (omega arith))))))
 
 short-other : (f : List ℕ) → Short f (parseOther f)
 unfolding parseOther
@@ -57,11 +58,10 @@ short-send f =
     let nb = shortAt f 4 in
     pick-all (Short f) (ltb (length f) 6) (Refused EINVAL) _ tt
     (pick-all (Short f) (ltb lastPeer (getD f 1 0)) (Refused EINVAL) _ tt
-    (pick-all (Short f) (eqb nd 0) (Refused EINVAL) _ tt
     (pick-cases (Short f) (oversized nd nh nb) (Refused EMSGSIZE) _ (λ over. tt) (λ sizes.
     pick-cases (Short f) (eqb (length f) (sendLength nd nh nb)) _ (Refused EINVAL)
     (λ whole. let b = in-bounds nd nh nb sizes in omega (arith, b .0, b .1, b .2, eqb-true (length f) (sendLength nd nh nb) whole))
-    (λ other. tt)))))
+    (λ other. tt))))
 
 short : (f : List ℕ) → Short f (parse f)
 unfolding parse

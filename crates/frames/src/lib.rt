@@ -27,7 +27,7 @@ pub struct Sizes {
     pub nb: usize,
 }
 
-// The ten commands. The first peer is the acting one.
+// The eleven commands. The first peer is the acting one.
 pub enum Command {
     Open(Peer, User),
     Disconnect(Peer),
@@ -39,6 +39,7 @@ pub enum Command {
     Receive(Peer, usize),
     Quota(Peer, User),
     Holders(Peer, HandleId),
+    ShowSeed(Peer, usize),
 }
 
 // What a frame says: a command, or the number of its refusal.
@@ -103,9 +104,6 @@ fn parse_sizes(n: usize, p: u8, nd: u8, nh: u8, nb: usize) -> Parsed
     if LAST_PEER < p {
         return Parsed::Refused(EINVAL);
     }
-    if nd == 0 {
-        return Parsed::Refused(EINVAL);
-    }
     if over {
         return Parsed::Refused(EMSGSIZE);
     }
@@ -133,6 +131,7 @@ fn frame_length(op: u8) -> usize
         6 => 11,
         8 => 4,
         9 => 3,
+        12 => 4,
         _ => 10,
     }
 }
@@ -186,6 +185,7 @@ fn parse_rest(op: u8, p: Peer, f: &[u8]) -> Parsed
         6 => parse_transfer(p, id_at(f, 2), f[10]),
         8 => Parsed::Read(Command::Receive(p, short_at(f, 2))),
         9 => parse_quota(p, f[2]),
+        12 => Parsed::Read(Command::ShowSeed(p, short_at(f, 2))),
         _ => Parsed::Read(Command::Holders(p, id_at(f, 2))),
     }
 }
@@ -219,7 +219,10 @@ pub fn parse(frame: &[u8]) -> Parsed
     if op == 0 {
         return Parsed::Refused(ENOTTY);
     }
-    if 10 < op {
+    if op == 11 {
+        return Parsed::Refused(ENOTTY);
+    }
+    if 12 < op {
         return Parsed::Refused(ENOTTY);
     }
     parse_other(frame)

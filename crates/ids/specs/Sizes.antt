@@ -65,8 +65,13 @@ entryFields = 5
 abbrev pub carriedFields : ℕ
 carriedFields = mostIds
 
+-- A seed's row: whether it is set, how many slots it carries, its payload's length in two bytes, and the slots.
+abbrev pub seedFields : ℕ
+seedFields = 4 + mostIds
+
 -- The elements of each lent table: the accepted commands and a row for each peer; a row for each slot; for each peer a block of its handles and one of its list, a row for each slot, and
--- behind the blocks a row for each peer; the head and the length of each queue; the three tables of the rings; the areas.
+-- behind the blocks a row for each peer; the head and the length of each queue; the three tables of the rings; the areas; a
+-- row for each peer's seed, and behind the rows each seed's payload.
 abbrev pub peersSize : ℕ
 peersSize = 1 + peerFields * peers
 
@@ -91,6 +96,9 @@ numbersSize = rowCount
 abbrev pub poolSize : ℕ
 poolSize = peers * areaSize
 
+abbrev pub seedsSize : ℕ
+seedsSize = peers * seedFields + peers * mostBytes
+
 pub peers-size : peersSize ≡ 25
 peers-size = refl
 
@@ -114,3 +122,6 @@ numbers-size = refl
 
 pub pool-size : poolSize ≡ 32768
 pool-size = refl
+
+pub seeds-size : seedsSize ≡ 4192
+seeds-size = refl

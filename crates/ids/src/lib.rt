@@ -96,8 +96,12 @@ pub const ENTRY_FIELDS: usize = 5;
 
 pub const CARRIED_FIELDS: usize = MOST_IDS;
 
+// A seed's row: whether it is set, how many slots it carries, its payload's length in two bytes, and the slots.
+pub const SEED_FIELDS: usize = 4 + MOST_IDS;
+
 // The elements of each lent table: docs/BUFFERS.md. The table of peers begins with the accepted commands; the table of
-// handles has for each peer a block of its handles and one of its list, and behind the blocks a row for each peer.
+// handles has for each peer a block of its handles and one of its list, and behind the blocks a row for each peer; the table of
+// seeds has a row for each peer, and behind the rows the payload of each.
 pub const PEERS_SIZE: usize = 1 + PEER_FIELDS * PEERS;
 
 pub const NODES_SIZE: usize = NODE_FIELDS * NODES;
@@ -115,3 +119,8 @@ pub const CARRIED_SIZE: usize = CARRIED_FIELDS * ROWS;
 pub const NUMBERS_SIZE: usize = ROWS;
 
 pub const POOL_SIZE: usize = PEERS * AREA;
+
+// Where the payloads begin in the table of seeds.
+pub const SEED_BYTES: usize = SEED_FIELDS * PEERS;
+
+pub const SEEDS_SIZE: usize = SEED_BYTES + MOST_BYTES * PEERS;

@@ -25,7 +25,7 @@ use Rattle.judges.specs.declared.Order.{Order}
 use Rattle.judges.specs.declared.Order.the-variants as order
 use Rattle.judges.specs.declared.Ruling.{Ruling}
 use Rattle.judges.specs.Orders.{sight, rulingOf}
-use Rattle.bus.specs.Command.{Done, doneOf, soundOk, carriedOut, commandOf}
+use Rattle.bus_model.specs.Command.{Done, doneOf, soundOk, carriedOut, commandOf}
 use Rattle.journal_model.specs.Journal.{WithJournal, withJournal, outcomeWith, returnedWith, appendedOf, obeyedWith, commandWith}
 use Rattle.journal_model.specs.Counted.{changing, unsound-uncounted, refused-uncounted, read-counted, command-read}
 use Rattle.journal.specs.Steps.{appendWritten, journalAfter, executedWith}
@@ -131,7 +131,7 @@ module _ (b : Bus) (f out j : List ℕ) (u : ℕ) (h : answerSize ≤ length out
           rw (le-ltb (length j) u l, refused-uncounted b f out long (sym ex ∙ en), long, ← e, t, ← ex, en, ek, w .0, w .1) refl
 
       pub kept-read : {c : Command} → x ≡ Read c → {d : WithJournal} →
-          d ≡ executedWith b f out (rulingOf (sight (b .peers) (b .nodes) (b .handles) (b .charges) (b .rings)) f c) j u → d ≡ obeyedWith b f out j u
+          d ≡ executedWith b f out (rulingOf (sight (b .peers) (b .nodes) (b .handles) (b .charges) (b .rings) (b .seeds)) f c) j u → d ≡ obeyedWith b f out j u
       unfolding obeyedWith appendedOf executedWith
       kept-read {c = c} ec k =
           let q : parse f ≡ Read c = sym ex ∙ ec in

@@ -11,7 +11,7 @@ use Rattle.lines.specs.declared.Written.the-variants.{Next}
 use Rattle.view.specs.View.{Bus}
 use Rattle.judges.specs.declared.Order.{Order}
 use Rattle.judges.specs.declared.Ruling.{Ruling}
-use Rattle.bus.specs.Command.{refusedBy, carriedOut}
+use Rattle.bus_model.specs.Command.{refusedBy, carriedOut}
 use Rattle.journal_model.specs.Journal.{WithJournal, withJournal}
 use Rattle.journal_model.specs.Counted.{changing}
 

@@ -66,21 +66,36 @@ fn execute(
     carried: &mut [u8],
     numbers: &mut [u64],
     pool: &mut [u8],
+    seeds: &mut [u8],
     f: &[u8],
     c: Command,
     out: &mut [u8],
     journal: &mut [u8],
     used: usize,
 ) -> JournalOutcome
-    requires { ⌜ Shape (busOf (now ps) (now ns) (now hs) (now cs) (now ends) (now es) (now carried) (now numbers) (now pool)) × Short (now ends) × Legal (now f) c × (answerSize ≤ length (now out)) ⌝ }
-    ensures { λ k. ⌜ returnedWith k (busOf (now (ps .exit)) (now (ns .exit)) (now (hs .exit)) (now (cs .exit)) (now (ends .exit)) (now (es .exit)) (now (carried .exit)) (now (numbers .exit)) (now (pool .exit))) (now (out .exit)) (now (journal .exit)) ≡ executedWith (busOf (now (ps .entry)) (now (ns .entry)) (now (hs .entry)) (now (cs .entry)) (now (ends .entry)) (now (es .entry)) (now (carried .entry)) (now (numbers .entry)) (now (pool .entry))) (now (f .entry)) (now (out .entry)) (rulingOf (sight (now (ps .entry)) (now (ns .entry)) (now (hs .entry)) (now (cs .entry)) (ringsOf (now (ends .entry)) (now (es .entry)) (now (carried .entry)) (now (numbers .entry)))) (now (f .entry)) c) (now (journal .entry)) used ⌝ }
+    requires { ⌜ Shape (busOf (now ps) (now ns) (now hs) (now cs) (now ends) (now es) (now carried) (now numbers) (now pool) (now seeds)) × Short (now ends) × Legal (now f) c × (answerSize ≤ length (now out)) ⌝ }
+    ensures { λ k. ⌜ returnedWith k (busOf (now (ps .exit)) (now (ns .exit)) (now (hs .exit)) (now (cs .exit)) (now (ends .exit)) (now (es .exit)) (now (carried .exit)) (now (numbers .exit)) (now (pool .exit)) (now (seeds .exit))) (now (out .exit)) (now (journal .exit)) ≡ executedWith (busOf (now (ps .entry)) (now (ns .entry)) (now (hs .entry)) (now (cs .entry)) (now (ends .entry)) (now (es .entry)) (now (carried .entry)) (now (numbers .entry)) (now (pool .entry)) (now (seeds .entry))) (now (f .entry)) (now (out .entry)) (rulingOf (sight (now (ps .entry)) (now (ns .entry)) (now (hs .entry)) (now (cs .entry)) (ringsOf (now (ends .entry)) (now (es .entry)) (now (carried .entry)) (now (numbers .entry))) (now (seeds .entry))) (now (f .entry)) c) (now (journal .entry)) used ⌝ }
 {
-    let r = judges::judge(ps, ns, hs, cs, ends, es, carried, numbers, f, c);
+    let r = judges::judge(ps, ns, hs, cs, ends, es, carried, numbers, seeds, f, c);
     let order = r.order;
     let Written::Next(next) = append_line(journal, used, f, order) else {
         return with_used(answers::write_refusal(out, EFBIG), used);
     };
-    let o = bus::carry_out(ps, ns, hs, cs, ends, es, carried, numbers, pool, f, r, out);
+    let o = execution::carry_out(
+        ps,
+        ns,
+        hs,
+        cs,
+        ends,
+        es,
+        carried,
+        numbers,
+        pool,
+        seeds,
+        f,
+        r,
+        out,
+    );
     with_used(o, next)
 }
 
@@ -95,18 +110,19 @@ fn obey(
     carried: &mut [u8],
     numbers: &mut [u64],
     pool: &mut [u8],
+    seeds: &mut [u8],
     f: &[u8],
     out: &mut [u8],
     journal: &mut [u8],
     used: usize,
 ) -> JournalOutcome
     requires { ⌜ answerSize ≤ length (now out) ⌝ }
-    ensures { λ k. ⌜ returnedWith k (busOf (now (ps .exit)) (now (ns .exit)) (now (hs .exit)) (now (cs .exit)) (now (ends .exit)) (now (es .exit)) (now (carried .exit)) (now (numbers .exit)) (now (pool .exit))) (now (out .exit)) (now (journal .exit)) ≡ obeyedWith (busOf (now (ps .entry)) (now (ns .entry)) (now (hs .entry)) (now (cs .entry)) (now (ends .entry)) (now (es .entry)) (now (carried .entry)) (now (numbers .entry)) (now (pool .entry))) (now (f .entry)) (now (out .entry)) (now (journal .entry)) used ⌝ }
+    ensures { λ k. ⌜ returnedWith k (busOf (now (ps .exit)) (now (ns .exit)) (now (hs .exit)) (now (cs .exit)) (now (ends .exit)) (now (es .exit)) (now (carried .exit)) (now (numbers .exit)) (now (pool .exit)) (now (seeds .exit))) (now (out .exit)) (now (journal .exit)) ≡ obeyedWith (busOf (now (ps .entry)) (now (ns .entry)) (now (hs .entry)) (now (cs .entry)) (now (ends .entry)) (now (es .entry)) (now (carried .entry)) (now (numbers .entry)) (now (pool .entry)) (now (seeds .entry))) (now (f .entry)) (now (out .entry)) (now (journal .entry)) used ⌝ }
 {
     if journal.len() < used {
         return with_used(answers::write_refusal(out, EIO), used);
     }
-    if !bus::is_sound(ps, ns, hs, cs, ends, es, carried, numbers, pool) {
+    if !bus::is_sound(ps, ns, hs, cs, ends, es, carried, numbers, pool, seeds) {
         return with_used(answers::write_refusal(out, EIO), used);
     }
     match frames::parse(f) {
@@ -121,6 +137,7 @@ fn obey(
             carried,
             numbers,
             pool,
+            seeds,
             f,
             c,
             out,
@@ -143,12 +160,13 @@ pub fn command_with_journal(
     carried: &mut [u8],
     numbers: &mut [u64],
     pool: &mut [u8],
+    seeds: &mut [u8],
     f: &[u8],
     out: &mut [u8],
     journal: &mut [u8],
     used: usize,
 ) -> JournalOutcome
-    ensures { λ k. ⌜ returnedWith k (busOf (now (ps .exit)) (now (ns .exit)) (now (hs .exit)) (now (cs .exit)) (now (ends .exit)) (now (es .exit)) (now (carried .exit)) (now (numbers .exit)) (now (pool .exit))) (now (out .exit)) (now (journal .exit)) ≡ commandWith (busOf (now (ps .entry)) (now (ns .entry)) (now (hs .entry)) (now (cs .entry)) (now (ends .entry)) (now (es .entry)) (now (carried .entry)) (now (numbers .entry)) (now (pool .entry))) (now (f .entry)) (now (out .entry)) (now (journal .entry)) used ⌝ }
+    ensures { λ k. ⌜ returnedWith k (busOf (now (ps .exit)) (now (ns .exit)) (now (hs .exit)) (now (cs .exit)) (now (ends .exit)) (now (es .exit)) (now (carried .exit)) (now (numbers .exit)) (now (pool .exit)) (now (seeds .exit))) (now (out .exit)) (now (journal .exit)) ≡ commandWith (busOf (now (ps .entry)) (now (ns .entry)) (now (hs .entry)) (now (cs .entry)) (now (ends .entry)) (now (es .entry)) (now (carried .entry)) (now (numbers .entry)) (now (pool .entry)) (now (seeds .entry))) (now (f .entry)) (now (out .entry)) (now (journal .entry)) used ⌝ }
 {
     if out.len() < ANSWER_SIZE {
         return JournalOutcome {
@@ -167,6 +185,7 @@ pub fn command_with_journal(
         carried,
         numbers,
         pool,
+        seeds,
         f,
         out,
         journal,

@@ -12,7 +12,7 @@ use borrow.Author.Tests.{ne-eqb}
 use Rattle.laws.specs.Tests.{pick, Seen, Seen.is-true, Seen.is-false, look, clash}
 use Rattle.ids.specs.Refusals.{EINVAL, EIO}
 use Rattle.frames.specs.declared.Command.{Command}
-use Rattle.frames.specs.declared.Command.the-variants.{Open, Disconnect, Create, Destroy, Release, Transfer, Send, Receive, Quota, Holders}
+use Rattle.frames.specs.declared.Command.the-variants.{Open, Disconnect, Create, Destroy, Release, Transfer, Send, Receive, Quota, Holders, ShowSeed}
 use Rattle.frames.specs.declared.Parsed.the-variants.{Read, Refused}
 use Rattle.frames.specs.Frame.{parse}
 use Rattle.frames.specs.Legal.{Outcome as Read-as, legal}
@@ -24,8 +24,8 @@ use Rattle.judges.specs.declared.Order.the-variants as order
 use Rattle.judges.specs.declared.Places.{Places}
 use Rattle.judges.specs.Orders.{Sight, sight, resolved, placesIn, unlessAt, rulingOf}
 use Rattle.effects.specs.After.{queuesIn}
-use Rattle.bus.specs.Command.{refusedBy, soundOk, carried, carriedOut, commandOf}
-use Rattle.bus.specs.Demands.{zero-number, received-number}
+use Rattle.bus_model.specs.Command.{refusedBy, soundOk, carried, carriedOut, commandOf}
+use Rattle.bus_model.specs.Demands.{zero-number, received-number, shown-number}
 use Rattle.journal_model.specs.Journal.{isQuestion, counted}
 
 -- An order that changes the bus: neither a refusal nor a question.
@@ -39,6 +39,7 @@ changing (order.Release p s) = true
 changing (order.Transfer q s) = true
 changing (order.Send p z) = true
 changing (order.Receive p) = true
+changing (order.ShowSeed p) = true
 changing (order.Quota p u) = false
 changing (order.Holders s) = false
 
@@ -58,6 +59,7 @@ changing-zero b f out (order.Release p s) w e h = zero-number _ [] [] out e refl
 changing-zero b f out (order.Transfer q s) w e h = zero-number _ [] [] out e refl
 changing-zero b f out (order.Send p z) w e h = zero-number _ [] [] out e refl
 changing-zero b f out (order.Receive p) w e h = received-number (b .peers) (b .nodes) (b .handles) (queuesIn b) (p .0) out e
+changing-zero b f out (order.ShowSeed p) w e h = shown-number (b .peers) (b .nodes) (b .handles) (b .rings) (b .seeds) (p .0) out e
 changing-zero b f out (order.Quota p u) w e h = clash (sym h)
 changing-zero b f out (order.Holders s) w e h = clash (sym h)
 
@@ -72,6 +74,7 @@ resolved-changing v (Release p i) = refl
 resolved-changing v (Transfer p i q) = refl
 resolved-changing v (Send p z) = refl
 resolved-changing v (Receive p room) = refl
+resolved-changing v (ShowSeed p room) = refl
 resolved-changing v (Quota p u) = refl
 resolved-changing v (Holders p i) = refl
 
@@ -86,6 +89,7 @@ question-zero b f out v (Release p i) w e h = clash (sym h)
 question-zero b f out v (Transfer p i q) w e h = clash (sym h)
 question-zero b f out v (Send p z) w e h = clash (sym h)
 question-zero b f out v (Receive p room) w e h = clash (sym h)
+question-zero b f out v (ShowSeed p room) w e h = clash (sym h)
 question-zero b f out v (Quota p u) w e h = zero-number _ [] [] out e refl
 question-zero b f out v (Holders p i) w e h = zero-number _ [] [] out e refl
 
@@ -132,11 +136,11 @@ module _ (b : Bus) (f out : List ℕ) (e : ltb (length out) answerSize ≡ false
       go (is-true s) (inr (inr q)) = other 90 (λ z. omega arith) s q
 
   pub read-counted : {k : Command} → soundOk b ≡ true → parse f ≡ Read k →
-      counted b f out ≡ changing (rulingOf (sight (b .peers) (b .nodes) (b .handles) (b .charges) (b .rings)) f k .order)
+      counted b f out ≡ changing (rulingOf (sight (b .peers) (b .nodes) (b .handles) (b .charges) (b .rings) (b .seeds)) f k .order)
   unfolding counted commandOf
-  read-counted {k = k} s p = rw (e, s, p) (ruled b f out (sight (b .peers) (b .nodes) (b .handles) (b .charges) (b .rings)) k e)
+  read-counted {k = k} s p = rw (e, s, p) (ruled b f out (sight (b .peers) (b .nodes) (b .handles) (b .charges) (b .rings) (b .seeds)) k e)
 
   pub command-read : {k : Command} → soundOk b ≡ true → parse f ≡ Read k →
-      commandOf b f out ≡ carriedOut b f out (rulingOf (sight (b .peers) (b .nodes) (b .handles) (b .charges) (b .rings)) f k)
+      commandOf b f out ≡ carriedOut b f out (rulingOf (sight (b .peers) (b .nodes) (b .handles) (b .charges) (b .rings) (b .seeds)) f k)
   unfolding commandOf
   command-read s p = rw (e, s, p) refl

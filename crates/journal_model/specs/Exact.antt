@@ -14,7 +14,7 @@ use borrow.Author.Tests.{eqb-false, ne-eqb, ltb-false, leb-true}
 use Rattle.laws.specs.Tests.{pick, Seen, Seen.is-true, Seen.is-false, look, clash}
 use Rattle.laws.specs.Weights.{All}
 use Rattle.ids.specs.Refusals.{EIO, EFBIG}
-use Rattle.frames.specs.declared.Command.the-variants.{Open, Disconnect, Create, Destroy, Release, Transfer, Send, Receive, Quota, Holders}
+use Rattle.frames.specs.declared.Command.the-variants.{Open, Disconnect, Create, Destroy, Release, Transfer, Send, Receive, Quota, Holders, ShowSeed}
 use Rattle.frames.specs.declared.Parsed.{Parsed}
 use Rattle.frames.specs.declared.Parsed.the-variants.{Read, Refused}
 use Rattle.frames.specs.Frame.{parse, opcode}
@@ -27,11 +27,11 @@ use Rattle.answers.specs.Answer.{answerSize}
 use Rattle.model.specs.Step.{Call}
 use Rattle.model.specs.Coded.{coded}
 use Rattle.view.specs.View.{Bus}
-use Rattle.bus.specs.Command.{refusedBy, commandOf, freshBus}
-use Rattle.bus.specs.Ran.{Exchange}
-use Rattle.bus.specs.Demands.{code-refusals}
-use Rattle.bus.specs.Untouched.{code-questions}
-use Rattle.bus.specs.Apart.{any-buffer}
+use Rattle.bus_model.specs.Command.{refusedBy, commandOf, freshBus}
+use Rattle.bus_model.specs.Ran.{Exchange}
+use Rattle.bus_model.specs.Demands.{code-refusals}
+use Rattle.bus_model.specs.Untouched.{code-questions}
+use Rattle.bus_model.specs.Apart.{any-buffer}
 use Rattle.journal_model.specs.Journal.{isQuestion, counted, WithJournal, withJournal, appendedOf, obeyedWith, commandWith, spare, Replayed.whole, replay, linesIn}
 use Rattle.journal_model.specs.Counted.{refused-number}
 
@@ -46,6 +46,7 @@ asked f (Read (Release q i)) p e = clash (sym e)
 asked f (Read (Transfer q i r)) p e = clash (sym e)
 asked f (Read (Send q z)) p e = clash (sym e)
 asked f (Read (Receive q room)) p e = clash (sym e)
+asked f (Read (ShowSeed q room)) p e = clash (sym e)
 asked f (Read (Quota q u)) p e = inl (coded f (Quota q u) p .byte)
 asked f (Read (Holders q i)) p e = inr (coded f (Holders q i) p .byte)
 

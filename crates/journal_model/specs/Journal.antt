@@ -7,7 +7,7 @@ use lib.ListN.{length, replicate}
 use lib.Dec.{eqb, ltb}
 use Rattle.laws.specs.Tests.{pick}
 use Rattle.ids.specs.Refusals.{EIO, EFBIG}
-use Rattle.frames.specs.declared.Command.the-variants.{Open, Disconnect, Create, Destroy, Release, Transfer, Send, Receive, Quota, Holders}
+use Rattle.frames.specs.declared.Command.the-variants.{Open, Disconnect, Create, Destroy, Release, Transfer, Send, Receive, Quota, Holders, ShowSeed}
 use Rattle.frames.specs.declared.Parsed.{Parsed}
 use Rattle.frames.specs.declared.Parsed.the-variants.{Read, Refused}
 use Rattle.frames.specs.Frame.{parse}
@@ -16,7 +16,7 @@ use Rattle.lines.specs.Chunks.{split, Found, Found.frame, Found.bad, found as l
 use Rattle.answers.specs.Answer.{answerSize}
 use Rattle.answers.specs.declared.Outcome.{Outcome}
 use Rattle.view.specs.View.{Bus}
-use Rattle.bus.specs.Command.{Done, doneOf, refusedBy, sizedOk, commandOf, freshBus}
+use Rattle.bus_model.specs.Command.{Done, doneOf, refusedBy, sizedOk, commandOf, freshBus}
 use Rattle.journal_model.specs.declared.JournalOutcome.{JournalOutcome}
 use Rattle.journal_model.specs.declared.Recovered.{Recovered}
 use Rattle.journal_model.specs.declared.Recovered.the-variants as found
@@ -32,6 +32,7 @@ isQuestion (Read (Release p i)) = false
 isQuestion (Read (Transfer p i q)) = false
 isQuestion (Read (Send p z)) = false
 isQuestion (Read (Receive p room)) = false
+isQuestion (Read (ShowSeed p room)) = false
 isQuestion (Read (Quota p u)) = true
 isQuestion (Read (Holders p i)) = true
 

@@ -26,9 +26,9 @@ use Rattle.lines.specs.Again.{split-joined, frames-text}
 use Rattle.answers.specs.Answer.{answerSize}
 use Rattle.model.specs.Step.{Call}
 use Rattle.view.specs.View.{Bus}
-use Rattle.bus.specs.Command.{Done, refusedBy, sizedOk, commandOf, freshBus}
-use Rattle.bus.specs.Ran.{Exchange, exchangeOf, Ran, Ran.begins}
-use Rattle.bus.specs.Demands.{never-five}
+use Rattle.bus_model.specs.Command.{Done, refusedBy, sizedOk, commandOf, freshBus}
+use Rattle.bus_model.specs.Ran.{Exchange, exchangeOf, Ran, Ran.begins}
+use Rattle.bus_model.specs.Demands.{never-five}
 use Rattle.journal_model.specs.declared.Recovered.the-variants as found
 use Rattle.journal_model.specs.Journal.{isQuestion, counted, WithJournal, withJournal, appendedOf, obeyedWith, commandWith, spare, Replayed, Replayed.whole, Replayed.stopped, Replayed.unread, replay, linesIn, usedOf, recoveryFrom, recovered, wholly}
 use Rattle.journal_model.specs.Exact.{exchangeWith, JournalRun, JournalRun.none, JournalRun.next, framesOf, busAfterCounted, Appends, Appends.appended, Appends.unchanged, short-number, appends, spare-large, kept-text, recovery-exact}

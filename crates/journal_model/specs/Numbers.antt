@@ -10,7 +10,7 @@ use lib.Dec.{eqb, ltb, leb}
 use Rattle.ids.specs.Refusals.{EINVAL, EIO, EPERM, ENXIO, EBADF, EAGAIN, EEXIST, ENOTTY, EFBIG, ENOSPC, ERANGE, EOVERFLOW, EMSGSIZE, ESHUTDOWN, EHOSTUNREACH, EDQUOT}
 use Rattle.laws.specs.Tests.{pick, pick-all, Seen, Seen.is-true, Seen.is-false, look, clash}
 use Rattle.frames.specs.declared.Command.{Command}
-use Rattle.frames.specs.declared.Command.the-variants.{Open, Disconnect, Create, Destroy, Release, Transfer, Send, Receive, Quota, Holders}
+use Rattle.frames.specs.declared.Command.the-variants.{Open, Disconnect, Create, Destroy, Release, Transfer, Send, Receive, Quota, Holders, ShowSeed}
 use Rattle.frames.specs.declared.Parsed.{Parsed}
 use Rattle.frames.specs.declared.Parsed.the-variants.{Read, Refused}
 use Rattle.frames.specs.Frame.{parse, payloadOf}
@@ -18,12 +18,12 @@ use Rattle.frames.specs.Legal.{Outcome as Read-as, legal}
 use Rattle.answers.specs.Answer.{answerSize, outcomeOf}
 use Rattle.model.specs.Numbers.{slots, nodes, owner, mostCommands}
 use Rattle.model.specs.Lists.{every}
-use Rattle.model.specs.State.{State, Status, Status.unopened, Status.opened, Status.disconnected, isLive, Entry, Entry.message, Entry.destroyed, Entry.released}
-use Rattle.model.specs.Refusals.{countable, present, openable, holding, owning, pinned, living, fits, takeable, refusesOpen, refusesDisconnect, refusesReceive, refusesQuota, refusalBy}
+use Rattle.model.specs.State.{Seed, Seed.unset, Seed.kept, State, Status, Status.unopened, Status.opened, Status.disconnected, isLive, Entry, Entry.message, Entry.destroyed, Entry.released}
+use Rattle.model.specs.Refusals.{countable, present, openable, holding, owning, pinned, living, fits, takeable, showable, refusesSeed, refusesOpen, refusesDisconnect, refusesReceive, refusesQuota, refusalBy}
 use Rattle.model.specs.Requests.{destinations, attached}
 use Rattle.view.specs.View.{Bus}
 use Rattle.judges.specs.Orders.{Sight, sight, resolved, placesIn, unlessAt, rulingOf}
-use Rattle.bus.specs.Command.{refusedBy, soundOk, carried, carriedOut, commandOf}
+use Rattle.bus_model.specs.Command.{refusedBy, soundOk, carried, carriedOut, commandOf}
 use Rattle.journal_model.specs.Journal.{isQuestion}
 use Rattle.journal_model.specs.Counted.{changing}
 use Rattle.journal_model.specs.Counted.{changing-zero, resolved-changing, question-zero}
@@ -67,9 +67,13 @@ of-takeable room (message n m ∷ q) = pick-all OfTable (leb (length (m .payload
 of-takeable room (destroyed n s ∷ q) = refl
 of-takeable room (released n s ∷ q) = refl
 
+of-showable : (room : ℕ) (x : Seed) → OfTable (showable room x)
+of-showable room unset = refl
+of-showable room (kept payload carried) = pick-all OfTable (leb (length payload + 8 * length carried) room) 0 ERANGE refl refl
+
 -- The cascade of each command, whatever search gives the slots.
 pub of-refusal : (find : ℕ → ℕ → ℕ) (free : ℕ → ℕ) (b : State) (f : List ℕ) (k : Command) → OfTable (refusalBy find free b f k)
-unfolding refusalBy refusesOpen refusesDisconnect refusesReceive refusesQuota
+unfolding refusalBy refusesOpen refusesDisconnect refusesReceive refusesSeed refusesQuota
 of-refusal find free b f (Open p u) = of-countable b _ (of-openable (b .status (p .0)))
 of-refusal find free b f (Disconnect p) = of-countable b _ (of-present (b .status (p .0)) _ refl)
 of-refusal find free b f (Create p i) =
@@ -89,6 +93,7 @@ of-refusal find free b f (Send p z) =
     of-countable b _ (of-present (b .status (p .0)) _ (of-holding (find (p .0)) (is ++ hs) _ (of-living b ds _
     (pick-all OfTable (fits b (b .user (p .0)) ds (length (payloadOf f)) (length hs)) 0 EDQUOT refl refl))))
 of-refusal find free b f (Receive p room) = of-countable b _ (of-present (b .status (p .0)) _ (of-takeable room (b .queue (p .0))))
+of-refusal find free b f (ShowSeed p room) = of-countable b _ (of-present (b .status (p .0)) _ (of-showable room (b .seed (p .0))))
 of-refusal find free b f (Quota p u) = of-present (b .status (p .0)) _ refl
 of-refusal find free b f (Holders p i) = of-present (b .status (p .0)) _ (of-holding (find (p .0)) (i .0 ∷ []) _ (of-owning (p .0) (find (p .0) (i .0)) 0 refl))
 
@@ -120,7 +125,7 @@ unfolding commandOf
 of-table b f out = go (look (ltb (length out) answerSize)) (look (soundOk b)) (parse f) refl (legal f)
   where
     sight-of : Sight
-    sight-of = sight (b .peers) (b .nodes) (b .handles) (b .charges) (b .rings)
+    sight-of = sight (b .peers) (b .nodes) (b .handles) (b .charges) (b .rings) (b .seeds)
 
     refused : (n m : ℕ) → ltb (length out) answerSize ≡ false → soundOk b ≡ true → parse f ≡ Refused n → OfTable m → n ≡ m → OfTable (commandOf b f out .outcome .number)
     refused n m e s p h q = rw (e, s, p) (of-refused n b out (subst (λ (x : ℕ). OfTable x) (sym q) h))

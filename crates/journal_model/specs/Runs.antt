@@ -18,10 +18,10 @@ use Rattle.answers.specs.Answer.{answerSize, outcomeOf}
 use Rattle.model.specs.Step.{Call}
 use Rattle.model.specs.Book.{Book, empty, feed, feedAll}
 use Rattle.view.specs.View.{Bus}
-use Rattle.bus.specs.Command.{Done, refusedBy, commandOf}
-use Rattle.bus.specs.Ran.{Exchange, fedOf, exchangeOf, Ran, Ran.goes}
-use Rattle.bus.specs.Histories.{historyOf}
-use Rattle.bus.specs.Third.{book, Next, Demanded, code-demanded, code-next}
+use Rattle.bus_model.specs.Command.{Done, refusedBy, commandOf}
+use Rattle.bus_model.specs.Ran.{Exchange, fedOf, exchangeOf, Ran, Ran.goes}
+use Rattle.bus_model.specs.Histories.{historyOf}
+use Rattle.bus_model.specs.Third.{book, Next, Demanded, code-demanded, code-next}
 use Rattle.journal_model.specs.Journal.{counted, appendedOf, obeyedWith, commandWith, spare, Replayed, Replayed.whole, Replayed.stopped, Replayed.unread, replay}
 use Rattle.journal_model.specs.Exact.{exchangeWith, JournalRun, JournalRun.none, JournalRun.next, kept-text}
 use Rattle.journal_model.specs.Numbers.{never-full}

@@ -8,7 +8,7 @@ use Rattle.laws.specs.Tests.{Seen, Seen.is-true, Seen.is-false, look, clash}
 use Rattle.frames.specs.Frame.{frameLength, parseOpen, parseQuota, parseRest, parseOther, parse}
 use Rattle.lines.specs.Chunks.{Found, Found.frame, Found.bad}
 use Rattle.view.specs.View.{Bus}
-use Rattle.bus.specs.Command.{sizedOk, commandOf, freshBus}
+use Rattle.bus_model.specs.Command.{sizedOk, commandOf, freshBus}
 use Rattle.journal_model.specs.declared.Recovered.{Recovered}
 use Rattle.journal_model.specs.declared.Recovered.the-variants as found
 use Rattle.journal_model.specs.Journal.{isQuestion, counted, spare, Replayed, Replayed.whole, Replayed.stopped, Replayed.unread, replay, linesIn, Recovery, recoveryFrom, recovered, numberIn, lineIn, placeIn, usedIn, toldFrom, toldOf}

@@ -5,10 +5,12 @@ use mathlib.Core.Path.{_≡_, refl, sym, ap, _∙_}
 use mathlib.Core.Bool.{Bool, true, false}
 use mathlib.Core.List.{List, []}
 use native.Mathlib.Omega.{arith}
-use lib.ListN.{length}
+use lib.ListN.{length, getD, take}
+use lib.Seq.{length-take-le}
 use lib.Dec.{eqb, ltb, leb}
-use borrow.Author.Tests.{ne-eqb, eq-eqb, lt-ltb, le-ltb, leb-true, leb-false}
+use borrow.Author.Tests.{ne-eqb, eq-eqb, lt-ltb, le-ltb, leb-true, leb-false, le-leb, lt-leb}
 use Rattle.laws.specs.Tests.{pick, Seen, Seen.is-true, Seen.is-false, look}
+use Rattle.laws.specs.Build.{build-length}
 use Rattle.ids.specs.Refusals.{EOVERFLOW, ESHUTDOWN, EEXIST, ENXIO, EPERM, EHOSTUNREACH, EAGAIN, ERANGE}
 use Rattle.ids.specs.declared.Peer.{Peer}
 use Rattle.ids.specs.declared.User.{User}
@@ -25,13 +27,16 @@ use Rattle.tables.specs.Nodes.{liveAt}
 use Rattle.tables.specs.NodesView.{live-is}
 use Rattle.tables.specs.Handles.{countAt, lookup, findAt}
 use Rattle.tables.specs.HandlesView.{count-is, lookup-at, lookup-nothing}
+use Rattle.seeds.specs.Seeds.{areaAt, setAt, countAt as seedCount, bytesAt, slotsAt, pieceAt, seedV}
+use Rattle.seeds.specs.Code.{slots-length}
+use Rattle.seeds.specs.SeedsView.{seed-set, seed-unset}
 use Rattle.queues.specs.Queues.{isMessage}
 use Rattle.queues.specs.Asking.{takeable-view}
 use Rattle.model.specs.Numbers.{nodes, mostCommands}
-use Rattle.model.specs.Refusals.{present, pinned, refusesOpen, refusesDisconnect, destroyBy, releaseBy, transferBy, refusesReceive, refusesQuota, holdersBy}
+use Rattle.model.specs.Refusals.{present, pinned, refusesOpen, refusesDisconnect, destroyBy, releaseBy, transferBy, refusesReceive, refusesQuota, holdersBy, showable, refusesSeed}
 use Rattle.judges.specs.declared.Order.{Order}
 use Rattle.judges.specs.declared.Order.the-variants as order
-use Rattle.judges.specs.Orders.{unless, seen, noRings, startsAt, tooLarge}
+use Rattle.judges.specs.Orders.{unless, seen, seenWith, noRings, startsAt, tooLarge}
 use Rattle.ids.specs.Sizes.{peers, slots, mostIds}
 
 -- A number that is a refusal, and one that is none.
@@ -40,6 +45,14 @@ refused {x} {n} o e ne = rw (e, ne-eqb n 0 ne)
 
 pub granted : {x : ℕ} (o : Order) → x ≡ 0 → o ≡ unless x o
 granted o e = rw e
+
+-- The lengths of a seed's payload and of its slots.
+piece-length : (t : List ℕ) (p n : ℕ) → length (pieceAt t p n) ≡ n
+unfolding pieceAt
+piece-length t p n = build-length (λ k. getD t (areaAt p + k) 0) n
+
+carried-length : (t : List ℕ) (p : ℕ) → length (take (seedCount t p) (slotsAt t p)) ≡ seedCount t p
+carried-length t p = length-take-le (seedCount t p) (slotsAt t p) (omega (arith, slots-length t p))
 
 -- The front of a cascade.
 module _ (ps : List ℕ) (p : ℕ) (l : p < peers) where
@@ -220,6 +233,30 @@ module _ (ps : List ℕ) (p : Peer) (l : p .0 < peers) {n : ℕ} (e : n ≡ star
         pub receive-granted : b ≡ false → order.Receive p ≡ unless (refusesReceive (seen ps [] [] [] rs) (p .0) room) (order.Receive p)
         unfolding refusesReceive
         receive-granted f = granted _ (pass z _ ∙ takeable-view rs [] (p .0) room size l ∙ rw (← ek, ne-eqb k 0 some, ← ex, large, f))
+
+  -- judge_seed
+  module _ (sd : List ℕ) (room : ℕ) where
+    pub seed-refused : (n ≡ 0 → ⊥) → order.Refuse n ≡ unless (refusesSeed (seenWith ps [] [] [] noRings sd) (p .0) room) (order.ShowSeed p)
+    unfolding refusesSeed
+    seed-refused ne = refused _ (stop ne _) ne
+
+    module _ (z : n ≡ 0) {b : Bool} (eb : b ≡ setAt sd (p .0)) where
+      pub seed-none : b ≡ false → order.Refuse EAGAIN ≡ unless (refusesSeed (seenWith ps [] [] [] noRings sd) (p .0) room) (order.ShowSeed p)
+      unfolding refusesSeed
+      seed-none f = refused _ (pass z _ ∙ rw (seed-unset sd (p .0) l (sym eb ∙ f))) (λ y. absurd (omega arith))
+
+      module _ (f : b ≡ true) {x y : ℕ} (ex : x ≡ bytesAt sd (p .0)) (ey : y ≡ seedCount sd (p .0)) where
+        -- the seed that is set fits, or does not
+        shows : showable room (seedV sd (p .0)) ≡ pick (leb (x + 8 * y) room) 0 ERANGE
+        shows = rw (seed-set sd (p .0) l (sym eb ∙ f), piece-length sd (p .0) (bytesAt sd (p .0)), carried-length sd (p .0), ex, ey)
+
+        pub seed-large : room < x + 8 * y → order.Refuse ERANGE ≡ unless (refusesSeed (seenWith ps [] [] [] noRings sd) (p .0) room) (order.ShowSeed p)
+        unfolding refusesSeed
+        seed-large h = refused _ (pass z _ ∙ shows ∙ rw (lt-leb (x + 8 * y) room h)) (λ w. absurd (omega arith))
+
+        pub seed-granted : x + 8 * y ≤ room → order.ShowSeed p ≡ unless (refusesSeed (seenWith ps [] [] [] noRings sd) (p .0) room) (order.ShowSeed p)
+        unfolding refusesSeed
+        seed-granted h = granted _ (pass z _ ∙ shows ∙ rw (le-leb (x + 8 * y) room h))
 
 -- The questions.
 module _ (ps : List ℕ) (p : Peer) (l : p .0 < peers) {n : ℕ} (e : n ≡ standingAt ps (p .0)) where

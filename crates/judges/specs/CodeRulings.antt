@@ -17,7 +17,7 @@ use Rattle.ids.specs.declared.Peer.{Peer}
 use Rattle.ids.specs.declared.User.{User}
 use Rattle.ids.specs.declared.HandleId.{HandleId}
 use Rattle.frames.specs.declared.Command.{Command}
-use Rattle.frames.specs.declared.Command.the-variants.{Open, Disconnect, Create, Destroy, Release, Transfer, Send, Receive, Quota, Holders}
+use Rattle.frames.specs.declared.Command.the-variants.{Open, Disconnect, Create, Destroy, Release, Transfer, Send, Receive, Quota, Holders, ShowSeed}
 use Rattle.frames.specs.declared.Sizes.{Sizes}
 use Rattle.frames.specs.Frame.{sendId, payloadOf}
 use Rattle.frames.specs.Legal.{Legal, Sized as Sent, payload-length}
@@ -36,13 +36,13 @@ use Rattle.model.specs.State.{isLive, State}
 use Rattle.model.specs.State.Status.{unopened, opened}
 use Rattle.model.specs.Tested.{every-all}
 use Rattle.model.specs.Requests.{destinations, attached}
-use Rattle.model.specs.Refusals.{adds, fits, refusesOpen, refusesDisconnect, createBy, destroyBy, releaseBy, transferBy, sendBy, refusesReceive, refusesQuota, holdersBy, refusalBy}
+use Rattle.model.specs.Refusals.{adds, fits, refusesOpen, refusesDisconnect, createBy, destroyBy, releaseBy, transferBy, sendBy, refusesReceive, refusesQuota, holdersBy, refusesSeed, refusalBy}
 use Rattle.judges.specs.declared.Places.{Places}
 use Rattle.judges.specs.declared.Order.{Order}
 use Rattle.judges.specs.declared.Order.the-variants as order
 use Rattle.judges.specs.declared.Ruling.{Ruling}
 use Rattle.judges.specs.declared.Slots.{Slots}
-use Rattle.judges.specs.Orders.{eight, noPlaces, placesOf, rulingOf, unless, unlessAt, plainly, seen, sight, freeAt, noRings, startsAt, idsFrom, slotsAt, livingAt, allowedAt, affordableAt}
+use Rattle.judges.specs.Orders.{eight, noPlaces, placesOf, rulingOf, unless, unlessAt, plainly, seen, seenWith, sight, freeAt, noRings, startsAt, idsFrom, slotsAt, livingAt, allowedAt, affordableAt}
 use Rattle.judges.specs.CodeOrders.{stop, pass}
 use Rattle.judges.specs.CodeSends.{heldBy, every-append, every-same, map-length, eight-take}
 use Rattle.ids.specs.Sizes.{peers, mostIds}
@@ -199,57 +199,63 @@ ruled x d er eo = er ∙ ap plainly eo ∙ go (eqb x 0)
 pub legal-as : (f : List ℕ) {c : Command} (d : Command) → Legal f c → c ≡ d → Legal f d
 legal-as f d h e = rw (← e) h
 
-module _ (ps ns hs cs f : List ℕ) (rs : Rings) {c : Command} where
+module _ (ps ns hs cs f : List ℕ) (rs : Rings) (sd : List ℕ) {c : Command} where
   pub ruled-open : {p : Peer} {u : User} {o : Order} {r : Ruling} → c ≡ Open p u → o ≡ unless (refusesOpen (seen ps [] [] [] noRings) (p .0)) (order.Open p u) →
-      r ≡ plainly o → r ≡ rulingOf (sight ps ns hs cs rs) f c
+      r ≡ plainly o → r ≡ rulingOf (sight ps ns hs cs rs sd) f c
   unfolding rulingOf refusalBy refusesOpen
   ruled-open {p} {u} ec eo er = rw ec (ruled (refusesOpen (seen ps [] [] [] noRings) (p .0)) (order.Open p u) er eo)
 
   pub ruled-disconnect : {p : Peer} {o : Order} {r : Ruling} → c ≡ Disconnect p → o ≡ unless (refusesDisconnect (seen ps [] [] [] noRings) (p .0)) (order.Disconnect p) →
-      r ≡ plainly o → r ≡ rulingOf (sight ps ns hs cs rs) f c
+      r ≡ plainly o → r ≡ rulingOf (sight ps ns hs cs rs sd) f c
   unfolding rulingOf refusalBy refusesDisconnect
   ruled-disconnect {p} ec eo er = rw ec (ruled (refusesDisconnect (seen ps [] [] [] noRings) (p .0)) (order.Disconnect p) er eo)
 
   pub ruled-create : {p : Peer} {i : HandleId} {o : Order} {r : Ruling} → c ≡ Create p i →
-      o ≡ unless (createBy (findAt hs (p .0)) (freeAt ns hs cs rs (p .0)) (seen ps [] [] [] noRings) (p .0) (i .0)) (order.Create p i (p .0 * slots + freeAt ns hs cs rs (p .0))) →
-      r ≡ plainly o → r ≡ rulingOf (sight ps ns hs cs rs) f c
+      o ≡ unless (createBy (findAt hs (p .0)) (freeAt ns hs cs rs sd (p .0)) (seen ps [] [] [] noRings) (p .0) (i .0)) (order.Create p i (p .0 * slots + freeAt ns hs cs rs sd (p .0))) →
+      r ≡ plainly o → r ≡ rulingOf (sight ps ns hs cs rs sd) f c
   unfolding rulingOf refusalBy
-  ruled-create {p} {i} ec eo er = rw ec (ruled (createBy (findAt hs (p .0)) (freeAt ns hs cs rs (p .0)) (seen ps [] [] [] noRings) (p .0) (i .0)) (order.Create p i (p .0 * slots + freeAt ns hs cs rs (p .0))) er eo)
+  ruled-create {p} {i} ec eo er = rw ec (ruled (createBy (findAt hs (p .0)) (freeAt ns hs cs rs sd (p .0)) (seen ps [] [] [] noRings) (p .0) (i .0)) (order.Create p i (p .0 * slots + freeAt ns hs cs rs sd (p .0))) er eo)
 
   pub ruled-destroy : {p : Peer} {i : HandleId} {o : Order} {r : Ruling} → c ≡ Destroy p i →
       o ≡ unless (destroyBy (findAt hs (p .0)) (seen ps ns hs [] noRings) (p .0) (i .0)) (order.Destroy p (findAt hs (p .0) (i .0))) →
-      r ≡ plainly o → r ≡ rulingOf (sight ps ns hs cs rs) f c
+      r ≡ plainly o → r ≡ rulingOf (sight ps ns hs cs rs sd) f c
   unfolding rulingOf refusalBy
   ruled-destroy {p} {i} ec eo er = rw ec (ruled (destroyBy (findAt hs (p .0)) (seen ps ns hs [] noRings) (p .0) (i .0)) (order.Destroy p (findAt hs (p .0) (i .0))) er eo)
 
   pub ruled-release : {p : Peer} {i : HandleId} {o : Order} {r : Ruling} → c ≡ Release p i →
       o ≡ unless (releaseBy (findAt hs (p .0)) (seen ps ns hs [] noRings) (p .0) (i .0)) (order.Release p (findAt hs (p .0) (i .0))) →
-      r ≡ plainly o → r ≡ rulingOf (sight ps ns hs cs rs) f c
+      r ≡ plainly o → r ≡ rulingOf (sight ps ns hs cs rs sd) f c
   unfolding rulingOf refusalBy
   ruled-release {p} {i} ec eo er = rw ec (ruled (releaseBy (findAt hs (p .0)) (seen ps ns hs [] noRings) (p .0) (i .0)) (order.Release p (findAt hs (p .0) (i .0))) er eo)
 
   pub ruled-transfer : {p : Peer} {i : HandleId} {q : Peer} {o : Order} {r : Ruling} → c ≡ Transfer p i q →
       o ≡ unless (transferBy (findAt hs (p .0)) (seen ps ns hs [] noRings) (p .0) (i .0) (q .0)) (order.Transfer q (findAt hs (p .0) (i .0))) →
-      r ≡ plainly o → r ≡ rulingOf (sight ps ns hs cs rs) f c
+      r ≡ plainly o → r ≡ rulingOf (sight ps ns hs cs rs sd) f c
   unfolding rulingOf refusalBy
   ruled-transfer {p} {i} {q} ec eo er = rw ec (ruled (transferBy (findAt hs (p .0)) (seen ps ns hs [] noRings) (p .0) (i .0) (q .0)) (order.Transfer q (findAt hs (p .0) (i .0))) er eo)
 
-  pub ruled-send : {p : Peer} {z : Sizes} {r : Ruling} → c ≡ Send p z → r ≡ sendRuling ps ns hs cs f p z → r ≡ rulingOf (sight ps ns hs cs rs) f c
+  pub ruled-send : {p : Peer} {z : Sizes} {r : Ruling} → c ≡ Send p z → r ≡ sendRuling ps ns hs cs f p z → r ≡ rulingOf (sight ps ns hs cs rs sd) f c
   unfolding rulingOf refusalBy placesOf fits
   ruled-send ec er = rw ec er
 
   pub ruled-receive : {p : Peer} {room : ℕ} {o : Order} {r : Ruling} → c ≡ Receive p room → o ≡ unless (refusesReceive (seen ps [] [] [] rs) (p .0) room) (order.Receive p) →
-      r ≡ plainly o → r ≡ rulingOf (sight ps ns hs cs rs) f c
+      r ≡ plainly o → r ≡ rulingOf (sight ps ns hs cs rs sd) f c
   unfolding rulingOf refusalBy refusesReceive
   ruled-receive {p} {room} ec eo er = rw ec (ruled (refusesReceive (seen ps [] [] [] rs) (p .0) room) (order.Receive p) er eo)
 
   pub ruled-quota : {p : Peer} {u : User} {o : Order} {r : Ruling} → c ≡ Quota p u → o ≡ unless (refusesQuota (seen ps [] [] [] noRings) (p .0)) (order.Quota p u) →
-      r ≡ plainly o → r ≡ rulingOf (sight ps ns hs cs rs) f c
+      r ≡ plainly o → r ≡ rulingOf (sight ps ns hs cs rs sd) f c
   unfolding rulingOf refusalBy refusesQuota
   ruled-quota {p} {u} ec eo er = rw ec (ruled (refusesQuota (seen ps [] [] [] noRings) (p .0)) (order.Quota p u) er eo)
 
   pub ruled-holders : {p : Peer} {i : HandleId} {o : Order} {r : Ruling} → c ≡ Holders p i →
       o ≡ unless (holdersBy (findAt hs (p .0)) (seen ps [] hs [] noRings) (p .0) (i .0)) (order.Holders (findAt hs (p .0) (i .0))) →
-      r ≡ plainly o → r ≡ rulingOf (sight ps ns hs cs rs) f c
+      r ≡ plainly o → r ≡ rulingOf (sight ps ns hs cs rs sd) f c
   unfolding rulingOf refusalBy
   ruled-holders {p} {i} ec eo er = rw ec (ruled (holdersBy (findAt hs (p .0)) (seen ps [] hs [] noRings) (p .0) (i .0)) (order.Holders (findAt hs (p .0) (i .0))) er eo)
+
+  pub ruled-seed : {p : Peer} {room : ℕ} {o : Order} {r : Ruling} → c ≡ ShowSeed p room →
+      o ≡ unless (refusesSeed (seenWith ps [] [] [] noRings sd) (p .0) room) (order.ShowSeed p) →
+      r ≡ plainly o → r ≡ rulingOf (sight ps ns hs cs rs sd) f c
+  unfolding rulingOf refusalBy refusesSeed
+  ruled-seed {p} {room} ec eo er = rw ec (ruled (refusesSeed (seenWith ps [] [] [] noRings sd) (p .0) room) (order.ShowSeed p) er eo)

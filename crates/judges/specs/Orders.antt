@@ -14,7 +14,7 @@ use Rattle.ids.specs.declared.Peer.{Peer}
 use Rattle.ids.specs.declared.User.{User}
 use Rattle.ids.specs.declared.HandleId.{HandleId}
 use Rattle.frames.specs.declared.Command.{Command}
-use Rattle.frames.specs.declared.Command.the-variants.{Open, Disconnect, Create, Destroy, Release, Transfer, Send, Receive, Quota, Holders}
+use Rattle.frames.specs.declared.Command.the-variants.{Open, Disconnect, Create, Destroy, Release, Transfer, Send, Receive, Quota, Holders, ShowSeed}
 use Rattle.frames.specs.declared.Sizes.{Sizes}
 use Rattle.frames.specs.Frame.{sendId}
 use Rattle.quota.specs.Charges.{allowsAll}
@@ -28,10 +28,11 @@ use Rattle.tables.specs.Handles.{findAt, holdersAt}
 use Rattle.tables.specs.Charges.{chargesAt}
 use Rattle.model.specs.Numbers.{slots, nodes, mostCommands}
 use Rattle.model.specs.Lists.{either, every}
-use Rattle.model.specs.State.{State, slot, freePlace}
+use Rattle.model.specs.State.{State, slot, freePlace, seeded}
 use Rattle.model.specs.Requests.{destinations, attached}
 use Rattle.model.specs.Refusals.{adds, refusalBy}
-use Rattle.view.specs.View.{Bus, stateOf, setPeers, setNodes, setHandles, setCharges, setRings, noBuffers}
+use Rattle.view.specs.View.{Bus, stateOf, setPeers, setNodes, setHandles, setCharges, setRings, setSeeds, noBuffers}
+use Rattle.seeds.specs.Seeds.{seedV}
 use Rattle.queues.specs.Queues.{isMessage, namedIn}
 use Rattle.judges.specs.declared.Places.{Places}
 use Rattle.judges.specs.declared.Order.{Order}
@@ -72,6 +73,7 @@ resolved v (Send p z) = order.Send p z
 resolved v (Receive p room) = order.Receive p
 resolved v (Quota p u) = order.Quota p u
 resolved v (Holders p i) = order.Holders (v .find (p .0) (i .0))
+resolved v (ShowSeed p room) = order.ShowSeed p
 
 abbrev pub placesIn : Sight → List ℕ → Command → Places
 placesIn v f (Open p u) = noPlaces
@@ -84,6 +86,7 @@ placesIn v f (Send p z) = placesOf (v .find (p .0)) f z
 placesIn v f (Receive p room) = noPlaces
 placesIn v f (Quota p u) = noPlaces
 placesIn v f (Holders p i) = noPlaces
+placesIn v f (ShowSeed p room) = noPlaces
 
 -- An order, unless there is a refusal; with slots, unless there is one.
 abbrev pub unless : ℕ → Order → Order
@@ -102,17 +105,21 @@ rulingOf v f c = unlessAt (refusalBy (v .find) (v .free) (v .state) f c) (resolv
 abbrev pub seen : List ℕ → List ℕ → List ℕ → List ℕ → Rings → State
 seen ps ns hs cs r = stateOf (setRings (setCharges (setHandles (setNodes (setPeers noBuffers ps) ns) hs) cs) r)
 
--- A slot's node counts, as the tables tell: it lives, somebody holds it, or a message in a queue with attached handles names it.
-unfoldable pub countsAt : List ℕ → List ℕ → List ℕ → Rings → ℕ → Bool
-countsAt ns hs cs r s = either (liveAt ns s) (either (not (eqb (holdersAt hs s) 0)) (namedIn cs r s))
+-- The same with the peers' seeds.
+abbrev pub seenWith : List ℕ → List ℕ → List ℕ → List ℕ → Rings → List ℕ → State
+seenWith ps ns hs cs r sd = stateOf (setSeeds (setRings (setCharges (setHandles (setNodes (setPeers noBuffers ps) ns) hs) cs) r) sd)
+
+-- A slot's node counts, as the tables tell: it lives, somebody holds it, a message in a queue with attached handles names it, or a seed does.
+unfoldable pub countsAt : List ℕ → List ℕ → List ℕ → Rings → List ℕ → ℕ → Bool
+countsAt ns hs cs r sd s = either (liveAt ns s) (either (not (eqb (holdersAt hs s) 0)) (either (namedIn cs r s) (seeded (seedV sd) s)))
 
 -- The first place among the peer's 16 whose node does not count.
-unfoldable pub freeAt : List ℕ → List ℕ → List ℕ → Rings → ℕ → ℕ
-freeAt ns hs cs r p = first (λ k. not (countsAt ns hs cs r (p * slots + k))) slots
+unfoldable pub freeAt : List ℕ → List ℕ → List ℕ → Rings → List ℕ → ℕ → ℕ
+freeAt ns hs cs r sd p = first (λ k. not (countsAt ns hs cs r sd (p * slots + k))) slots
 
 -- What the code goes by: its own searches of the tables.
-abbrev pub sight : List ℕ → List ℕ → List ℕ → List ℕ → Rings → Sight
-sight ps ns hs cs r = record { state = seen ps ns hs cs r; find = findAt hs; free = freeAt ns hs cs r }
+abbrev pub sight : List ℕ → List ℕ → List ℕ → List ℕ → Rings → List ℕ → Sight
+sight ps ns hs cs r sd = record { state = seenWith ps ns hs cs r sd; find = findAt hs; free = freeAt ns hs cs r sd }
 
 abbrev pub noRings : Rings
 noRings = ringsOf [] [] [] []

@@ -9,12 +9,12 @@ ghost use Rattle.frames.specs.Legal.{Legal, Sized as Sent};
 ghost use Rattle.rings.specs.Rings.{ringsOf, QueueTables};
 ghost use Rattle.model.specs.Numbers.{slots};
 ghost use Rattle.model.specs.Requests.{destinations, attached};
-ghost use Rattle.model.specs.Refusals.{placesAt, pinned as isPinned, refusesOpen, refusesDisconnect, createBy, destroyBy, releaseBy, transferBy, sendBy, refusesReceive, refusesQuota, holdersBy};
+ghost use Rattle.model.specs.Refusals.{placesAt, pinned as isPinned, refusesOpen, refusesDisconnect, createBy, destroyBy, releaseBy, transferBy, sendBy, refusesReceive, refusesQuota, holdersBy, refusesSeed};
 ghost use Rattle.tables.specs.Handles.{handlesSize, findAt};
 ghost use Rattle.queues.specs.Queues.{Short};
-ghost use Rattle.judges.specs.Orders.{placesOf, unless, unlessAt, plainly, rulingOf, seen, sight, countsAt, freeAt, noRings, startsAt, placeFound, idsFrom, slotsAt, livingAt, allowedAt, affordableAt, tooLarge};
+ghost use Rattle.judges.specs.Orders.{placesOf, unless, unlessAt, plainly, rulingOf, seen, seenWith, sight, countsAt, freeAt, noRings, startsAt, placeFound, idsFrom, slotsAt, livingAt, allowedAt, affordableAt, tooLarge};
 ghost use Rattle.judges.specs.declared.Order.the-variants as order;
-ghost use Rattle.ids.specs.Sizes.{peers as peerCount, peersSize, nodesSize, mostIds, mostBytes};
+ghost use Rattle.ids.specs.Sizes.{peers as peerCount, peersSize, nodesSize, mostIds, mostBytes, seedsSize};
 ghost use Rattle.model.specs.Numbers.{nodes as nodeCount};
 ghost use Rattle.tables.specs.Charges.{chargesSize};
 use frames::Command;
@@ -59,6 +59,7 @@ pub enum Order {
     Transfer(Peer, usize),
     Send(Peer, Sizes),
     Receive(Peer),
+    ShowSeed(Peer),
     Quota(Peer, User),
     Holders(usize),
 }
@@ -127,10 +128,11 @@ fn counts(
     entries: &[u16],
     carried: &[u8],
     numbers: &[u64],
+    seeds: &[u8],
     s: usize,
 ) -> bool
-    requires { ⌜ (length (now nodes) ≡ nodesSize) × (length (now handles) ≡ handlesSize) × (length (now charges) ≡ chargesSize) × QueueTables (now ends) (now entries) (now carried) (now numbers) × Short (now ends) × (s < nodeCount) ⌝ }
-    ensures { λ r. ⌜ r ≡ countsAt (now (nodes .entry)) (now (handles .entry)) (now (charges .entry)) (ringsOf (now (ends .entry)) (now (entries .entry)) (now (carried .entry)) (now (numbers .entry))) s ⌝ }
+    requires { ⌜ (length (now nodes) ≡ nodesSize) × (length (now handles) ≡ handlesSize) × (length (now charges) ≡ chargesSize) × QueueTables (now ends) (now entries) (now carried) (now numbers) × Short (now ends) × (length (now seeds) ≡ seedsSize) × (s < nodeCount) ⌝ }
+    ensures { λ r. ⌜ r ≡ countsAt (now (nodes .entry)) (now (handles .entry)) (now (charges .entry)) (ringsOf (now (ends .entry)) (now (entries .entry)) (now (carried .entry)) (now (numbers .entry))) (now (seeds .entry)) s ⌝ }
 {
     if tables::is_live(nodes, s) {
         return true;
@@ -138,7 +140,10 @@ fn counts(
     if tables::holders(handles, s) != 0 {
         return true;
     }
-    queues::named(charges, ends, entries, carried, numbers, s)
+    if queues::named(charges, ends, entries, carried, numbers, s) {
+        return true;
+    }
+    seeds::names(seeds, s)
 }
 
 // The first slot of a peer whose node does not count.
@@ -150,15 +155,26 @@ fn free_slot(
     entries: &[u16],
     carried: &[u8],
     numbers: &[u64],
+    seeds: &[u8],
     p: Peer,
 ) -> Found
-    requires { ⌜ (length (now nodes) ≡ nodesSize) × (length (now handles) ≡ handlesSize) × (length (now charges) ≡ chargesSize) × QueueTables (now ends) (now entries) (now carried) (now numbers) × Short (now ends) × (p .0 < peerCount) ⌝ }
-    ensures { λ r. ⌜ r ≡ placeFound (p .0) (freeAt (now (nodes .entry)) (now (handles .entry)) (now (charges .entry)) (ringsOf (now (ends .entry)) (now (entries .entry)) (now (carried .entry)) (now (numbers .entry))) (p .0)) ⌝ }
+    requires { ⌜ (length (now nodes) ≡ nodesSize) × (length (now handles) ≡ handlesSize) × (length (now charges) ≡ chargesSize) × QueueTables (now ends) (now entries) (now carried) (now numbers) × Short (now ends) × (length (now seeds) ≡ seedsSize) × (p .0 < peerCount) ⌝ }
+    ensures { λ r. ⌜ r ≡ placeFound (p .0) (freeAt (now (nodes .entry)) (now (handles .entry)) (now (charges .entry)) (ringsOf (now (ends .entry)) (now (entries .entry)) (now (carried .entry)) (now (numbers .entry))) (now (seeds .entry)) (p .0)) ⌝ }
 {
     let mut k = 0;
     while k < SLOTS {
         let s = p.0 * SLOTS + k;
-        if !counts(nodes, handles, charges, ends, entries, carried, numbers, s) {
+        if !counts(
+            nodes,
+            handles,
+            charges,
+            ends,
+            entries,
+            carried,
+            numbers,
+            seeds,
+            s,
+        ) {
             return Found::At(s);
         }
         k += 1;
@@ -175,11 +191,12 @@ fn judge_create(
     entries: &[u16],
     carried: &[u8],
     numbers: &[u64],
+    seeds: &[u8],
     p: Peer,
     i: HandleId,
 ) -> Order
-    requires { ⌜ (length (now peers) ≡ peersSize) × (length (now nodes) ≡ nodesSize) × (length (now handles) ≡ handlesSize) × (length (now charges) ≡ chargesSize) × QueueTables (now ends) (now entries) (now carried) (now numbers) × Short (now ends) × (p .0 < peerCount) ⌝ }
-    ensures { λ r. ⌜ r ≡ unless (createBy (findAt (now (handles .entry)) (p .0)) (freeAt (now (nodes .entry)) (now (handles .entry)) (now (charges .entry)) (ringsOf (now (ends .entry)) (now (entries .entry)) (now (carried .entry)) (now (numbers .entry))) (p .0)) (seen (now (peers .entry)) [] [] [] noRings) (p .0) (i .0)) (order.Create p i (p .0 * slots + freeAt (now (nodes .entry)) (now (handles .entry)) (now (charges .entry)) (ringsOf (now (ends .entry)) (now (entries .entry)) (now (carried .entry)) (now (numbers .entry))) (p .0))) ⌝ }
+    requires { ⌜ (length (now peers) ≡ peersSize) × (length (now nodes) ≡ nodesSize) × (length (now handles) ≡ handlesSize) × (length (now charges) ≡ chargesSize) × QueueTables (now ends) (now entries) (now carried) (now numbers) × Short (now ends) × (length (now seeds) ≡ seedsSize) × (p .0 < peerCount) ⌝ }
+    ensures { λ r. ⌜ r ≡ unless (createBy (findAt (now (handles .entry)) (p .0)) (freeAt (now (nodes .entry)) (now (handles .entry)) (now (charges .entry)) (ringsOf (now (ends .entry)) (now (entries .entry)) (now (carried .entry)) (now (numbers .entry))) (now (seeds .entry)) (p .0)) (seen (now (peers .entry)) [] [] [] noRings) (p .0) (i .0)) (order.Create p i (p .0 * slots + freeAt (now (nodes .entry)) (now (handles .entry)) (now (charges .entry)) (ringsOf (now (ends .entry)) (now (entries .entry)) (now (carried .entry)) (now (numbers .entry))) (now (seeds .entry)) (p .0))) ⌝ }
 {
     let n = starts(peers, p);
     if n != 0 {
@@ -188,7 +205,17 @@ fn judge_create(
     let Found::Nothing = tables::find(handles, p, i) else {
         return Order::Refuse(EEXIST);
     };
-    let Found::At(s) = free_slot(nodes, handles, charges, ends, entries, carried, numbers, p) else {
+    let Found::At(s) = free_slot(
+        nodes,
+        handles,
+        charges,
+        ends,
+        entries,
+        carried,
+        numbers,
+        seeds,
+        p,
+    ) else {
         return Order::Refuse(ENOSPC);
     };
     Order::Create(p, i, s)
@@ -464,6 +491,24 @@ fn judge_holders(peers: &[u64], handles: &[u64], p: Peer, i: HandleId) -> Order
     Order::Holders(s)
 }
 
+// 0c: 11 where no seed is set, then the room test of a receive (02 No. 1).
+fn judge_seed(peers: &[u64], seeds: &[u8], p: Peer, room: usize) -> Order
+    requires { ⌜ (length (now peers) ≡ peersSize) × (length (now seeds) ≡ seedsSize) × (p .0 < peerCount) ⌝ }
+    ensures { λ r. ⌜ r ≡ unless (refusesSeed (seenWith (now (peers .entry)) [] [] [] noRings (now (seeds .entry))) (p .0) room) (order.ShowSeed p) ⌝ }
+{
+    let n = starts(peers, p);
+    if n != 0 {
+        return Order::Refuse(n);
+    }
+    if !seeds::is_set(seeds, p) {
+        return Order::Refuse(EAGAIN);
+    }
+    if room < seeds::nb_of(seeds, p) + 8 * seeds::nh_of(seeds, p) {
+        return Order::Refuse(ERANGE);
+    }
+    Order::ShowSeed(p)
+}
+
 // What the bus says to a command. `ps`, `ns`, `hs` and `cs` are the tables of peers, nodes, handles and charges.
 pub fn judge(
     ps: &[u64],
@@ -474,17 +519,18 @@ pub fn judge(
     entries: &[u16],
     carried: &[u8],
     numbers: &[u64],
+    seeds: &[u8],
     frame: &[u8],
     c: Command,
 ) -> Ruling
-    requires { ⌜ (length (now ps) ≡ peersSize) × (length (now ns) ≡ nodesSize) × (length (now hs) ≡ handlesSize) × (length (now cs) ≡ chargesSize) × QueueTables (now ends) (now entries) (now carried) (now numbers) × Short (now ends) × Legal (now frame) c ⌝ }
-    ensures { λ r. ⌜ r ≡ rulingOf (sight (now (ps .entry)) (now (ns .entry)) (now (hs .entry)) (now (cs .entry)) (ringsOf (now (ends .entry)) (now (entries .entry)) (now (carried .entry)) (now (numbers .entry)))) (now (frame .entry)) c ⌝ }
+    requires { ⌜ (length (now ps) ≡ peersSize) × (length (now ns) ≡ nodesSize) × (length (now hs) ≡ handlesSize) × (length (now cs) ≡ chargesSize) × QueueTables (now ends) (now entries) (now carried) (now numbers) × Short (now ends) × (length (now seeds) ≡ seedsSize) × Legal (now frame) c ⌝ }
+    ensures { λ r. ⌜ r ≡ rulingOf (sight (now (ps .entry)) (now (ns .entry)) (now (hs .entry)) (now (cs .entry)) (ringsOf (now (ends .entry)) (now (entries .entry)) (now (carried .entry)) (now (numbers .entry))) (now (seeds .entry))) (now (frame .entry)) c ⌝ }
 {
     match c {
         Command::Open(p, u) => plain(judge_open(ps, p, u)),
         Command::Disconnect(p) => plain(judge_disconnect(ps, p)),
         Command::Create(p, i) => {
-            plain(judge_create(ps, ns, hs, cs, ends, entries, carried, numbers, p, i))
+            plain(judge_create(ps, ns, hs, cs, ends, entries, carried, numbers, seeds, p, i))
         }
         Command::Destroy(p, i) => plain(judge_destroy(ps, ns, hs, p, i)),
         Command::Release(p, i) => plain(judge_release(ps, ns, hs, p, i)),
@@ -495,5 +541,6 @@ pub fn judge(
         }
         Command::Quota(p, u) => plain(judge_quota(ps, p, u)),
         Command::Holders(p, i) => plain(judge_holders(ps, hs, p, i)),
+        Command::ShowSeed(p, room) => plain(judge_seed(ps, seeds, p, room)),
     }
 }

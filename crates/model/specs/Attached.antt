@@ -196,6 +196,14 @@ due-from l m p new (n ∷ ns) g =
     ap₂ _∷_ (due-one l m p new g n (x .0) ∙ ap (λ (z : List ℕ). attachedId l p z n) (sym (x .1)))
     (due-from l (ledgerGive m p n) p (withNew l p new (n .number)) ns (gave-one l m p new g n))
 
+pub due-each : (l : Ledger) (p : ℕ) (ns : List Node) → dueIds l p ns ≡ map (attachedId l p (newNodes l p ns)) ns
+due-each l p ns =
+    due-from l l p [] ns (record { lives = λ n. refl; given = omega arith; holds = λ n. sym (or-no (held (l .handle p n))); named = λ n d. refl })
+  where
+    or-no : (x : Bool) → either x false ≡ x
+    or-no true = refl
+    or-no false = refl
+
 -- The queues have no part in it.
 pub due-all : (l : Ledger) (f : ℕ → List Item) (p : ℕ) (ns : List Node) → dueIds (ledgerQueues l f) p ns ≡ map (attachedId l p (newNodes l p ns)) ns
 unfolding ledgerQueues

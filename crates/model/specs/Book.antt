@@ -13,7 +13,7 @@ use Rattle.laws.specs.Build.{build}
 use Rattle.laws.specs.Bytes.{numAt}
 use Rattle.frames.specs.declared.Sizes.{Sizes}
 use Rattle.frames.specs.declared.Command.{Command}
-use Rattle.frames.specs.declared.Command.the-variants.{Open, Disconnect, Create, Destroy, Release, Transfer, Send, Receive, Quota, Holders}
+use Rattle.frames.specs.declared.Command.the-variants.{Open, Disconnect, Create, Destroy, Release, Transfer, Send, Receive, Quota, Holders, ShowSeed}
 use Rattle.frames.specs.declared.Parsed.{Parsed}
 use Rattle.frames.specs.declared.Parsed.the-variants.{Read, Refused}
 use Rattle.frames.specs.Frame.{parse, opcode, shortAt}
@@ -60,11 +60,12 @@ abbrev pub by : ℕ → BookMessage → Bool
 by u m = eqb (m .user) u
 
 -- "For each peer it holds its user, its handles (ID, node, count) and its messages, oldest first; for each peer and user the sums sent, received and dropped,
--- in messages, bytes and handles." Beside them how many nodes were entered.
+-- in messages, bytes and handles." "its book keeps the attached nodes of the peer's last seed". Beside them how many nodes were entered.
 pub record Book : Type 0 where
   pub user : ℕ → ℕ
   pub handle : ℕ → ℕ → Noted
   pub queue : ℕ → List BookMessage
+  pub seed : ℕ → List Node
   pub sent : ℕ → ℕ → Resource → ℕ
   pub received : ℕ → ℕ → Resource → ℕ
   pub dropped : ℕ → ℕ → Resource → ℕ
@@ -77,6 +78,7 @@ empty =
       user = λ p. users;
       handle = λ p i. blank;
       queue = λ p. [];
+      seed = λ p. [];
       sent = λ p u r. 0;
       received = λ p u r. 0;
       dropped = λ p u r. 0;
@@ -93,6 +95,7 @@ putHandle k p i x =
       received = k .received;
       dropped = k .dropped;
       entered = k .entered;
+      seed = k .seed;
       handle = upd (k .handle) p (upd (k .handle p) i x);
     }
 
@@ -104,6 +107,7 @@ toReceived k p out rest =
       sent = k .sent;
       dropped = k .dropped;
       entered = k .entered;
+      seed = k .seed;
       queue = upd (k .queue) p rest;
       received = upd (k .received) p (λ u r. k .received p u r + load (by u) (weight r) out);
     }
@@ -116,6 +120,7 @@ toDropped k p out rest =
       sent = k .sent;
       received = k .received;
       entered = k .entered;
+      seed = k .seed;
       queue = upd (k .queue) p rest;
       dropped = upd (k .dropped) p (λ u r. k .dropped p u r + load (by u) (weight r) out);
     }
@@ -130,6 +135,7 @@ noteOpen k p u =
       received = k .received;
       dropped = k .dropped;
       entered = k .entered;
+      seed = k .seed;
       user = upd (k .user) p u;
     }
 
@@ -144,6 +150,7 @@ noteCreate k p i =
       dropped = k .dropped;
       handle = upd (k .handle) p (upd (k .handle p) i (notedOf (record { owner = p; number = k .entered }) 1));
       entered = suc (k .entered);
+      seed = k .seed;
     }
 
 -- An ID at a peer names a node; its count rises by 1.
@@ -182,8 +189,23 @@ noteSend k p is hs z =
       received = k .received;
       dropped = k .dropped;
       entered = k .entered;
+      seed = k .seed;
       queue = λ q. k .queue q ++ new q;
       sent = λ q u r. k .sent q u r + load (by u) (weight r) (new q);
+    }
+
+-- A seed: its attached nodes, and nothing else; no message is queued and none is counted.
+unfoldable pub noteSeed : Book → ℕ → List Node → Book
+noteSeed k p ns =
+    record {
+      user = k .user;
+      handle = k .handle;
+      queue = k .queue;
+      sent = k .sent;
+      received = k .received;
+      dropped = k .dropped;
+      entered = k .entered;
+      seed = upd (k .seed) p ns;
     }
 
 -- "Each attached ID shown, save the invalid one, names the node at its place; its count rises by 1."
@@ -219,6 +241,7 @@ dropHandles k p =
       received = k .received;
       dropped = k .dropped;
       entered = k .entered;
+      seed = k .seed;
       handle = upd (k .handle) p (λ i. blank);
     }
 
@@ -235,18 +258,22 @@ answersMessage a = eqb (getD a 1 0) 1
 abbrev pub shownIds : List ℕ → List ℕ
 shownIds a = build (λ j. numAt a (15 + 8 * j) 8) (getD a 14 0)
 
--- One accepted command, of the frame f, with the answer a. "All else .. changes nothing."
+-- One accepted command, of the frame f, with the answer a. "All else .. changes nothing." 02 No. 1: "its book keeps the attached nodes of the peer's last seed and enters the IDs that 0c
+-- shows as it does a receive's"; "disconnect drops the seed".
 unfoldable pub note : Book → List ℕ → List ℕ → Command → Book
 note k f a (Open p u) = noteOpen k (p .0) (u .0)
-note k f a (Disconnect p) = noteDisconnect k (p .0)
+note k f a (Disconnect p) = noteSeed (noteDisconnect k (p .0)) (p .0) []
 note k f a (Create p i) = noteCreate k (p .0) (i .0)
 note k f a (Destroy p i) = k
 note k f a (Release p i) = noteRelease k (p .0) (i .0) (k .handle (p .0) (i .0))
 note k f a (Transfer p i q) = noteTransfer k (k .handle (p .0) (i .0)) (q .0) (answeredId a)
-note k f a (Send p z) = noteSend k (p .0) (destinations f z) (attached f z) z
+note k f a (Send p z) =
+    let l = noteSend k (p .0) (destinations f z) (attached f z) z in
+    pick (eqb (z .nd) 0) (noteSeed l (p .0) (nodesOf k (p .0) (attached f z))) l
 note k f a (Receive p room) = pick (answersMessage a) (noteReceive k (p .0) (shownIds a) (k .queue (p .0))) k
 note k f a (Quota p u) = k
 note k f a (Holders p i) = k
+note k f a (ShowSeed p room) = learn k (p .0) (shownIds a) (k .seed (p .0))
 
 abbrev pub noteParsed : Book → List ℕ → List ℕ → Parsed → Book
 noteParsed k f a (Refused n) = k
@@ -277,6 +304,10 @@ othersQueued k q u r = sumTo (λ v. pick (eqb v u) 0 (queued k q v r)) users
 -- A frame that is a send, well formed or not, as far as it says something.
 abbrev pub isSend : List ℕ → Bool
 isSend f = eqb (opcode f) 7
+
+-- A seed is a send with no destinations; the totals leave it out.
+abbrev pub isSeed : List ℕ → Bool
+isSeed f = both (eqb (opcode f) 7) (eqb (getD f 2 0) 0)
 
 abbrev pub actingPeer : List ℕ → ℕ
 actingPeer f = getD f 1 0

@@ -11,14 +11,14 @@ use Rattle.laws.specs.Tests.{pick, Seen, Seen.is-true, Seen.is-false, look, cla
 use Rattle.laws.specs.Tables.{upd, upd-same, upd-other, upd-all}
 use Rattle.laws.specs.Weights.{All}
 use Rattle.frames.specs.declared.Command.{Command}
-use Rattle.frames.specs.declared.Command.the-variants.{Open, Disconnect, Create, Destroy, Release, Transfer, Send, Receive, Quota, Holders}
+use Rattle.frames.specs.declared.Command.the-variants.{Open, Disconnect, Create, Destroy, Release, Transfer, Send, Receive, Quota, Holders, ShowSeed}
 use Rattle.frames.specs.Frame.{mostIds, payloadOf}
 use Rattle.frames.specs.Legal.{Legal}
 use Rattle.model.specs.Numbers.{peers, slots, mostCommands, invalid, nextId}
-use Rattle.model.specs.State.{isLive, Handle, Handle.none, Handle.some, handleOf, held, count, Entry, Entry.message, Entry.destroyed, Entry.released, State, start, slot, total, freePlace}
+use Rattle.model.specs.State.{isLive, Handle, Handle.none, Handle.some, handleOf, held, count, Entry, Entry.message, Entry.destroyed, Entry.released, State, start, slot, total, freePlace, seedCarries, Seed, Seed.unset}
 use Rattle.model.specs.Requests.{destinations, attached}
 use Rattle.model.specs.Refusals.{refusal}
-use Rattle.model.specs.Tables.{accept, withStatus, withUser, withHandles, withHandle, withGiven, withQueues, withCharges, withLives}
+use Rattle.model.specs.Tables.{accept, withStatus, withUser, withHandles, withHandle, withGiven, withQueues, withCharges, withLives, withSeed}
 use Rattle.model.specs.Changes.{push, pushAll, takeOut, withdraw, shown, givenAfter, give, giveAll, forget, fell, notify, notifyAll, destroyAll, deliver}
 use Rattle.model.specs.Effects.{opens, creates, destroys, releases, releasesHandle, disconnects, receives, effect}
 use Rattle.model.specs.Step.{Call, run}
@@ -124,6 +124,10 @@ raised-disconnect b p = record { accepted = refl; given = λ q. omega arith; sum
         sum-more (λ q. count (upd (b .handle) p (λ s. none) q s)) (λ q. count (b .handle q s)) p 0 peers
         (λ q z. rw (upd-other (b .handle) p q (λ s. none) z) (omega arith)) (rw upd-same (omega arith))
 
+raised-seed : (b c : State) (p : ℕ) (x : Seed) (d : ℕ) → Raised b c d → Raised b (withSeed c p x) d
+unfolding withSeed
+raised-seed b c p x d r = record { accepted = r .accepted; sums = r .sums; given = r .given }
+
 -- One more command, that raises the numbers by at most 8.
 bounded-next : (b c : State) (d : ℕ) → Bounded b → b .accepted < mostCommands → Raised (accept b) c d → d ≤ mostIds → Bounded c
 unfolding accept
@@ -143,7 +147,7 @@ bounded-kept b f k x g e = (noted-kept b f k (x .0) g e, go k g e)
     go (Open p u) g e =
         bounded-next b (opens (accept b) (p .0) (u .0)) 0 (x .1) (tested b f (Open p u) e .room)
         (unfold opens withUser withStatus in raised-none (accept b) _ refl refl refl) (omega arith)
-    go (Disconnect p) g e = bounded-next b _ 0 (x .1) (tested b f (Disconnect p) e .room) (raised-disconnect (accept b) (p .0)) (omega arith)
+    go (Disconnect p) g e = bounded-next b _ 0 (x .1) (tested b f (Disconnect p) e .room) (raised-seed (accept b) _ (p .0) unset 0 (raised-disconnect (accept b) (p .0))) (omega arith)
     go (Create p i) g e = bounded-next b _ 1 (x .1) (tested b f (Create p i) e .acting .room) (raised-create (accept b) (p .0) (i .0)) (omega arith)
     go (Destroy p i) g e =
         bounded-next b (destroys (accept b) (p .0) (slot b (p .0) (i .0))) 0 (x .1) (tested b f (Destroy p i) e .acting .room)
@@ -153,13 +157,18 @@ bounded-kept b f k x g e = (noted-kept b f k (x .0) g e, go k g e)
         (raised-releases (accept b) (p .0) (slot b (p .0) (i .0)) (b .handle (p .0) (slot b (p .0) (i .0))) (unfold accept in refl)) (omega arith)
     go (Transfer p i q) g e = bounded-next b _ 1 (x .1) (tested b f (Transfer p i q) e .acting .room) (raised-give (accept b) (q .0) (slot b (p .0) (i .0))) (omega arith)
     go (Send p z) g e =
-        bounded-next b (deliver (accept b) (b .user (p .0)) (map (slot b (p .0)) (destinations f z)) (map (slot b (p .0)) (attached f z)) (payloadOf f)) 0 (x .1)
-        (tested b f (Send p z) e .acting .room) (unfold deliver withCharges pushAll withQueues in raised-none (accept b) _ refl refl refl) (omega arith)
+        bounded-next b (effect b f (Send p z)) 0 (x .1) (tested b f (Send p z) e .acting .room)
+        (pick-all (λ y. Raised (accept b) y 0) (eqb (z .nd) 0) _ _ (unfold withSeed deliver withCharges pushAll withQueues in raised-none (accept b) _ refl refl refl)
+        (unfold deliver withCharges pushAll withQueues in raised-none (accept b) _ refl refl refl))
+        (omega arith)
     go (Receive p room) g e =
         bounded-next b _ mostIds (x .1) (tested b f (Receive p room) e .acting .room)
         (raised-receive (accept b) (p .0) (b .queue (p .0)) (unfold accept in x .0) (unfold accept in refl)) (omega arith)
     go (Quota p u) g e = x .1
     go (Holders p i) g e = x .1
+    go (ShowSeed p room) g e =
+        bounded-next b _ (length (seedCarries (b .seed (p .0)))) (x .1) (tested b f (ShowSeed p room) e .acting .room)
+        (raised-giveAll (accept b) (p .0) (seedCarries (b .seed (p .0)))) (x .0 .seeds (p .0) .0)
 
 pub bounded : (cs : List Call) → Bounded (run cs)
 bounded cs = induction (λ b. Noted b × Bounded b) (noted-start, bounded-start) bounded-kept cs .1

@@ -14,8 +14,8 @@ use Rattle.quota.specs.declared.Charges.{Charges}
 use Rattle.quota.specs.Charges.{charged, discharged}
 use Rattle.model.specs.Numbers.{peers, owner, invalid, nextId}
 use Rattle.model.specs.Lists.{both}
-use Rattle.model.specs.State.{Life.dead, isLive, Handle, Handle.none, Handle.some, handleOf, held, count, idOr, Message, Entry, Entry.message, Entry.destroyed, Entry.released, messagesIn, State, total, byOwnerId}
-use Rattle.model.specs.Tables.{withGiven, withHandle, withQueues, withQueue, withCharges, withLives}
+use Rattle.model.specs.State.{Life.dead, isLive, Handle, Handle.none, Handle.some, handleOf, held, count, idOr, Message, Entry, Entry.message, Entry.destroyed, Entry.released, messagesIn, Seed, State, total, byOwnerId}
+use Rattle.model.specs.Tables.{withGiven, withHandle, withQueues, withQueue, withCharges, withSeed, withLives}
 use Rattle.model.specs.Refusals.{adds}
 
 -- Entries are queued behind those of the peer p; at every peer q those of new q.
@@ -123,3 +123,7 @@ arriving b u ds hs payload q =
 unfoldable pub deliver : State → ℕ → List ℕ → List ℕ → List ℕ → State
 deliver b u ds hs payload =
     withCharges (pushAll b (arriving b u ds hs payload)) (λ q. charged (b .charges q) (record { 0 = u }) (adds q ds (length payload) (length hs)))
+
+-- "a send with no destinations that replaces the peer's own seed", not charged; another send leaves it.
+abbrev pub reseed : State → Bool → ℕ → Seed → State
+reseed b t p x = pick t (withSeed b p x) b

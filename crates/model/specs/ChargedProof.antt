@@ -12,7 +12,7 @@ use Rattle.laws.specs.Tables.{upd-rel, upd-all}
 use Rattle.laws.specs.Weights.{load, keep, All, load-append, load-split, all-append, all-keep}
 use Rattle.laws.specs.Loads.{all-map}
 use Rattle.laws.specs.Build.{build-length}
-use Rattle.frames.specs.declared.Command.the-variants.{Open, Disconnect, Create, Destroy, Release, Transfer, Send, Receive, Quota, Holders}
+use Rattle.frames.specs.declared.Command.the-variants.{Open, Disconnect, Create, Destroy, Release, Transfer, Send, Receive, Quota, Holders, ShowSeed}
 use Rattle.frames.specs.declared.Sizes.{Sizes}
 use Rattle.frames.specs.Frame.{mostIds, mostBytes, payloadOf}
 use Rattle.frames.specs.Legal.{Sized, payload-length}
@@ -22,9 +22,9 @@ use Rattle.quota.specs.Charges.{users, freshCharges, charged}
 use Rattle.quota.specs.Step.{reached-fresh}
 use Rattle.model.specs.Numbers.{nodes}
 use Rattle.model.specs.Resources.{Resource, amount}
-use Rattle.model.specs.State.{Status.opened, Status.disconnected, Handle, Handle.none, Handle.some, handleOf, isLive, Message, Entry, Entry.message, Entry.destroyed, Entry.released, messagesIn, State, start, slot}
+use Rattle.model.specs.State.{Status.opened, Status.disconnected, Handle, Handle.none, Handle.some, handleOf, isLive, Message, Entry, Entry.message, Entry.destroyed, Entry.released, messagesIn, State, start, slot, Seed, Seed.unset, Seed.kept, seedCarries}
 use Rattle.model.specs.Requests.{destinations, attached}
-use Rattle.model.specs.Tables.{accept, withStatus, withUser, withHandles, withHandle, withQueues, withCharges}
+use Rattle.model.specs.Tables.{accept, withStatus, withUser, withHandles, withHandle, withQueues, withCharges, withSeed}
 use Rattle.model.specs.Refusals.{adds, fits}
 use Rattle.model.specs.Changes.{pushAll, dischargedAll, takeOut, dropped, remains, forget, destroyAll, arriving, deliver}
 use Rattle.model.specs.Effects.{opens, creates, destroys, releases, releasesHandle, disconnects, receives, effect}
@@ -170,23 +170,30 @@ charged-send b p f z h s t =
     (rw (payload-length f z s) (s .small))
     (rw length-map (t .fitting))
 
+charged-seed : (b : State) (p : ℕ) (x : Seed) → Charged b → Charged (withSeed b p x)
+unfolding withSeed
+charged-seed b p x h = record { at = h .at; known = h .known }
+
 -- Every accepted command.
 pub kept-charged : Kept Charged
 unfolding effect creates destroys accept
 kept-charged b f (Open p u) h l e = charged-opens (accept b) (p .0) (u .0) (charged-quiet (quiet-accept b) h) (omega (arith, l .1))
 kept-charged b f (Disconnect p) h l e =
     let t : Acting b (p .0) = tested b f (Disconnect p) e in
-    charged-disconnects (accept b) (p .0) (charged-quiet (quiet-accept b) h) (known-open b (p .0) h (t .is-open))
+    charged-seed _ (p .0) unset (charged-disconnects (accept b) (p .0) (charged-quiet (quiet-accept b) h) (known-open b (p .0) h (t .is-open)))
 kept-charged b f (Create p i) h l e = charged-quiet (quiet-then (quiet-then (quiet-accept b) (quiet-lives _ _)) (quiet-handles _ _ _)) h
 kept-charged b f (Destroy p i) h l e = charged-quiet (quiet-then (quiet-accept b) (quiet-destroyAll (accept b) (p .0) _)) h
 kept-charged b f (Release p i) h l e =
     let s = slot b (p .0) (i .0) in
     charged-releases-handle (accept b) (p .0) s (b .handle (p .0) s) (charged-quiet (quiet-accept b) h)
 kept-charged b f (Transfer p i q) h l e = charged-quiet (quiet-then (quiet-accept b) (quiet-give (accept b) (q .0) _)) h
-kept-charged b f (Send p z) h l e = charged-send b (p .0) f z h (l .1) (tested b f (Send p z) e)
+kept-charged b f (Send p z) h l e =
+    let d = charged-send b (p .0) f z h (l .1) (tested b f (Send p z) e) in
+    pick-all Charged (eqb (z .nd) 0) _ _ (charged-seed _ (p .0) (kept (payloadOf f) (map (slot b (p .0)) (attached f z))) d) d
 kept-charged b f (Receive p room) h l e = charged-receives (accept b) (p .0) (b .queue (p .0)) refl (charged-quiet (quiet-accept b) h)
 kept-charged b f (Quota p u) h l e = h
 kept-charged b f (Holders p i) h l e = h
+kept-charged b f (ShowSeed p room) h l e = charged-quiet (quiet-then (quiet-accept b) (quiet-giveAll (accept b) (p .0) (seedCarries (b .seed (p .0))))) h
 
 -- Every run.
 pub always-charged : (cs : List Call) → Charged (run cs)

@@ -5,6 +5,8 @@ use mathlib.Core.Path.{_≡_}
 use mathlib.Core.Bool.{true}
 use mathlib.Core.List.{List, [], _∷_}
 use lib.ListN.{getD}
+use lib.Dec.{eqb}
+use Rattle.model.specs.Lists.{either}
 use Rattle.ids.specs.Refusals.{EDQUOT}
 use Rattle.laws.specs.Bytes.{numAt}
 use Rattle.frames.specs.Frame.{opcode}
@@ -12,7 +14,7 @@ use Rattle.quota.specs.Charges.{users}
 use Rattle.model.specs.Resources.{Resource, Resource.messages, Resource.bytes, Resource.handles, most, share}
 use Rattle.model.specs.State.{State, start}
 use Rattle.model.specs.Step.{Call, Result, step, run, answerOf}
-use Rattle.model.specs.Book.{Book, Fed, empty, feedAll, queued, isSend, actingPeer, goesTo, wouldLeave}
+use Rattle.model.specs.Book.{Book, Fed, empty, feed, feedAll, queued, isSend, isSeed, actingPeer, goesTo, wouldLeave}
 
 -- Where the quota question's answer reports what is queued of a resource: "messages, bytes, handles .. (2 bytes each)" behind the 00.
 abbrev pub reported : Resource → List ℕ → ℕ
@@ -28,6 +30,8 @@ pub record Claim (k : Book) (x : Fed) : Type 0 where
   pub assured : isSend (x .frame) ≡ true → ((q : ℕ) (r : Resource) → 0 < goesTo k (x .frame) q → wouldLeave k (x .frame) q r ≤ share r) → x .number ≡ EDQUOT → ⊥
   -- The quota question, where it is not refused, reports as queued exactly the book's numbers.
   pub reports : opcode (x .frame) ≡ 9 → x .number ≡ 0 → (r : Resource) → reported r (x .answer) ≡ queued k (actingPeer (x .frame)) (getD (x .frame) 2 0) r
+  -- 02 No. 1: "The statement about queued totals leaves seeds out by name". Neither 07 with nd 0 nor 0c, whatever comes back, changes any queued total.
+  pub seeds : either (isSeed (x .frame)) (eqb (opcode (x .frame)) 12) ≡ true → (q u : ℕ) (r : Resource) → queued (feed k x) q u r ≡ queued k q u r
   -- Received plus dropped never exceed sent.
   pub sums : (q u : ℕ) (r : Resource) → k .received q u r + k .dropped q u r ≤ k .sent q u r
 

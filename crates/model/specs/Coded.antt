@@ -9,7 +9,7 @@ use Rattle.laws.specs.Tests.{pick-all}
 use Rattle.ids.specs.declared.HandleId.{HandleId}
 use Rattle.ids.specs.declared.Peer.{Peer}
 use Rattle.frames.specs.declared.Command.{Command}
-use Rattle.frames.specs.declared.Command.the-variants.{Open, Disconnect, Create, Destroy, Release, Transfer, Send, Receive, Quota, Holders}
+use Rattle.frames.specs.declared.Command.the-variants.{Open, Disconnect, Create, Destroy, Release, Transfer, Send, Receive, Quota, Holders, ShowSeed}
 use Rattle.frames.specs.declared.Parsed.{Parsed}
 use Rattle.frames.specs.declared.Parsed.the-variants.{Read, Refused}
 use Rattle.ids.specs.Refusals.{EINVAL, ENOTTY, EMSGSIZE}
@@ -28,6 +28,7 @@ code (Send p z) = 7
 code (Receive p r) = 8
 code (Quota p u) = 9
 code (Holders p i) = 10
+code (ShowSeed p r) = 12
 
 abbrev pub actor : Command → ℕ
 actor (Open p u) = p .0
@@ -40,6 +41,7 @@ actor (Send p z) = p .0
 actor (Receive p r) = p .0
 actor (Quota p u) = p .0
 actor (Holders p i) = p .0
+actor (ShowSeed p r) = p .0
 
 pub record Coded (f : List ℕ) (k : Command) : Type 0 where
   pub byte : opcode f ≡ code k
@@ -56,6 +58,7 @@ of-fields f (Send p z) h = record { byte = h .command; peer = sym (h .peer) }
 of-fields f (Receive p r) h = record { byte = h .command; peer = sym (h .peer) }
 of-fields f (Quota p u) h = record { byte = h .0 .command; peer = sym (h .0 .peer) }
 of-fields f (Holders p i) h = record { byte = h .0 .command; peer = sym (h .0 .peer) }
+of-fields f (ShowSeed p r) h = record { byte = h .command; peer = sym (h .peer) }
 
 -- A frame that was read.
 pub coded : (f : List ℕ) (k : Command) → parse f ≡ Read k → Coded f k
@@ -73,6 +76,7 @@ To f (Read (Send p z)) = Unit {0}
 To f (Read (Receive p r)) = Unit {0}
 To f (Read (Quota p u)) = Unit {0}
 To f (Read (Holders p i)) = Unit {0}
+To f (Read (ShowSeed p r)) = Unit {0}
 To f (Refused n) = Unit {0}
 
 to-send : (f : List ℕ) → To f (parseSend f)
@@ -83,8 +87,7 @@ to-send f =
     let nb = shortAt f 4 in
     pick-all (To f) (ltb (length f) 6) (Refused EINVAL) _ tt
     (pick-all (To f) (ltb lastPeer (getD f 1 0)) (Refused EINVAL) _ tt
-    (pick-all (To f) (eqb nd 0) (Refused EINVAL) _ tt
-    (pick-all (To f) (oversized nd nh nb) (Refused EMSGSIZE) _ tt (pick-all (To f) (eqb (length f) (sendLength nd nh nb)) _ (Refused EINVAL) tt tt))))
+    (pick-all (To f) (oversized nd nh nb) (Refused EMSGSIZE) _ tt (pick-all (To f) (eqb (length f) (sendLength nd nh nb)) _ (Refused EINVAL) tt tt)))
 
 to-rest : (f : List ℕ) (op : ℕ) (p : Peer) → To f (parseRest op p f)
 unfolding parseRest parseOpen parseCreate parseTransfer parseQuota
@@ -96,7 +99,8 @@ to-rest f op p =
     (pick-all (To f) (eqb op 5) _ _ tt
     (pick-all (To f) (eqb op 6) _ _ (pick-all (To f) (ltb lastPeer (getD f 10 0)) (Refused EINVAL) _ tt refl)
     (pick-all (To f) (eqb op 8) _ _ tt
-    (pick-all (To f) (eqb op 9) _ _ (pick-all (To f) (ltb lastUser (getD f 2 0)) (Refused EINVAL) _ tt tt) tt)))))))
+    (pick-all (To f) (eqb op 9) _ _ (pick-all (To f) (ltb lastUser (getD f 2 0)) (Refused EINVAL) _ tt tt)
+    (pick-all (To f) (eqb op 12) _ _ tt tt))))))))
 
 to-frame : (f : List ℕ) → To f (parse f)
 unfolding parse parseOther

@@ -12,7 +12,7 @@ use borrow.Author.Tests.{eqb-true, le-ltb}
 use Rattle.laws.specs.Tests.{pick, clash, Seen, Seen.is-true, Seen.is-false, look}
 use Rattle.laws.specs.Weights.{keep}
 use Rattle.frames.specs.declared.Command.{Command}
-use Rattle.frames.specs.declared.Command.the-variants.{Open, Disconnect, Create, Destroy, Release, Transfer, Send, Receive, Quota, Holders}
+use Rattle.frames.specs.declared.Command.the-variants.{Open, Disconnect, Create, Destroy, Release, Transfer, Send, Receive, Quota, Holders, ShowSeed}
 use Rattle.frames.specs.Frame.{parse}
 use Rattle.answers.specs.Answer.{answerSize, answerBytes, answerAfter, outcomeOf}
 use Rattle.model.specs.Lists.{either}
@@ -86,6 +86,7 @@ asked-leaves b f (Send p z) e = clash e
 asked-leaves b f (Receive p room) e = clash e
 asked-leaves b f (Quota p u) e = refl
 asked-leaves b f (Holders p i) e = refl
+asked-leaves b f (ShowSeed p room) e = clash e
 
 left-alone : (b : State) (c : Call) → isCounted (fed c (step b c)) ≡ false → step b c .state ≡ b
 left-alone b c h = go (came b c)

@@ -18,7 +18,7 @@ use Rattle.laws.specs.Weights.{All}
 use Rattle.ids.specs.declared.Peer.{Peer}
 use Rattle.frames.specs.declared.Sizes.{Sizes}
 use Rattle.frames.specs.declared.Command.{Command}
-use Rattle.frames.specs.declared.Command.the-variants.{Open, Disconnect, Create, Destroy, Release, Transfer, Send, Receive, Quota, Holders}
+use Rattle.frames.specs.declared.Command.the-variants.{Open, Disconnect, Create, Destroy, Release, Transfer, Send, Receive, Quota, Holders, ShowSeed}
 use Rattle.frames.specs.Frame.{opcode}
 use Rattle.answers.specs.Answer.{bit, idBytes}
 use Rattle.answers.specs.AnswerLaws.{ids-length}
@@ -95,29 +95,29 @@ letters-sent xs h p =
     let a : All (SentItem (historyFrom start cs)) (ledgerAfter cs .queue p) = rw (w .follows .queues p) (sent-all cs (w .name) (run cs .queue p) (w .sources p)) in
     rw (h .same) at a
 
--- Where the parts of a message stand in its bytes.
-module _ (to user flag nb nh : ℕ) (ids payload : List ℕ) where
-  abbrev bytes : List ℕ
-  bytes = 0 ∷ 1 ∷ be 8 to ++ (user ∷ flag ∷ be 2 nb ++ (nh ∷ idBytes ids ++ payload))
+-- Where the parts of a message stand in its bytes; a seed's have another kind.
+module _ (kind to user flag nb nh : ℕ) (ids payload : List ℕ) where
+  abbrev pub bytes : List ℕ
+  bytes = 0 ∷ kind ∷ be 8 to ++ (user ∷ flag ∷ be 2 nb ++ (nh ∷ idBytes ids ++ payload))
 
-  bytes-to : to < 256 ^ 8 → numAt bytes 2 8 ≡ to
-  bytes-to l = num-at (0 ∷ 1 ∷ []) _ 2 8 to refl l
+  pub bytes-to : to < 256 ^ 8 → numAt bytes 2 8 ≡ to
+  bytes-to l = num-at (0 ∷ kind ∷ []) _ 2 8 to refl l
 
-  bytes-user : getD bytes 10 0 ≡ user
+  pub bytes-user : getD bytes 10 0 ≡ user
   bytes-user = rw (be-eight to) refl
 
-  bytes-flag : getD bytes 11 0 ≡ flag
+  pub bytes-flag : getD bytes 11 0 ≡ flag
   bytes-flag = rw (be-eight to) refl
 
-  bytes-nb : nb < 65536 → numAt bytes 12 2 ≡ nb
+  pub bytes-nb : nb < 65536 → numAt bytes 12 2 ≡ nb
   bytes-nb l = rw (num-two, be-eight to, be-two nb) (omega arith)
 
-  bytes-nh : getD bytes 14 0 ≡ nh
+  pub bytes-nh : getD bytes 14 0 ≡ nh
   bytes-nh = rw (be-eight to, be-two nb) refl
 
-  bytes-payload : drop (15 + 8 * length ids) bytes ≡ payload
+  pub bytes-payload : drop (15 + 8 * length ids) bytes ≡ payload
   bytes-payload =
-      let front = 0 ∷ 1 ∷ be 8 to ++ (user ∷ flag ∷ be 2 nb ++ (nh ∷ idBytes ids)) in
+      let front = 0 ∷ kind ∷ be 8 to ++ (user ∷ flag ∷ be 2 nb ++ (nh ∷ idBytes ids)) in
       let n : length front ≡ 15 + 8 * length ids = simp (length-append, be-length) (omega (arith, ids-length ids)) in
       let e : bytes ≡ front ++ payload = simp append-assoc in
       rw (e, ← n) (drop-append-seam front payload)
@@ -129,7 +129,7 @@ module _ (l : Ledger) (k : Book) (p : ℕ) (small : (n i c : ℕ) → l .handle 
   id-valid n none e z = let y = new-front l p [] ns in let w : length (newNodes l p ns) ≡ length (y .0) = ap length (y .1) in omega (arith, ahead-le (n .number) (newNodes l p ns), w, y .2)
   id-valid n (some i c) e z = omega (arith, small (n .number) i c e)
 
-  attached-shown : (ids : List ℕ) → ids ≡ map (attachedId l p (newNodes l p ns)) ns → AttachedShown l k p ids ns
+  pub attached-shown : (ids : List ℕ) → ids ≡ map (attachedId l p (newNodes l p ns)) ns → AttachedShown l k p ids ns
   attached-shown ids e =
       let at : (i : ℕ) (n : Node) → AtOnePlace i n ids ns → i ≡ attachedId l p (newNodes l p ns) n = λ i n a. at-map (attachedId l p (newNodes l p ns)) i n ns (rw e at a) in
       record {
@@ -147,7 +147,7 @@ module _ (l : Ledger) (k : Book) (p : ℕ) (small : (n i c : ℕ) → l .handle 
       dead i n e z (is-true y) = absurd (id-valid n (l .handle p (n .number)) refl (sym (live-id l p (newNodes l p ns) n y) ∙ sym e ∙ z))
 
 -- One of the IDs that come to stand for their nodes.
-named-at : (k : Book) (p i : ℕ) (n : Node) (is : List ℕ) (ns : List Node) → ShownFor k p is ns → AtOnePlace i n is ns → (i ≡ invalid → ⊥) → (c : ℕ) × (k .handle p i ≡ noted n c)
+pub named-at : (k : Book) (p i : ℕ) (n : Node) (is : List ℕ) (ns : List Node) → ShownFor k p is ns → AtOnePlace i n is ns → (i ≡ invalid → ⊥) → (c : ℕ) × (k .handle p i ≡ noted n c)
 named-at k p i n [] ns s a v = absurd a
 named-at k p i n (j ∷ is) [] s a v = absurd a
 named-at k p i n (j ∷ is) (m ∷ ns) s (inr a) v = named-at k p i n is ns (s .1) a v
@@ -159,15 +159,15 @@ named-at k p i n (j ∷ is) (m ∷ ns) s (inl a) v = go (s .0)
 
 -- What the ledger of a run has of a peer's handles.
 module _ (cs : List Call) (w : Story (suc (length cs)) cs) (p : ℕ) where
-  ledger-small : (n i c : ℕ) → ledgerAfter cs .handle p n ≡ some i c → i < invalid
+  pub ledger-small : (n i c : ℕ) → ledgerAfter cs .handle p n ≡ some i c → i < invalid
   ledger-small n i c e =
       let x = w .follows .handles .placed p n (ap held e) in
       w .ids p (x .0) i c (sym (w .follows .handles .same p (x .0)) ∙ ap (ledgerAfter cs .handle p) (x .1) ∙ e) .1
 
-  ledger-few : ledgerAfter cs .given p + 8 < enough
+  pub ledger-few : ledgerAfter cs .given p + 8 < enough
   ledger-few = omega (arith, w .follows .given p, ready cs (w .ids) .few p)
 
-  ledger-same : (n : Node) (j c : ℕ) → bookAfter cs .handle p j ≡ noted n c → ledgerAfter cs .handle p (n .number) ≡ some j c
+  pub ledger-same : (n : Node) (j c : ℕ) → bookAfter cs .handle p j ≡ noted n c → ledgerAfter cs .handle p (n .number) ≡ some j c
   ledger-same n j c e =
       let x = w .sim .handles p .held-at j n c e in
       ap (λ (y : Node). ledgerAfter cs .handle p (y .number)) (x .3) ∙ w .follows .handles .same p (x .0) ∙ x .2
@@ -196,7 +196,7 @@ module _ (cs : List Call) (c : Call) (p : Peer) (room : ℕ) (a : Accepted (run 
     in-queue : l .queue (p .0) ≡ messageItem n letter ∷ rest
     in-queue = w .follows .queues (p .0) ∙ ap (map (itemOf (w .name))) e
 
-    message-due : answer ≡ bytes (ownName l (p .0) (letter .to)) (m .user) (bit (any (ofCommand n) rest)) (length (m .payload)) (length (letter .carried)) due (m .payload)
+    message-due : answer ≡ bytes 1 (ownName l (p .0) (letter .to)) (m .user) (bit (any (ofCommand n) rest)) (length (m .payload)) (length (letter .carried)) due (m .payload)
     message-due = answers-due cs c (Receive p room) (a .read) (a .number) ∙ ap (dueItem l (p .0)) in-queue
 
     ids-due : shownIds answer ≡ due
@@ -215,8 +215,8 @@ module _ (cs : List Call) (c : Call) (p : Peer) (room : ℕ) (a : Accepted (run 
         let y = some-of (b .handle (p .0) (m .to)) (st .1) in
         let to : ownName l (p .0) (letter .to) ≡ y .0 = ap (idOr invalid) (w .follows .handles .same (p .0) (m .to) ∙ y .2) in
         let small : y .0 < invalid = w .ids (p .0) (m .to) (y .0) (y .1) (y .2) .1 in
-        let shown : numAt answer 2 8 ≡ y .0 = rw message-due (bytes-to _ _ _ _ _ _ _ (rw to (omega (arith, small)))) ∙ to in
-        let nh : getD answer 14 0 ≡ length (letter .carried) = rw message-due (bytes-nh _ _ _ _ _ _ _) in
+        let shown : numAt answer 2 8 ≡ y .0 = rw message-due (bytes-to 1 _ _ _ _ _ _ _ (rw to (omega (arith, small)))) ∙ to in
+        let nh : getD answer 14 0 ≡ length (letter .carried) = rw message-due (bytes-nh 1 _ _ _ _ _ _ _) in
         let long : length due ≡ length (letter .carried) = ap length due-each ∙ length-map (letter .carried) _ in
         let most : length (letter .carried) ≤ 8 = rw length-map (fine .few) in
         let h : bookOf (historyFrom start cs ++ (fed c (step b c) ∷ [])) ≡ bookAfter (cs ++ (c ∷ [])) = sym (ap bookOf (history-append cs (c ∷ []) start ∙ unfold historyFrom in refl)) in
@@ -228,9 +228,9 @@ module _ (cs : List Call) (c : Call) (p : Peer) (room : ℕ) (a : Accepted (run 
           sent = sent-of cs (w .name) n m source;
           count = y .1;
           to = rw (shown, acts) (w .sim .handles (p .0) .noted-at (m .to) (y .0) (y .1) (y .2));
-          user = rw message-due (bytes-user _ _ _ _ _ _ _);
-          flag = rw message-due (bytes-flag _ _ _ _ _ _ _);
-          nb = rw message-due (bytes-nb _ _ _ _ _ _ _ (omega (arith, fine .small)));
+          user = rw message-due (bytes-user 1 _ _ _ _ _ _ _);
+          flag = rw message-due (bytes-flag 1 _ _ _ _ _ _ _);
+          nb = rw message-due (bytes-nb 1 _ _ _ _ _ _ _ (omega (arith, fine .small)));
           nh = nh;
           ids =
               rw acts
@@ -240,7 +240,7 @@ module _ (cs : List Call) (c : Call) (p : Peer) (room : ℕ) (a : Accepted (run 
           payload =
               rw (nh, ← long)
               (rw message-due
-              (bytes-payload (ownName l (p .0) (letter .to)) (m .user) (bit (any (ofCommand n) rest)) (length (m .payload)) (length (letter .carried)) due (m .payload)));
+              (bytes-payload 1 (ownName l (p .0) (letter .to)) (m .user) (bit (any (ofCommand n) rest)) (length (m .payload)) (length (letter .carried)) due (m .payload)));
         }
 
   received : actingPeer (c .frame) ≡ p .0 → (q : List Entry) → b .queue (p .0) ≡ q → answersMessage answer ≡ true → Delivered (historyFrom start cs) (fed c (step b c))
@@ -264,6 +264,7 @@ delivers-call cs c zero eight says = let y = accepted-call (run cs) c zero in go
     go (Receive p room) a = received cs c p room a (story (suc (length cs)) cs (omega arith)) (coded (c .frame) (Receive p room) (a .read) .peer) (run cs .queue (p .0)) refl says
     go (Quota p u) a = absurd (omega (arith, coded (c .frame) (Quota p u) (a .read) .byte))
     go (Holders p i) a = absurd (omega (arith, coded (c .frame) (Holders p i) (a .read) .byte))
+    go (ShowSeed p room) a = absurd (omega (arith, coded (c .frame) (ShowSeed p room) (a .read) .byte))
 
 pub delivers : Delivers
 delivers xs ys x h zero eight says =

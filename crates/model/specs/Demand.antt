@@ -1,26 +1,28 @@
 -- The third demand, proved. Book and bus go alike (SimRun), so what the book has queued is what the bus has; the bus's charges are the sums over its queues
 -- and within the share theorem (Charged), whatever the run.
 -- Assumes nothing.
+use mathlib.Core.Bool.{Bool, true, false}
+use Rattle.model.specs.Lists.{either}
 use Prim.Native.Nat.{ℕ, _+_, _*_, _≤_, _<_}
 use mathlib.Core.Path.{_≡_, refl, sym, _∙_}
 use mathlib.Core.Logic._⊎_.{inl, inr}
-use mathlib.Core.List.{List, map}
+use mathlib.Core.List.{List, map, [], _∷_}
 use native.Mathlib.Omega.{arith}
 use lib.ListN.{length, getD}
 use lib.Dec.{eqb, ltb}
-use borrow.Author.Tests.{eqb-true, lt-ltb}
+use borrow.Author.Tests.{eqb-true, lt-ltb, eq-eqb}
 use Rattle.ids.specs.Refusals.{EDQUOT}
-use Rattle.laws.specs.Tests.{pick, Seen, Seen.is-true, Seen.is-false, look}
+use Rattle.laws.specs.Tests.{pick, Seen, Seen.is-true, Seen.is-false, look, pick-all, clash}
 use Rattle.laws.specs.Weights.{load, keep}
-use Rattle.laws.specs.Build.{build-length}
+use Rattle.laws.specs.Build.{build-length, build}
 use Rattle.ids.specs.declared.Peer.{Peer}
 use Rattle.frames.specs.declared.Sizes.{Sizes}
 use Rattle.frames.specs.declared.Command.{Command}
-use Rattle.frames.specs.declared.Command.the-variants.{Open, Disconnect, Create, Destroy, Release, Transfer, Send, Receive, Quota, Holders}
+use Rattle.frames.specs.declared.Command.the-variants.{Open, Disconnect, Create, Destroy, Release, Transfer, Send, Receive, Quota, Holders, ShowSeed}
 use Rattle.frames.specs.declared.Parsed.{Parsed}
 use Rattle.frames.specs.declared.Parsed.the-variants.{Read, Refused}
 use Rattle.frames.specs.Frame.{opcode, parse, sendId, payloadOf}
-use Rattle.frames.specs.Legal.{Legal, Outcome, legal, payload-length}
+use Rattle.frames.specs.Legal.{Legal, Outcome, legal, payload-length, legal-command}
 use Rattle.frames.specs.Fields.{Fields, fields-command}
 use Rattle.quota.specs.Charges.{users, own}
 use Rattle.answers.specs.Answer.{answerSize, numberOf, outcomeOf}
@@ -30,8 +32,8 @@ use Rattle.model.specs.State.{messagesIn, State, slot}
 use Rattle.model.specs.Refusals.{refusesSend, refusal}
 use Rattle.model.specs.Step.{Call, carryOut, finish, step, run, answerOf}
 use Rattle.model.specs.StepLaws.{reply-number}
-use Rattle.model.specs.Book.{Book, queued, actingPeer, sizesOf, goesTo, wouldLeave, nodesOf, ownedBy, weight, by}
-use Rattle.model.specs.Claim.{reported, bookAfter, ThirdDemand}
+use Rattle.model.specs.Book.{Book, queued, actingPeer, sizesOf, goesTo, wouldLeave, nodesOf, ownedBy, weight, by, Node, Fed, learn, raise, putHandle, noteSeed, noteSend, incoming, note, noteParsed, feed, isSeed, shownIds}
+use Rattle.model.specs.Claim.{reported, bookAfter, ThirdDemand, fed}
 use Rattle.model.specs.Accepted.{Accepted, accepted-call}
 use Rattle.model.specs.Shown.{quota-reports}
 use Rattle.model.specs.Charged.{queuedBy, Charged}
@@ -41,6 +43,7 @@ use Rattle.model.specs.Sim.{called, Sim}
 use Rattle.model.specs.SimQueues.{load-told}
 use Rattle.model.specs.SimSend.{nodes-of-slots, places-is}
 use Rattle.model.specs.SimRun.{alike}
+use Rattle.model.specs.Numbers.{invalid}
 
 -- What the book has queued is what stands in the bus's queue.
 pub queued-is : {N : ℕ} (name : ℕ → ℕ) (b : State) (k : Book) → Sim N name b k → (q u : ℕ) (r : Resource) → queued k q u r ≡ queuedBy r u (messagesIn (b .queue q))
@@ -68,6 +71,7 @@ only-send b f (Send p z) o e l x r = record { peer = p; sizes = z; read = e; law
 only-send b f (Receive p room) o e l x r = absurd (omega (arith, x .command))
 only-send b f (Quota p u) o e l x r = absurd (omega (arith, x .0 .command))
 only-send b f (Holders p i) o e l x r = absurd (omega (arith, x .0 .command))
+only-send b f (ShowSeed p room) o e l x r = absurd (omega (arith, x .command))
 
 refused-send : (b : State) (c : Call) → opcode (c .frame) ≡ 7 → step b c .outcome .number ≡ EDQUOT → RefusedSend b (c .frame)
 unfolding step finish outcomeOf carryOut
@@ -130,6 +134,55 @@ reports name b k c (Quota p u) s h m a x o r =
     half-small Resource.bytes = omega arith
     half-small Resource.handles = omega arith
 reports name b k c (Holders p i) s h m a x o r = absurd (omega (arith, x .0 .command))
+reports name b k c (ShowSeed p room) s h m a x o r = absurd (omega (arith, x .command))
+
+-- A seed that is set, and one that is shown, change no total.
+learn-sums : (k : Book) (p : ℕ) (is : List ℕ) (ns : List Node) → (learn k p is ns .sent ≡ k .sent) × (learn k p is ns .received ≡ k .received) × (learn k p is ns .dropped ≡ k .dropped)
+unfolding putHandle
+learn-sums k p [] ns = (refl, refl, refl)
+learn-sums k p (i ∷ is) [] = (refl, refl, refl)
+learn-sums k p (i ∷ is) (n ∷ ns) =
+    pick-all (λ (y : Book). (learn y p is ns .sent ≡ k .sent) × (learn y p is ns .received ≡ k .received) × (learn y p is ns .dropped ≡ k .dropped)) (eqb i invalid) k (raise k p i n)
+    (learn-sums k p is ns) (learn-sums (raise k p i n) p is ns)
+
+seed-sums : (k : Book) (p : ℕ) (is hs : List ℕ) (z : Sizes) (ns : List Node) → is ≡ [] → (q u : ℕ) (r : Resource) → queued (noteSeed (noteSend k p is hs z) p ns) q u r ≡ queued k q u r
+unfolding noteSeed noteSend incoming
+seed-sums k p is hs z ns e q u r = rw e (omega arith)
+
+seeds-command : (k : Book) (f a : List ℕ) (c : Command) → Legal f c → Fields f c → either (isSeed f) (eqb (opcode f) 12) ≡ true → (q u : ℕ) (r : Resource) → queued (note k f a c) q u r ≡ queued k q u r
+unfolding note
+seeds-command k f a (Open p v) l x e q u r = clash (sym (rw (x .0 .command) at e))
+seeds-command k f a (Disconnect p) l x e q u r = clash (sym (rw (x .command) at e))
+seeds-command k f a (Create p i) l x e q u r = clash (sym (rw (x .0 .command) at e))
+seeds-command k f a (Destroy p i) l x e q u r = clash (sym (rw (x .0 .command) at e))
+seeds-command k f a (Release p i) l x e q u r = clash (sym (rw (x .0 .command) at e))
+seeds-command k f a (Transfer p i t) l x e q u r = clash (sym (rw (x .0 .command) at e))
+seeds-command k f a (Send p z) l x e q u r =
+    let y : eqb (getD f 2 0) 0 ≡ true = either-falsed (eqb (getD f 2 0) 0) (rw (x .command) at e) in
+    let nd : z .nd ≡ 0 = l .1 .destinations ∙ eqb-true (getD f 2 0) 0 y in
+    rw (eq-eqb (z .nd) 0 nd) (seed-sums k (p .0) (destinations f z) (attached f z) z (nodesOf k (p .0) (attached f z)) (none-of nd) q u r)
+  where
+    either-falsed : (t : Bool) → either t false ≡ true → t ≡ true
+    either-falsed true h = refl
+    either-falsed false h = clash (sym h)
+
+    none-of : z .nd ≡ 0 → destinations f z ≡ []
+    none-of h = unfold build in rw h
+seeds-command k f a (Receive p room) l x e q u r = clash (sym (rw (x .command) at e))
+seeds-command k f a (Quota p v) l x e q u r = refl
+seeds-command k f a (Holders p i) l x e q u r = refl
+seeds-command k f a (ShowSeed p room) l x e q u r =
+    let s = learn-sums k (p .0) (shownIds a) (k .seed (p .0)) in
+    rw (s .0, s .1, s .2)
+
+seeds-left : (k : Book) (x : Fed) → either (isSeed (x .frame)) (eqb (opcode (x .frame)) 12) ≡ true → (q u : ℕ) (r : Resource) → queued (feed k x) q u r ≡ queued k q u r
+unfolding feed
+seeds-left k x e q u r =
+    pick-all (λ (y : Book). queued y q u r ≡ queued k q u r) (eqb (x .number) 0) _ k (go (parse (x .frame)) refl) refl
+  where
+    go : (y : Parsed) → parse (x .frame) ≡ y → queued (noteParsed k (x .frame) (x .answer) y) q u r ≡ queued k q u r
+    go (Refused n) h = refl
+    go (Read c) h = seeds-command k (x .frame) (x .answer) c (legal-command (x .frame) c h) (fields-command (x .frame) c h) e q u r
 
 -- The third demand.
 pub third-demand : ThirdDemand
@@ -146,5 +199,6 @@ third-demand cs c =
       reports = λ nine z r.
           let y = accepted-call (run cs) c z in
           reports name (run cs) (bookAfter cs) c (y .0) s h m (y .1) (fields-command (c .frame) (y .0) (y .1 .read)) nine r;
+      seeds = λ e q u r. seeds-left (bookAfter cs) (fed c (step (run cs) c)) e q u r;
       sums = λ q u r. omega (arith, s .sums q u r);
     }

@@ -7,13 +7,13 @@ use lib.Dec.{eqb}
 use Rattle.laws.specs.Tests.{pick}
 use Rattle.laws.specs.Tables.{upd}
 use Rattle.frames.specs.declared.Command.{Command}
-use Rattle.frames.specs.declared.Command.the-variants.{Open, Disconnect, Create, Destroy, Release, Transfer, Send, Receive, Quota, Holders}
+use Rattle.frames.specs.declared.Command.the-variants.{Open, Disconnect, Create, Destroy, Release, Transfer, Send, Receive, Quota, Holders, ShowSeed}
 use Rattle.frames.specs.Frame.{payloadOf}
 use Rattle.model.specs.Numbers.{slots}
-use Rattle.model.specs.State.{Status.opened, Status.disconnected, Life.live, isLive, Handle, Handle.none, Handle.some, handleOf, Entry, Entry.message, Entry.destroyed, Entry.released, messagesIn, State, slot, freePlace}
+use Rattle.model.specs.State.{Status.opened, Status.disconnected, Life.live, isLive, Handle, Handle.none, Handle.some, handleOf, Entry, Entry.message, Entry.destroyed, Entry.released, messagesIn, Seed.unset, Seed.kept, seedCarries, State, slot, freePlace}
 use Rattle.model.specs.Requests.{destinations, attached}
-use Rattle.model.specs.Tables.{accept, withStatus, withUser, withHandles, withHandle, withLives}
-use Rattle.model.specs.Changes.{takeOut, give, giveAll, forget, notify, notifyAll, destroyAll, deliver}
+use Rattle.model.specs.Tables.{accept, withStatus, withUser, withHandles, withHandle, withSeed, withLives}
+use Rattle.model.specs.Changes.{takeOut, give, giveAll, forget, notify, notifyAll, destroyAll, deliver, reseed}
 
 -- "A peer belongs to one user".
 unfoldable pub opens : State → ℕ → ℕ → State
@@ -52,15 +52,19 @@ receives b p (message n m ∷ q) = giveAll (takeOut b p (m ∷ []) q) p (m .carr
 receives b p (destroyed n s ∷ q) = takeOut b p [] q
 receives b p (released n s ∷ q) = takeOut b p [] q
 
--- "Questions change nothing and are not counted."
+-- "disconnect drops the seed". "Questions change nothing and are not counted."
 unfoldable pub effect : State → List ℕ → Command → State
 effect b f (Open p u) = opens (accept b) (p .0) (u .0)
-effect b f (Disconnect p) = disconnects (accept b) (p .0)
+effect b f (Disconnect p) = withSeed (disconnects (accept b) (p .0)) (p .0) unset
 effect b f (Create p i) = creates (accept b) (p .0) (i .0)
 effect b f (Destroy p i) = destroys (accept b) (p .0) (slot b (p .0) (i .0))
 effect b f (Release p i) = let s = slot b (p .0) (i .0) in releasesHandle (accept b) (p .0) s (b .handle (p .0) s)
 effect b f (Transfer p i q) = give (accept b) (q .0) (slot b (p .0) (i .0))
-effect b f (Send p z) = deliver (accept b) (b .user (p .0)) (map (slot b (p .0)) (destinations f z)) (map (slot b (p .0)) (attached f z)) (payloadOf f)
+effect b f (Send p z) =
+    let ds = map (slot b (p .0)) (destinations f z) in
+    let hs = map (slot b (p .0)) (attached f z) in
+    reseed (deliver (accept b) (b .user (p .0)) ds hs (payloadOf f)) (eqb (z .nd) 0) (p .0) (kept (payloadOf f) hs)
 effect b f (Receive p room) = receives (accept b) (p .0) (b .queue (p .0))
 effect b f (Quota p u) = b
 effect b f (Holders p i) = b
+effect b f (ShowSeed p room) = giveAll (accept b) (p .0) (seedCarries (b .seed (p .0)))

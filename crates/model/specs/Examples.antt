@@ -17,13 +17,13 @@ use Rattle.quota.specs.Charges.{freshCharges, othersAll, allowsAll, balanceOf}
 use Rattle.answers.specs.Answer.{idBytes, headerBytes, noticeBytes, balanceBytes, holderBytes, messageBytes, receivedBytes, chargeBytes, contentsOf, answerBytes, answerAfter, outcomeOf}
 use Rattle.model.specs.Lists.{least, rising}
 use Rattle.model.specs.Numbers.{invalid}
-use Rattle.model.specs.State.{State, Status.opened, Life.dead, Handle.none, start, slotOf, total, heldByAny, named, counts, freePlace, byOwnerId}
-use Rattle.model.specs.Refusals.{placesAt, fits, refusesOpen, refusesDisconnect, refusesCreate, refusesDestroy, refusesRelease, refusesTransfer, refusesSend, refusesReceive, refusesQuota, refusesHolders, refusal}
-use Rattle.model.specs.Tables.{withStatus, withUser, withGiven, withHandles, withQueues, withCharges, withLives, accept}
+use Rattle.model.specs.State.{State, Status.opened, Life.dead, Handle.none, start, slotOf, total, heldByAny, named, counts, freePlace, byOwnerId, Seed.unset, seeded}
+use Rattle.model.specs.Refusals.{placesAt, fits, refusesOpen, refusesDisconnect, refusesCreate, refusesDestroy, refusesRelease, refusesTransfer, refusesSend, refusesReceive, refusesQuota, refusesHolders, refusal, refusesSeed}
+use Rattle.model.specs.Tables.{withStatus, withUser, withGiven, withHandles, withQueues, withCharges, withLives, accept, withSeed}
 use Rattle.model.specs.Changes.{pushAll, takeOut, withdraw, shown, give, forget, fell, notify, releaseNotices, notifyAll, destroyNotices, destroyAll, arriving, deliver}
 use Rattle.model.specs.Effects.{opens, creates, destroys, releases, disconnects, effect}
-use Rattle.model.specs.Replies.{showsMessage, holdersOf, reply}
-use Rattle.model.specs.Scripts.{opening, disconnect, create, destroy, release, send, receive, transfer, quota, holders, number, gives, queuedAndLeft, takes, takesFlag, destroyedAt, releasedAt, Row, Row.played, computed, expected, five, two, second, empties, done}
+use Rattle.model.specs.Replies.{showsMessage, holdersOf, reply, showsSeed}
+use Rattle.model.specs.Scripts.{opening, disconnect, create, destroy, release, send, receive, transfer, quota, holders, number, gives, queuedAndLeft, takes, takesFlag, destroyedAt, releasedAt, Row, Row.played, computed, expected, five, two, second, empties, done, showSeed, setSeed, showsAs}
 use Rattle.model.specs.Step.{carryOut, finish, step, answersFrom}
 
 -- "When the sum of counts over all peers falls to 1 from above on a live node, a release notice is queued at the owner."
@@ -166,15 +166,56 @@ share-of-handles =
     handles : ℕ → ℕ → ℕ → List (List ℕ)
     handles n p nh = replicate n (send p (7 ∷ []) (replicate nh 7) [])
 
+-- 02 No. 1. "a receive that shows it without removing it"; "Attached handles follow the receive rule each time it is shown": two showings raise the count to 3; a handle that went comes back
+-- under a new ID.
+abbrev pub seed-each-time : Row
+seed-each-time =
+    played (two ++ (showSeed 1 9 ∷ setSeed 1 (7 ∷ []) (51 ∷ []) ∷ showSeed 1 8 ∷ showSeed 1 9 ∷ showSeed 1 9 ∷ release 1 7 ∷ release 1 7 ∷ release 1 7 ∷ release 1 7 ∷ showSeed 1 9 ∷ []))
+    (number 11 ∷ number 0 ∷ number 34 ∷ showsAs 1 (7 ∷ []) (51 ∷ []) ∷ showsAs 1 (7 ∷ []) (51 ∷ []) ∷ number 0 ∷ number 0 ∷ number 0 ∷ number 6 ∷ showsAs 1 (11 ∷ []) (51 ∷ []) ∷ [])
+
+-- "not charged to any quota"; "0c is no receive in the rules of order".
+abbrev pub seed-uncharged : Row
+seed-uncharged =
+    played (two ++ (setSeed 1 (7 ∷ 7 ∷ []) (51 ∷ 52 ∷ []) ∷ quota 1 1 ∷ quota 0 1 ∷ showSeed 1 18 ∷ quota 1 1 ∷ receive 1 0 ∷ []))
+    (queuedAndLeft 0 0 0 32 2048 32 ∷ queuedAndLeft 0 0 0 32 2048 32 ∷ showsAs 1 (7 ∷ 7 ∷ []) (51 ∷ 52 ∷ []) ∷ queuedAndLeft 0 0 0 32 2048 32 ∷ number 11 ∷ [])
+
+-- "A node named by a seed counts against its owner as if by a queued message": peer 1's seed alone names the node 4 of peer 0; "replaces the peer's own seed"; "disconnect drops the seed".
+abbrev pub seed-keeps-room : Row
+seed-keeps-room =
+    played
+    (opening 0 0 ∷ opening 1 1 ∷ sixteen ++ (transfer 0 4 1 ∷ setSeed 1 (7 ∷ []) [] ∷ release 1 7 ∷ destroy 0 4 ∷ release 0 4 ∷ create 0 80 ∷ showSeed 1 8 ∷ setSeed 1 [] [] ∷ create 0 80 ∷ []))
+    (number 28 ∷ showsAs 1 (invalid ∷ []) [] ∷ number 0 ∷ number 0 ∷ [])
+
+abbrev pub seed-dropped : Row
+seed-dropped =
+    played
+    (opening 0 0 ∷ opening 1 1 ∷ sixteen ++ (transfer 0 4 1 ∷ setSeed 1 (7 ∷ []) [] ∷ release 1 7 ∷ destroy 0 4 ∷ release 0 4 ∷ create 0 80 ∷ disconnect 1 ∷ showSeed 1 8 ∷ create 0 80 ∷ []))
+    (number 28 ∷ number 0 ∷ number 108 ∷ number 0 ∷ [])
+
+-- An owner ID that was chosen again since is not shown for the node that it named: all ones stand there.
+abbrev pub seed-chosen-again : Row
+seed-chosen-again =
+    played (opening 0 0 ∷ create 0 8 ∷ create 0 12 ∷ setSeed 0 (8 ∷ 12 ∷ []) (51 ∷ []) ∷ destroy 0 8 ∷ release 0 8 ∷ create 0 8 ∷ showSeed 0 17 ∷ release 0 12 ∷ release 0 12 ∷ [])
+    (number 0 ∷ showsAs 0 (invalid ∷ 12 ∷ []) (51 ∷ []) ∷ number 0 ∷ number 1 ∷ [])
+
+-- "EINVAL for nd 0 no longer covers this form"; "Same sizes as a send": nh 9 is 90, a bare one too short 22, an unheld attached ID 6, and a refused one keeps the old seed.
+abbrev pub seed-refused : Row
+seed-refused =
+    played
+    (two
+    ++ (setSeed 1 [] (51 ∷ []) ∷ setSeed 1 (replicate 9 7) [] ∷ (7 ∷ 1 ∷ 0 ∷ 1 ∷ 0 ∷ 0 ∷ []) ∷ setSeed 1 (7 ∷ 8 ∷ []) [] ∷ setSeed 2 [] [] ∷ (12 ∷ 1 ∷ 0 ∷ []) ∷ (11 ∷ 1 ∷ 0 ∷ 0 ∷ []) ∷ showSeed 1 1 ∷ []))
+    (number 0 ∷ number 90 ∷ number 22 ∷ number 6 ∷ number 9 ∷ number 22 ∷ number 25 ∷ showsAs 1 [] (51 ∷ []) ∷ [])
+
 abbrev pub examples : List Row
 examples =
     released-notice ∷ withdrawn-risen ∷ withdrawn-destroyed ∷ destroyed-notices ∷ withdrawn-gone ∷ still-delivered ∷ dropped-with-owner ∷ flags ∷ doubled ∷ invalid-shown
     ∷ ordered ∷ held-by-two ∷ room-again ∷ room-named ∷ cascade ∷ notice-behind ∷ absent
-    ∷ back-at-the-end ∷ flag-of-dropped ∷ invalid-to-holder ∷ collide ∷ share-of-messages ∷ share-of-bytes ∷ share-of-handles ∷ []
+    ∷ back-at-the-end ∷ flag-of-dropped ∷ invalid-to-holder ∷ collide ∷ share-of-messages ∷ share-of-bytes ∷ share-of-handles ∷ seed-each-time ∷ seed-uncharged ∷ seed-keeps-room ∷ seed-dropped
+    ∷ seed-chosen-again ∷ seed-refused ∷ []
 
 pub shown-by-examples : All (λ r. computed r ≡ expected r) examples
-unfolding upd sumTo build first be numAt idAt shortAt parseSizes parseSend frameLength parseOpen parseCreate parseTransfer parseQuota parseRest parseOther parse sendId payloadOf othersAll allowsAll balanceOf idBytes headerBytes messageBytes noticeBytes receivedBytes chargeBytes balanceBytes holderBytes contentsOf answerBytes answerAfter outcomeOf least rising start slotOf total heldByAny named counts freePlace byOwnerId placesAt fits refusesOpen refusesDisconnect refusesCreate refusesDestroy refusesRelease refusesTransfer refusesSend refusesReceive refusesQuota refusesHolders refusal withStatus withUser withGiven withHandles withQueues withCharges withLives accept pushAll takeOut withdraw shown give forget fell notify releaseNotices notifyAll destroyNotices destroyAll arriving deliver opens creates destroys releases disconnects effect showsMessage holdersOf reply carryOut finish step answersFrom ones onesIn
-shown-by-examples = (refl, (refl, (refl, (refl, (refl, (refl, (refl, (refl, (refl, (refl, (refl, (refl, (refl, (refl, (refl, (refl, (refl, (refl, (refl, (refl, (refl, (refl, (refl, (refl, tt))))))))))))))))))))))))
+unfolding upd sumTo build first be numAt idAt shortAt parseSizes parseSend frameLength parseOpen parseCreate parseTransfer parseQuota parseRest parseOther parse sendId payloadOf othersAll allowsAll balanceOf idBytes headerBytes messageBytes noticeBytes receivedBytes chargeBytes balanceBytes holderBytes contentsOf answerBytes answerAfter outcomeOf least rising start slotOf total heldByAny named seeded counts freePlace byOwnerId placesAt fits refusesOpen refusesDisconnect refusesCreate refusesDestroy refusesRelease refusesTransfer refusesSend refusesReceive refusesQuota refusesHolders refusesSeed refusal withStatus withUser withGiven withHandles withQueues withCharges withSeed withLives accept pushAll takeOut withdraw shown give forget fell notify releaseNotices notifyAll destroyNotices destroyAll arriving deliver opens creates destroys releases disconnects effect showsMessage showsSeed holdersOf reply carryOut finish step answersFrom ones onesIn
+shown-by-examples = (refl, (refl, (refl, (refl, (refl, (refl, (refl, (refl, (refl, (refl, (refl, (refl, (refl, (refl, (refl, (refl, (refl, (refl, (refl, (refl, (refl, (refl, (refl, (refl, (refl, (refl, (refl, (refl, (refl, (refl, tt))))))))))))))))))))))))))))))
 
 -- A bus that has accepted n commands, peer 0 open.
 abbrev pub used : ℕ → State
@@ -186,6 +227,7 @@ used n =
       handle = λ p s. none;
       queue = λ p. [];
       charges = λ p. freshCharges;
+      seed = λ p. unset;
       life = λ s. dead 0;
       accepted = n;
     }
@@ -203,5 +245,5 @@ pub record Shown : Type 0 where
   pub not-yet : map (numberFrom (used 1099511627774)) (opening 0 0 ∷ disconnect 0 ∷ receive 0 0 ∷ []) ≡ 17 ∷ 0 ∷ 11 ∷ []
 
 pub equations : Shown
-unfolding upd sumTo build first be numAt idAt shortAt parseSizes parseSend frameLength parseOpen parseCreate parseTransfer parseQuota parseRest parseOther parse sendId payloadOf othersAll allowsAll balanceOf idBytes headerBytes messageBytes noticeBytes receivedBytes chargeBytes balanceBytes holderBytes contentsOf answerBytes answerAfter outcomeOf least rising start slotOf total heldByAny named counts freePlace byOwnerId placesAt fits refusesOpen refusesDisconnect refusesCreate refusesDestroy refusesRelease refusesTransfer refusesSend refusesReceive refusesQuota refusesHolders refusal withStatus withUser withGiven withHandles withQueues withCharges withLives accept pushAll takeOut withdraw shown give forget fell notify releaseNotices notifyAll destroyNotices destroyAll arriving deliver opens creates destroys releases disconnects effect showsMessage holdersOf reply carryOut finish step answersFrom ones onesIn
+unfolding upd sumTo build first be numAt idAt shortAt parseSizes parseSend frameLength parseOpen parseCreate parseTransfer parseQuota parseRest parseOther parse sendId payloadOf othersAll allowsAll balanceOf idBytes headerBytes messageBytes noticeBytes receivedBytes chargeBytes balanceBytes holderBytes contentsOf answerBytes answerAfter outcomeOf least rising start slotOf total heldByAny named seeded counts freePlace byOwnerId placesAt fits refusesOpen refusesDisconnect refusesCreate refusesDestroy refusesRelease refusesTransfer refusesSend refusesReceive refusesQuota refusesHolders refusesSeed refusal withStatus withUser withGiven withHandles withQueues withCharges withSeed withLives accept pushAll takeOut withdraw shown give forget fell notify releaseNotices notifyAll destroyNotices destroyAll arriving deliver opens creates destroys releases disconnects effect showsMessage showsSeed holdersOf reply carryOut finish step answersFrom ones onesIn
 equations = record { short-buffer = refl; past-the-end = refl; overflows = refl; not-yet = refl }

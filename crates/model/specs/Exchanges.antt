@@ -13,7 +13,7 @@ use Rattle.ids.specs.declared.HandleId.{HandleId}
 use Rattle.ids.specs.declared.Peer.{Peer}
 use Rattle.frames.specs.declared.Sizes.{Sizes}
 use Rattle.frames.specs.declared.Command.{Command}
-use Rattle.frames.specs.declared.Command.the-variants.{Open, Disconnect, Create, Destroy, Release, Transfer, Send, Receive, Quota, Holders}
+use Rattle.frames.specs.declared.Command.the-variants.{Open, Disconnect, Create, Destroy, Release, Transfer, Send, Receive, Quota, Holders, ShowSeed}
 use Rattle.frames.specs.declared.Parsed.the-variants.{Read}
 use Rattle.frames.specs.Frame.{sendId, parse}
 use Rattle.frames.specs.Legal.{Legal}
@@ -48,6 +48,7 @@ AllNamed b f (Send p z) = (length (nodesOf b (p .0) (destinations f z)) ≡ z .n
 AllNamed b f (Receive p room) = Unit {0}
 AllNamed b f (Quota p u) = Unit {0}
 AllNamed b f (Holders p i) = Unit {0}
+AllNamed b f (ShowSeed p room) = Unit {0}
 
 as-many : {N : ℕ} (name : ℕ → ℕ) (b : State) (k : Book) → Sim N name b k → (p : ℕ) (is : List ℕ) → All (λ i. slot b p i < nodes) is → length (nodesOf k p is) ≡ length is
 as-many name b k w p is h = ap length (nodes-of-slots name b k w p is h) ∙ length-map (map (slot b p) is) (called name) ∙ length-map is (slot b p)
@@ -68,6 +69,7 @@ all-named cs c (Send p z) a =
 all-named cs c (Receive p room) a = tt
 all-named cs c (Quota p u) a = tt
 all-named cs c (Holders p i) a = tt
+all-named cs c (ShowSeed p room) a = tt
 
 -- After the history xs: a refused command, or an accepted one.
 pub data Exchange (xs : List Fed) (x : Fed) : Type 0 where
@@ -131,6 +133,20 @@ is-disconnect (Send p z) e = absurd (omega arith)
 is-disconnect (Receive p room) e = absurd (omega arith)
 is-disconnect (Quota p u) e = absurd (omega arith)
 is-disconnect (Holders p i) e = absurd (omega arith)
+is-disconnect (ShowSeed p room) e = absurd (omega arith)
+
+pub is-create : (c : Command) → code c ≡ 3 → (p : Peer) × (i : HandleId) × (c ≡ Create p i)
+is-create (Open p u) e = absurd (omega arith)
+is-create (Disconnect p) e = absurd (omega arith)
+is-create (Create p i) e = (p, i, refl)
+is-create (Destroy p i) e = absurd (omega arith)
+is-create (Release p i) e = absurd (omega arith)
+is-create (Transfer p i q) e = absurd (omega arith)
+is-create (Send p z) e = absurd (omega arith)
+is-create (Receive p room) e = absurd (omega arith)
+is-create (Quota p u) e = absurd (omega arith)
+is-create (Holders p i) e = absurd (omega arith)
+is-create (ShowSeed p room) e = absurd (omega arith)
 
 pub is-destroy : (c : Command) → code c ≡ 4 → (p : Peer) × (i : HandleId) × (c ≡ Destroy p i)
 is-destroy (Open p u) e = absurd (omega arith)
@@ -143,6 +159,7 @@ is-destroy (Send p z) e = absurd (omega arith)
 is-destroy (Receive p room) e = absurd (omega arith)
 is-destroy (Quota p u) e = absurd (omega arith)
 is-destroy (Holders p i) e = absurd (omega arith)
+is-destroy (ShowSeed p room) e = absurd (omega arith)
 
 pub is-release : (c : Command) → code c ≡ 5 → (p : Peer) × (i : HandleId) × (c ≡ Release p i)
 is-release (Open p u) e = absurd (omega arith)
@@ -155,6 +172,7 @@ is-release (Send p z) e = absurd (omega arith)
 is-release (Receive p room) e = absurd (omega arith)
 is-release (Quota p u) e = absurd (omega arith)
 is-release (Holders p i) e = absurd (omega arith)
+is-release (ShowSeed p room) e = absurd (omega arith)
 
 pub is-send : (c : Command) → code c ≡ 7 → (p : Peer) × (z : Sizes) × (c ≡ Send p z)
 is-send (Open p u) e = absurd (omega arith)
@@ -167,3 +185,17 @@ is-send (Send p z) e = (p, z, refl)
 is-send (Receive p room) e = absurd (omega arith)
 is-send (Quota p u) e = absurd (omega arith)
 is-send (Holders p i) e = absurd (omega arith)
+is-send (ShowSeed p room) e = absurd (omega arith)
+
+pub is-show : (c : Command) → code c ≡ 12 → (p : Peer) × (room : ℕ) × (c ≡ ShowSeed p room)
+is-show (Open p u) e = absurd (omega arith)
+is-show (Disconnect p) e = absurd (omega arith)
+is-show (Create p i) e = absurd (omega arith)
+is-show (Destroy p i) e = absurd (omega arith)
+is-show (Release p i) e = absurd (omega arith)
+is-show (Transfer p i q) e = absurd (omega arith)
+is-show (Send p z) e = absurd (omega arith)
+is-show (Receive p room) e = absurd (omega arith)
+is-show (Quota p u) e = absurd (omega arith)
+is-show (Holders p i) e = absurd (omega arith)
+is-show (ShowSeed p room) e = (p, room, refl)

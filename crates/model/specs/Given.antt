@@ -17,18 +17,22 @@ use Rattle.model.specs.Step.{Call, Result, step, answerOf, run}
 use Rattle.model.specs.Book.{answeredId, answersMessage, shownIds}
 use Rattle.model.specs.Rising.{Sorted}
 
--- The IDs that the answer to a call shows to the peer p: a transfer's answer at its destination, and a received message's attached IDs at the acting peer.
+-- The IDs that the answer to a call shows to the peer p: a transfer's answer at its destination, and the attached IDs of a received message, or of a seed that is shown, at the acting peer.
 abbrev pub transferTo : ℕ → Call → Bool
 transferTo p c = both (eqb (opcode (c .frame)) 6) (eqb (getD (c .frame) 10 0) p)
 
 abbrev pub receiveBy : ℕ → Call → Bool
 receiveBy p c = both (eqb (opcode (c .frame)) 8) (eqb (getD (c .frame) 1 0) p)
 
+abbrev pub seedBy : ℕ → Call → Bool
+seedBy p c = both (eqb (opcode (c .frame)) 12) (eqb (getD (c .frame) 1 0) p)
+
 abbrev pub shownTo : ℕ → Call → Result → List ℕ
 shownTo p c r =
     pick (eqb (r .outcome .number) 0)
     (pick (transferTo p c) (answeredId (answerOf r) ∷ [])
-    (pick (both (receiveBy p c) (answersMessage (answerOf r))) (shownIds (answerOf r)) []))
+    (pick (both (receiveBy p c) (answersMessage (answerOf r))) (shownIds (answerOf r))
+    (pick (seedBy p c) (shownIds (answerOf r)) [])))
     []
 
 -- The peer holds an ID: where it does not, a command that names it is refused with 6.

@@ -23,12 +23,14 @@ use Rattle.model.specs.Rows.{bookOf, ledgerOf, isNoted}
 use Rattle.model.specs.RowsProof.{held-noted}
 use Rattle.model.specs.Happened.{Happened}
 
--- The IDs that an exchange shows to the peer p: a transfer's answer at its destination, and a received message's attached IDs at the acting peer.
+-- The IDs that an exchange shows to the peer p: a transfer's answer at its destination, and the attached IDs of a received message, or of a seed that is shown (02 No. 1), at the acting
+-- peer.
 abbrev pub shownIn : ℕ → Fed → List ℕ
 shownIn p x =
     pick (eqb (x .number) 0)
     (pick (both (eqb (opcode (x .frame)) 6) (eqb (getD (x .frame) 10 0) p)) (answeredId (x .answer) ∷ [])
-    (pick (both (both (eqb (opcode (x .frame)) 8) (eqb (actingPeer (x .frame)) p)) (answersMessage (x .answer))) (shownIds (x .answer)) []))
+    (pick (both (both (eqb (opcode (x .frame)) 8) (eqb (actingPeer (x .frame)) p)) (answersMessage (x .answer))) (shownIds (x .answer))
+    (pick (both (eqb (opcode (x .frame)) 12) (eqb (actingPeer (x .frame)) p)) (shownIds (x .answer)) [])))
     []
 
 -- The new ones among those that ys show after the history xs: not the invalid one, not one that the book has noted for the peer, not one shown before it in the same answer.

@@ -3,7 +3,7 @@
 use Prim.Native.Nat.{ℕ, zero, suc, _+_, _-_, _%_, _≤_, _<_}
 use mathlib.Core.Path.{_≡_, refl, sym, ap, ap₂, _∙_}
 use mathlib.Core.Bool.{Bool, true, false}
-use mathlib.Core.List.{List, [], _∷_, _++_, append-nil, append-assoc}
+use mathlib.Core.List.{List, [], _∷_, _++_, append-nil, append-assoc, map}
 use native.Mathlib.Omega.{arith}
 use lib.Dec.{eqb}
 use borrow.Author.Tests.{eq-eqb, ne-eqb}
@@ -14,17 +14,17 @@ use Rattle.laws.specs.Build.{build}
 use Rattle.ids.specs.declared.HandleId.{HandleId}
 use Rattle.ids.specs.declared.Peer.{Peer}
 use Rattle.frames.specs.declared.Command.{Command}
-use Rattle.frames.specs.declared.Command.the-variants.{Open, Disconnect, Create, Destroy, Release, Transfer, Send, Receive, Quota, Holders}
-use Rattle.frames.specs.Frame.{mostIds, opcode}
+use Rattle.frames.specs.declared.Command.the-variants.{Open, Disconnect, Create, Destroy, Release, Transfer, Send, Receive, Quota, Holders, ShowSeed}
+use Rattle.frames.specs.Frame.{mostIds, opcode, payloadOf}
 use Rattle.model.specs.Numbers.{nodes, invalid, nextId}
 use Rattle.model.specs.Lists.{both}
-use Rattle.model.specs.State.{isLive, Handle, Handle.none, Handle.some, handleOf, Entry, Entry.message, Entry.destroyed, Entry.released, State, start, slotOf, slot}
-use Rattle.model.specs.Tables.{accept, withStatus, withUser, withGiven, withHandles, withHandle, withQueues, withCharges, withLives}
+use Rattle.model.specs.State.{isLive, Handle, Handle.none, Handle.some, handleOf, Entry, Entry.message, Entry.destroyed, Entry.released, State, start, slotOf, slot, Seed, Seed.kept, seedCarries}
+use Rattle.model.specs.Tables.{accept, withStatus, withUser, withGiven, withHandles, withHandle, withQueues, withCharges, withLives, withSeed}
 use Rattle.model.specs.Refusals.{takeable, refusal}
-use Rattle.model.specs.Changes.{pushAll, takeOut, withdraw, shown, shownAll, give, giveAll, forget, notifyAll, destroyAll, deliver, givenAfter}
+use Rattle.model.specs.Changes.{pushAll, takeOut, withdraw, shown, shownAll, give, giveAll, forget, notifyAll, destroyAll, deliver, givenAfter, reseed}
 use Rattle.model.specs.Effects.{opens, creates, destroys, releases, releasesHandle, disconnects, receives, effect}
 use Rattle.model.specs.Tested.{tested}
-use Rattle.model.specs.Notices.{Stands}
+use Rattle.model.specs.Notices.{Stands, Carried}
 use Rattle.model.specs.NoticesProof.{noted}
 use Rattle.model.specs.BoundsProof.{given-bound}
 use Rattle.model.specs.SimGive.{shown-small, shown-all-small}
@@ -36,11 +36,12 @@ use Rattle.model.specs.IdsProof.{holding-out, holding}
 use Rattle.model.specs.Step.{Call, step, runFrom, run, answerOf}
 use Rattle.model.specs.Book.{answersMessage, shownIds}
 use Rattle.model.specs.Accepted.{Accepted, Came, Came.left, Came.done, came, run-append}
-use Rattle.model.specs.Shown.{transfer-answers, receive-message, receive-shows, receive-destroyed, receive-released}
+use Rattle.model.specs.Shown.{transfer-answers, receive-message, receive-shows, receive-destroyed, receive-released, seed-shows}
 use Rattle.model.specs.Coded.{coded, destination}
 use Rattle.model.specs.Rising.{Sorted}
 use Rattle.model.specs.Given.{shownTo, holdsId, newOf, givenFrom, Given}
 use Rattle.model.specs.GivenLaws.{mostGiven, all-new}
+use Rattle.model.specs.Requests.{attached}
 
 -- The IDs that the reply of an accepted command shows to p.
 abbrev idsIn : State → ℕ → List Entry → List ℕ
@@ -60,16 +61,18 @@ showing b (Send q z) p = []
 showing b (Receive q room) p = pick (eqb (q .0) p) (idsIn b (q .0) (b .queue (q .0))) []
 showing b (Quota q u) p = []
 showing b (Holders q i) p = []
+showing b (ShowSeed q room) p = pick (eqb (q .0) p) (shownAll b (q .0) (seedCarries (b .seed (q .0)))) []
 
 -- What the proof needs to know of a run's bus.
 record Facts (b : State) : Type 0 where
   holding : Holding b
   stands : (p : ℕ) → All (Stands (b .handle) (b .life) p) (b .queue p)
+  seeds : (p : ℕ) → Carried (seedCarries (b .seed p))
   few : (p : ℕ) → b .given p + mostIds ≤ mostGiven
   low : LowIds b
 
 facts : (cs : List Call) → Facts (run cs)
-facts cs = record { holding = holding cs; stands = noted cs .stands; few = λ p. omega (arith, given-bound cs p); low = alike cs .ids }
+facts cs = record { holding = holding cs; stands = noted cs .stands; seeds = noted cs .seeds; few = λ p. omega (arith, given-bound cs p); low = alike cs .ids }
 
 -- What is shown does not depend on how many commands were accepted.
 give-accept : (x : State) (p s : ℕ) → give (accept x) p s ≡ accept (give x p s)
@@ -151,13 +154,30 @@ release-given b p s (some i c) =
     ∙ pick-all (λ y. y .given ≡ b .given) (eqb c 1) (forget less p s) less (unfold forget takeOut withCharges withQueues withHandles accept in refl)
     (unfold withHandles accept in refl)
 
+-- A seed that is set gives nothing; one that is shown, as a message.
+seed-given : (a : State) (t : Bool) (q : ℕ) (x : Seed) (p : ℕ) → reseed a t q x .given p ≡ a .given p
+unfolding withSeed
+seed-given a true q x p = refl
+seed-given a false q x p = refl
+
+seed-new : (b : State) (q p : ℕ) (ss : List ℕ) → Facts b → Carried ss → Grown b (giveAll (accept b) q ss) p (pick (eqb q p) (shownAll b q ss) [])
+unfolding accept slotOf
+seed-new b q p ss v a = go (same? q p)
+  where
+    go : Same q p → Grown b (giveAll (accept b) q ss) p (pick (eqb q p) (shownAll b q ss) [])
+    go (other z) = rw (ne-eqb q p z) (none-new b (giveAll (accept b) q ss) p (givens-other (accept b) q ss p z))
+    go (same z) =
+        rw (← z, eq-eqb q q refl)
+        (ap (λ (z : List ℕ). build nextId (b .given q) ++ newOf (holdsId b q) z) (sym (shown-accept b q ss))
+        ∙ all-new (accept b) q ss (holdsId b q) (record { handles = v .holding .handles; owned = v .holding .owned }) (a .1) (omega (arith, v .few q, a .0)) (λ j n. refl))
+
 -- Every accepted command.
 command-new : (b : State) (f : List ℕ) (k : Command) → Facts b → refusal b f k ≡ 0 → (p : ℕ) → Grown b (effect b f k) p (showing b k p)
 unfolding effect
 command-new b f (Open q u) v e p = none-new b (opens (accept b) (q .0) (u .0)) p (unfold opens withUser withStatus accept in refl)
 command-new b f (Disconnect q) v e p =
-    none-new b (disconnects (accept b) (q .0)) p
-    (unfold disconnects notifyAll pushAll withQueues withStatus withHandles takeOut withCharges destroyAll withLives withdraw accept in refl)
+    none-new b (effect b f (Disconnect q)) p
+    (unfold withSeed disconnects notifyAll pushAll withQueues withStatus withHandles takeOut withCharges destroyAll withLives withdraw accept in refl)
 command-new b f (Create q i) v e p = none-new b (creates (accept b) (q .0) (i .0)) p (unfold creates withHandles withLives accept in refl)
 command-new b f (Destroy q i) v e p =
     none-new b (destroys (accept b) (q .0) (slot b (q .0) (i .0))) p (unfold destroys destroyAll pushAll withQueues withLives withdraw accept in refl)
@@ -165,10 +185,12 @@ command-new b f (Release q i) v e p =
     none-new b (effect b f (Release q i)) p
     (ap (λ (g : ℕ → ℕ). g p) (release-given b (q .0) (slot b (q .0) (i .0)) (b .handle (q .0) (slot b (q .0) (i .0)))))
 command-new b f (Transfer q i t) v e p = transfer-new b (t .0) (slot b (q .0) (i .0)) p v (tested b f (Transfer q i t) e .holds)
-command-new b f (Send q z) v e p = none-new b (effect b f (Send q z)) p (unfold deliver withCharges pushAll withQueues accept in refl)
+command-new b f (Send q z) v e p =
+    none-new b (effect b f (Send q z)) p (seed-given _ (eqb (z .nd) 0) (q .0) (kept (payloadOf f) (map (slot b (q .0)) (attached f z))) p ∙ (unfold deliver withCharges pushAll withQueues accept in refl))
 command-new b f (Receive q room) v e p = receive-new b (q .0) p (b .queue (q .0)) v (v .stands (q .0))
 command-new b f (Quota q u) v e p = none-new b b p refl
 command-new b f (Holders q i) v e p = none-new b b p refl
+command-new b f (ShowSeed q room) v e p = seed-new b (q .0) p (seedCarries (b .seed (q .0))) v (v .seeds (q .0))
 
 -- What the bytes of the answer show is what the reply shows.
 transfer-shows : (b : State) (c : Call) (q : Peer) (i : HandleId) (t : Peer) (p : ℕ) → Facts b → Accepted b c (Transfer q i t) →
@@ -210,24 +232,28 @@ module _ (b : State) (c : Call) (q : Peer) (room p : ℕ) (v : Facts b) (a : Acc
   receive-shown = receive-frame ∙ receive-first (b .queue (q .0)) refl (v .stands (q .0)) (tested b (c .frame) (Receive q room) (a .unrefused) .next)
 
 -- A command of another kind shows no ID.
-no-ids : (b : State) (c : Call) (p n : ℕ) → opcode (c .frame) ≡ n → eqb n 6 ≡ false → eqb n 8 ≡ false → shownTo p c (step b c) ≡ []
-no-ids b c p n e f g = go (look (eqb (step b c .outcome .number) 0))
+no-ids : (b : State) (c : Call) (p n : ℕ) → opcode (c .frame) ≡ n → eqb n 6 ≡ false → eqb n 8 ≡ false → eqb n 12 ≡ false → shownTo p c (step b c) ≡ []
+no-ids b c p n e f g h = go (look (eqb (step b c .outcome .number) 0))
   where
     go : Seen (eqb (step b c .outcome .number) 0) → shownTo p c (step b c) ≡ []
-    go (is-true z) = rw (z, e, f, g) refl
+    go (is-true z) = rw (z, e, f, g, h) refl
     go (is-false z) = rw z refl
 
 answer-shows : (b : State) (c : Call) (k : Command) (p : ℕ) → Facts b → Accepted b c k → shownTo p c (step b c) ≡ showing b k p
-answer-shows b c (Open q u) p v a = no-ids b c p 1 (coded (c .frame) (Open q u) (a .read) .byte) refl refl
-answer-shows b c (Disconnect q) p v a = no-ids b c p 2 (coded (c .frame) (Disconnect q) (a .read) .byte) refl refl
-answer-shows b c (Create q i) p v a = no-ids b c p 3 (coded (c .frame) (Create q i) (a .read) .byte) refl refl
-answer-shows b c (Destroy q i) p v a = no-ids b c p 4 (coded (c .frame) (Destroy q i) (a .read) .byte) refl refl
-answer-shows b c (Release q i) p v a = no-ids b c p 5 (coded (c .frame) (Release q i) (a .read) .byte) refl refl
+answer-shows b c (Open q u) p v a = no-ids b c p 1 (coded (c .frame) (Open q u) (a .read) .byte) refl refl refl
+answer-shows b c (Disconnect q) p v a = no-ids b c p 2 (coded (c .frame) (Disconnect q) (a .read) .byte) refl refl refl
+answer-shows b c (Create q i) p v a = no-ids b c p 3 (coded (c .frame) (Create q i) (a .read) .byte) refl refl refl
+answer-shows b c (Destroy q i) p v a = no-ids b c p 4 (coded (c .frame) (Destroy q i) (a .read) .byte) refl refl refl
+answer-shows b c (Release q i) p v a = no-ids b c p 5 (coded (c .frame) (Release q i) (a .read) .byte) refl refl refl
 answer-shows b c (Transfer q i t) p v a = transfer-shows b c q i t p v a
-answer-shows b c (Send q z) p v a = no-ids b c p 7 (coded (c .frame) (Send q z) (a .read) .byte) refl refl
+answer-shows b c (Send q z) p v a = no-ids b c p 7 (coded (c .frame) (Send q z) (a .read) .byte) refl refl refl
 answer-shows b c (Receive q room) p v a = receive-shown b c q room p v a
-answer-shows b c (Quota q u) p v a = no-ids b c p 9 (coded (c .frame) (Quota q u) (a .read) .byte) refl refl
-answer-shows b c (Holders q i) p v a = no-ids b c p 10 (coded (c .frame) (Holders q i) (a .read) .byte) refl refl
+answer-shows b c (Quota q u) p v a = no-ids b c p 9 (coded (c .frame) (Quota q u) (a .read) .byte) refl refl refl
+answer-shows b c (Holders q i) p v a = no-ids b c p 10 (coded (c .frame) (Holders q i) (a .read) .byte) refl refl refl
+answer-shows b c (ShowSeed q room) p v a =
+    let d = coded (c .frame) (ShowSeed q room) (a .read) in
+    let h = shown-all-small b (q .0) (seedCarries (b .seed (q .0))) (v .low) (omega (arith, v .seeds (q .0) .0, v .few (q .0))) in
+    rw (eq-eqb (step b c .outcome .number) 0 (a .number), d .byte, d .peer, seed-shows b c q room a (v .seeds (q .0) .0) h) refl
 
 -- Every call, and every run.
 call-new : (b : State) (c : Call) (p : ℕ) → Facts b → Grown b (step b c .state) p (shownTo p c (step b c))

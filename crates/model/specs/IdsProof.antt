@@ -12,11 +12,11 @@ use Rattle.laws.specs.Tables.{upd, upd-all}
 use Rattle.laws.specs.Search.{first-before}
 use Rattle.laws.specs.Weights.{All}
 use Rattle.frames.specs.declared.Command.{Command}
-use Rattle.frames.specs.declared.Command.the-variants.{Open, Disconnect, Create, Destroy, Release, Transfer, Send, Receive, Quota, Holders}
+use Rattle.frames.specs.declared.Command.the-variants.{Open, Disconnect, Create, Destroy, Release, Transfer, Send, Receive, Quota, Holders, ShowSeed}
 use Rattle.frames.specs.Legal.{Legal}
 use Rattle.model.specs.Numbers.{peers, slots, nodes, owner}
-use Rattle.model.specs.State.{Handle, Handle.none, Handle.some, handleOf, hasId, Message, Entry, Entry.message, Entry.destroyed, Entry.released, State, start, slotOf, slot, counts, freePlace}
-use Rattle.model.specs.Tables.{accept, withStatus, withUser, withHandles, withHandle, withQueues, withCharges, withLives}
+use Rattle.model.specs.State.{Handle, Handle.none, Handle.some, handleOf, hasId, Message, Entry, Entry.message, Entry.destroyed, Entry.released, State, start, slotOf, slot, counts, freePlace, seedCarries}
+use Rattle.model.specs.Tables.{accept, withStatus, withUser, withHandles, withHandle, withQueues, withCharges, withLives, withSeed}
 use Rattle.model.specs.Refusals.{refusal}
 use Rattle.model.specs.Changes.{pushAll, takeOut, withdraw, forget, notify, notifyAll, destroyAll, deliver}
 use Rattle.model.specs.Effects.{opens, creates, destroys, releases, releasesHandle, disconnects, receives, effect}
@@ -107,7 +107,7 @@ ids-receive b p (released n s ∷ q) a v = holding-out b p [] q v .handles
 pub ids-kept : (b : State) (f : List ℕ) (k : Command) → Holding b → Noted b → Legal f k → refusal b f k ≡ 0 → Ids (effect b f k)
 unfolding effect
 ids-kept b f (Open p u) v w l e = unfold opens withUser withStatus accept in v .handles
-ids-kept b f (Disconnect p) v w l e = ids-disconnect b (p .0) (v .handles)
+ids-kept b f (Disconnect p) v w l e = unfold withSeed in ids-disconnect b (p .0) (v .handles)
 ids-kept b f (Create p i) v w l e = ids-create b (p .0) (i .0) (omega (arith, l .0)) (l .1) (tested b f (Create p i) e) (v .handles)
 ids-kept b f (Destroy p i) v w l e = unfold destroys destroyAll pushAll withQueues withLives withdraw accept in v .handles
 ids-kept b f (Release p i) v w l e =
@@ -115,10 +115,13 @@ ids-kept b f (Release p i) v w l e =
     ids-release b (p .0) s (b .handle (p .0) s) refl (v .handles)
 ids-kept b f (Transfer p i q) v w l e =
     holding-give (accept b) (q .0) (slot b (p .0) (i .0)) (unfold accept in record { handles = v .handles; owned = v .owned }) (tested b f (Transfer p i q) e .holds) .handles
-ids-kept b f (Send p z) v w l e = unfold deliver withCharges pushAll withQueues accept in v .handles
+ids-kept b f (Send p z) v w l e =
+    pick-all Ids (eqb (z .nd) 0) _ _ (unfold withSeed deliver withCharges pushAll withQueues accept in v .handles) (unfold deliver withCharges pushAll withQueues accept in v .handles)
 ids-kept b f (Receive p room) v w l e = ids-receive b (p .0) (b .queue (p .0)) (w .stands (p .0)) v
 ids-kept b f (Quota p u) v w l e = v .handles
 ids-kept b f (Holders p i) v w l e = v .handles
+ids-kept b f (ShowSeed p room) v w l e =
+    holding-gives (accept b) (p .0) (seedCarries (b .seed (p .0))) (unfold accept in record { handles = v .handles; owned = v .owned }) (w .seeds (p .0) .1) .handles
 
 both-kept : Kept (λ b. Noted b × Ids b)
 both-kept b f k v l e = (noted-kept b f k (v .0) l e, ids-kept b f k (record { handles = v .1; owned = v .0 .owned }) (v .0) l e)

@@ -1,6 +1,6 @@
 -- The ledger: what must be known beside document 01's book to say what each answer has to show. It is fed what the book is fed, the bytes of each frame, the number that came back
 -- and the bytes of the answer, and nothing else; nodes have the book's names. It has what the book leaves out: which nodes live, whose they are, how many IDs each peer was given,
--- and each queue with its notices, payloads and the numbers of the commands that queued them.
+-- each queue with its notices, payloads and the numbers of the commands that queued them, and each seed with its payload.
 -- Assumes nothing.
 use Prim.Native.Nat.{ℕ, suc, _-_, _^_}
 use mathlib.Core.Path.{_≡_}
@@ -15,7 +15,7 @@ use Rattle.laws.specs.Sums.{sumTo}
 use Rattle.laws.specs.Weights.{keep}
 use Rattle.laws.specs.Bytes.{be}
 use Rattle.frames.specs.declared.Command.{Command}
-use Rattle.frames.specs.declared.Command.the-variants.{Open, Disconnect, Create, Destroy, Release, Transfer, Send, Receive, Quota, Holders}
+use Rattle.frames.specs.declared.Command.the-variants.{Open, Disconnect, Create, Destroy, Release, Transfer, Send, Receive, Quota, Holders, ShowSeed}
 use Rattle.frames.specs.declared.Parsed.{Parsed}
 use Rattle.frames.specs.declared.Parsed.the-variants.{Read, Refused}
 use Rattle.frames.specs.Frame.{parse, payloadOf}
@@ -44,6 +44,15 @@ pub data Item : Type 0 where
   destroyed : ℕ → Node → Item
   released : ℕ → Node → Item
 
+-- A peer's seed as it was set: its payload and the nodes of its attached handles; or none is set (02 No. 1).
+pub data LedgerSeed : Type 0 where
+  unset : LedgerSeed
+  kept : List ℕ → List Node → LedgerSeed
+
+abbrev pub seedNodes : LedgerSeed → List Node
+seedNodes unset = []
+seedNodes (kept payload ns) = ns
+
 pub record Ledger : Type 0 where
   pub book : Book
   -- how many commands were accepted, questions not counted
@@ -51,10 +60,11 @@ pub record Ledger : Type 0 where
   -- of each node, by its number: the peer that created it, and whether it lives
   pub maker : ℕ → ℕ
   pub lives : ℕ → Bool
-  -- of each peer: its handle to each node, by the node's number; how many IDs it was given; what waits, oldest first
+  -- of each peer: its handle to each node, by the node's number; how many IDs it was given; what waits, oldest first; its seed
   pub handle : ℕ → ℕ → Handle
   pub given : ℕ → ℕ
   pub queue : ℕ → List Item
+  pub seed : ℕ → LedgerSeed
 
 unfoldable pub blankLedger : Ledger
 blankLedger =
@@ -66,6 +76,7 @@ blankLedger =
       handle = λ p n. none;
       given = λ p. 0;
       queue = λ p. [];
+      seed = λ p. unset;
     }
 
 -- "Creation gives the owner count 1": the book's next node.
@@ -74,6 +85,7 @@ ledgerCreate l p i =
     let n = l .book .entered in
     record {
       book = l .book;
+      seed = l .seed;
       accepted = l .accepted;
       given = l .given;
       queue = l .queue;
@@ -93,6 +105,7 @@ unfoldable pub ledgerDestroy : Ledger → Node → Ledger
 ledgerDestroy l n =
     record {
       book = l .book;
+      seed = l .seed;
       accepted = l .accepted;
       maker = l .maker;
       handle = l .handle;
@@ -118,6 +131,7 @@ ledgerRelease l p i n c =
     let after = upd (l .handle) p (upd (l .handle p) (n .number) (handleOf i (c - 1))) in
     record {
       book = l .book;
+      seed = l .seed;
       accepted = l .accepted;
       maker = l .maker;
       lives = l .lives;
@@ -138,6 +152,7 @@ ledgerGive l p n =
     pick (l .lives (n .number))
     (record {
       book = l .book;
+      seed = l .seed;
       accepted = l .accepted;
       maker = l .maker;
       lives = l .lives;
@@ -161,6 +176,7 @@ unfoldable pub ledgerQueues : Ledger → (ℕ → List Item) → Ledger
 ledgerQueues l f =
     record {
       book = l .book;
+      seed = l .seed;
       accepted = l .accepted;
       maker = l .maker;
       lives = l .lives;
@@ -176,6 +192,20 @@ letters k u payload carried ds = map (λ n. message k (record { user = u; to = n
 abbrev pub ledgerSend : Ledger → ℕ → List Node → List Node → List ℕ → Ledger
 ledgerSend l u ds hs payload = ledgerQueues l (λ q. l .queue q ++ letters (l .accepted) u payload hs (keep (ownedBy q) ds))
 
+-- 02 No. 1: "a send with no destinations that replaces the peer's own seed". The seed of p anew, where t says so.
+unfoldable pub ledgerSeed : Ledger → Bool → ℕ → LedgerSeed → Ledger
+ledgerSeed l t p x =
+    record {
+      book = l .book;
+      seed = pick t (upd (l .seed) p x) (l .seed);
+      accepted = l .accepted;
+      maker = l .maker;
+      lives = l .lives;
+      handle = l .handle;
+      given = l .given;
+      queue = l .queue;
+    }
+
 -- Receive: the first is taken out; of a message each attached handle is given. No run reaches `[]`: a receive with nothing queued is refused with 11.
 abbrev pub ledgerReceive : Ledger → ℕ → List Item → Ledger
 ledgerReceive l p [] = l
@@ -189,13 +219,15 @@ byOwnId l p t =
     let all = l .book .entered in
     map (λ n. record { owner = p; number = n }) (rising (λ n. both (eqb (l .maker n) p) (t n)) (λ n. idOr 0 (l .handle p n)) all all)
 
--- "Disconnect: drop the queue, destroy live nodes, release all handles."; "destroy notices by ascending owner ID; then release notices by ascending owner ID".
+-- "Disconnect: drop the queue, destroy live nodes, release all handles."; "destroy notices by ascending owner ID; then release notices by ascending owner ID"; 02 No. 1: "disconnect drops
+-- the seed".
 unfoldable pub ledgerDisconnect : Ledger → ℕ → Ledger
 ledgerDisconnect l p =
     let after = upd (l .handle) p (λ n. none) in
     let living : ℕ → Bool = λ n. both (not (eqb (l .maker n) p)) (l .lives n) in
     record {
       book = l .book;
+      seed = upd (l .seed) p unset;
       accepted = l .accepted;
       maker = l .maker;
       given = l .given;
@@ -215,6 +247,7 @@ unfoldable pub ledgerCounted : Ledger → Ledger
 ledgerCounted l =
     record {
       book = l .book;
+      seed = l .seed;
       accepted = suc (l .accepted);
       maker = l .maker;
       lives = l .lives;
@@ -238,10 +271,12 @@ enter l f (Release p i) = let k = ledgerCounted l in onNode k (l .book .handle (
 enter l f (Transfer p i q) = let k = ledgerCounted l in onNode k (l .book .handle (p .0) (i .0)) (λ n c. ledgerGive k (q .0) n)
 enter l f (Send p z) =
     let k = l .book in
-    ledgerSend (ledgerCounted l) (k .user (p .0)) (nodesOf k (p .0) (destinations f z)) (nodesOf k (p .0) (attached f z)) (payloadOf f)
+    let hs = nodesOf k (p .0) (attached f z) in
+    ledgerSeed (ledgerSend (ledgerCounted l) (k .user (p .0)) (nodesOf k (p .0) (destinations f z)) hs (payloadOf f)) (eqb (z .nd) 0) (p .0) (kept (payloadOf f) hs)
 enter l f (Receive p room) = ledgerReceive (ledgerCounted l) (p .0) (l .queue (p .0))
 enter l f (Quota p u) = l
 enter l f (Holders p i) = l
+enter l f (ShowSeed p room) = ledgerGiveAll (ledgerCounted l) (p .0) (seedNodes (l .seed (p .0)))
 
 abbrev pub enterParsed : Ledger → List ℕ → Parsed → Ledger
 enterParsed l f (Refused n) = l
@@ -252,6 +287,7 @@ unfoldable pub withBook : Ledger → Book → Ledger
 withBook l k =
     record {
       book = k;
+      seed = l .seed;
       accepted = l .accepted;
       maker = l .maker;
       lives = l .lives;
@@ -300,6 +336,13 @@ dueItem l p (message k m ∷ rest) =
 dueItem l p (destroyed k n ∷ rest) = 0 ∷ 2 ∷ be 8 (ownName l p n)
 dueItem l p (released k n ∷ rest) = 0 ∷ 3 ∷ be 8 (ownName l p n)
 
+-- 02 No. 1: "shows the seed as kind 04 with a message's fields, destination all ones, flag 0"; "Attached handles follow the receive rule each time it is shown." No run reaches `unset`:
+-- "reading with none set gives 11".
+abbrev pub dueSeed : Ledger → ℕ → LedgerSeed → List ℕ
+dueSeed l p unset = []
+dueSeed l p (kept payload carried) =
+    0 ∷ 4 ∷ be 8 invalid ++ (l .book .user p ∷ 0 ∷ be 2 (length payload) ++ (length carried ∷ idBytes (dueIds l p carried) ++ payload))
+
 -- "one byte with bit p set if peer p holds a handle to the node".
 abbrev pub holdersByte : Ledger → Node → ℕ
 holdersByte l n = sumTo (λ q. pick (held (l .handle q (n .number))) (2 ^ q) 0) peers
@@ -329,3 +372,4 @@ dueTo l (Send p z) a = a ≡ 0 ∷ []
 dueTo l (Receive p room) a = a ≡ dueItem l (p .0) (l .queue (p .0))
 dueTo l (Quota p u) a = a ≡ 0 ∷ ofEach (queued (l .book) (p .0) (u .0)) ++ ofEach (leftOf (l .book) (p .0) (u .0))
 dueTo l (Holders p i) a = a ≡ onNodeBytes (l .book .handle (p .0) (i .0)) (λ n. 0 ∷ holdersByte l n ∷ ones (holdersByte l n) ∷ [])
+dueTo l (ShowSeed p room) a = a ≡ dueSeed l (p .0) (l .seed (p .0))

@@ -1,22 +1,25 @@
 -- Create, alike on the bus and in the ledger: a slot that nothing names gets the book's next number for its name.
 -- Assumes nothing.
 use Prim.Native.Nat.{ℕ, suc, _+_, _*_, _<_}
-use mathlib.Core.Path.{_≡_, sym, ap, _∙_}
+use mathlib.Core.Path.{_≡_, refl, sym, ap, _∙_}
 use mathlib.Core.Bool.{Bool, true, false}
 use native.Mathlib.Omega.{arith}
+use lib.Dec.{eqb}
 use borrow.Author.Tests.{eqb-false}
 use Rattle.laws.specs.Tests.{clash, Same, Same.same, Same.other, same?}
 use Rattle.laws.specs.Tables.{upd, upd-same, upd-other, upd-all}
 use Rattle.laws.specs.Weights.{all-imp, map-all}
-use Rattle.model.specs.Numbers.{slots, owner}
-use Rattle.model.specs.State.{Life, Life.live, isLive, Handle, Handle.none, Handle.some, held, Entry, Entry.message, Entry.destroyed, Entry.released, State, freePlace}
+use Rattle.model.specs.Numbers.{slots, owner, peers}
+use Rattle.model.specs.State.{Life, Life.live, isLive, Handle, Handle.none, Handle.some, held, Entry, Entry.message, Entry.destroyed, Entry.released, State, freePlace, Seed, Seed.unset, Seed.kept, seedCarries, seeded}
 use Rattle.model.specs.Tables.{withHandles, withLives}
+use Rattle.model.specs.Lists.{any}
+use Rattle.model.specs.Occurs.{any-below}
 use Rattle.model.specs.Effects.{creates}
 use Rattle.model.specs.Notices.{mentions, Unnamed}
 use Rattle.model.specs.Sim.{called}
-use Rattle.model.specs.SimCreate.{absent-message, called-other, unheld-none, upd-apart}
-use Rattle.model.specs.Ledger.{Ledger, Item.destroyed as destroyedItem, Item.released as releasedItem, ledgerCreate}
-use Rattle.model.specs.LedgerSim.{itemOf, Handled, Lived, Follows, handled-put}
+use Rattle.model.specs.SimCreate.{absent-message, called-other, unheld-none, upd-apart, absent-list}
+use Rattle.model.specs.Ledger.{Ledger, Item.destroyed as destroyedItem, Item.released as releasedItem, ledgerCreate, LedgerSeed.kept as keptSeed}
+use Rattle.model.specs.LedgerSim.{itemOf, Handled, Lived, Follows, handled-put, seedOf}
 
 -- An entry that does not name the slot.
 item-other : (name : ℕ → ℕ) (s x : ℕ) (e : Entry) → mentions s e ≡ false → itemOf name e ≡ itemOf (upd name s x) e
@@ -25,6 +28,12 @@ item-other name s x (message k m) e =
     rw (called-other name s x (m .to) (a .0), map-all (called name) (called (upd name s x)) (m .carried) (all-imp _ _ (λ t z. called-other name s x t z) (m .carried) (a .1)))
 item-other name s x (destroyed k t) e = ap (destroyedItem k) (called-other name s x t (eqb-false s t e))
 item-other name s x (released k t) e = ap (releasedItem k) (called-other name s x t (eqb-false s t e))
+
+-- A seed that does not name it.
+seed-other : (name : ℕ → ℕ) (s x : ℕ) (y : Seed) → any (eqb s) (seedCarries y) ≡ false → seedOf name y ≡ seedOf (upd name s x) y
+seed-other name s x unset e = refl
+seed-other name s x (kept payload carried) e =
+    ap (keptSeed payload) (map-all (called name) (called (upd name s x)) carried (all-imp _ _ (λ t z. called-other name s x t z) carried (absent-list s carried e)))
 
 module _ (name : ℕ → ℕ) (E s : ℕ) (apart : (s t : ℕ) → name s ≡ name t → s ≡ t) (new : (t : ℕ) → name t ≡ E → ⊥) where
   -- The handles: the slot, which nobody held, has the new name; then its owner's handle.
@@ -84,5 +93,6 @@ module _ (name : ℕ → ℕ) (E s : ℕ) (apart : (s t : ℕ) → name s ≡ na
         given = r .given;
         handles = handled-create p (some i 1) (r .handles) (λ q. unheld-none (b .handle q s) (free .unheld q));
         lives = lived-create p (r .lives) (free .dead) o;
+        seeds = λ q m. r .seeds q m ∙ seed-other name s E (b .seed q) (any-below (λ q. any (eqb s) (seedCarries (b .seed q))) peers q m (unfold seeded in free .unseeded));
         queues = λ q. r .queues q ∙ map-all (itemOf name) (itemOf (upd name s E)) (b .queue q) (all-imp _ _ (λ x z. item-other name s E x z) (b .queue q) (free .unqueued q));
       })

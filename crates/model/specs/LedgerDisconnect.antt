@@ -7,12 +7,12 @@ use mathlib.Core.List.{List, [], _++_, map, map-map, map-append, append-assoc}
 use lib.Dec.{eqb, ltb}
 use borrow.Author.Tests.{eqb-true, eqb-false, eq-eqb}
 use Rattle.laws.specs.Tests.{pick, Seen, Seen.is-true, Seen.is-false, look, clash, Same.same}
-use Rattle.laws.specs.Tables.{upd, upd-same, upd-other}
+use Rattle.laws.specs.Tables.{upd, upd-same, upd-other, upd-rel}
 use Rattle.laws.specs.Weights.{all-imp}
 use Rattle.model.specs.Numbers.{peers, owner}
 use Rattle.model.specs.Lists.{both}
-use Rattle.model.specs.State.{Status.disconnected, Life, Life.dead, isLive, Handle, Handle.none, held, Entry.destroyed, Entry.released, messagesIn, State, byOwnerId}
-use Rattle.model.specs.Tables.{withStatus, withHandles, withQueues, withCharges, withLives}
+use Rattle.model.specs.State.{Status.disconnected, Life, Life.dead, isLive, Handle, Handle.none, held, Entry.destroyed, Entry.released, messagesIn, State, byOwnerId, Seed.unset}
+use Rattle.model.specs.Tables.{withStatus, withHandles, withQueues, withCharges, withLives, withSeed}
 use Rattle.model.specs.Changes.{pushAll, atPeers, takeOut, withdraw, fell, releaseNotices, notifyAll, destroyNotices, destroyAll}
 use Rattle.model.specs.Effects.{disconnects}
 use Rattle.model.specs.Occurs.{both-true}
@@ -20,9 +20,9 @@ use Rattle.model.specs.Rising.{owner-pass}
 use Rattle.model.specs.Told.{nothing-left}
 use Rattle.model.specs.Sim.{called}
 use Rattle.model.specs.IdsLaws.{Holding}
-use Rattle.model.specs.Ledger.{Item.destroyed as destroyedItem, Item.released as releasedItem, Ledger, fallen, byOwnId, ledgerDisconnect}
+use Rattle.model.specs.Ledger.{Item.destroyed as destroyedItem, Item.released as releasedItem, Ledger, fallen, byOwnId, ledgerDisconnect, LedgerSeed.unset as unsetSeed}
 use Rattle.model.specs.ByOwnId.{later-distinct, by-own-id}
-use Rattle.model.specs.LedgerSim.{itemOf, Handled, Lived, Follows, lives-entered, handled-none, total-named}
+use Rattle.model.specs.LedgerSim.{itemOf, Handled, Lived, Follows, lives-entered, handled-none, total-named, seedOf}
 
 -- The lives: the peer's nodes are destroyed.
 lived-disconnect : {name : ℕ → ℕ} {E : ℕ} {lives : ℕ → Bool} {maker : ℕ → ℕ} {life : ℕ → Life} (p k : ℕ) → Lived name E lives maker life →
@@ -145,11 +145,15 @@ module _ {name : ℕ → ℕ} (b : State) (l : Ledger) (p : ℕ) (r : Follows na
       (ap (_++_ (map (itemOf name) (b .queue q)))
       (notices-named name (b .accepted) (byOwnerId (b .handle) p (λ s. both (isLive (b .life s)) (held (b .handle q s)))) (byOwnerId (leaving b p .handle) q (fell b (leaving b p))) (ltb q peers)))
 
-  pub follows-disconnect : Follows name (l .book .entered) (disconnects b p) (ledgerDisconnect l p)
+  pub follows-disconnect : Follows name (l .book .entered) (withSeed (disconnects b p) p unset) (ledgerDisconnect l p)
+  unfolding withSeed
   follows-disconnect =
       record {
         accepted = unfold disconnects notifyAll ledgerDisconnect takeOut withStatus withHandles withCharges withQueues destroyAll pushAll withLives withdraw in r .accepted;
         given = unfold disconnects notifyAll ledgerDisconnect takeOut withStatus withHandles withCharges withQueues destroyAll pushAll withLives withdraw in r .given;
+        seeds =
+            unfold disconnects notifyAll ledgerDisconnect takeOut withStatus withHandles withCharges withQueues destroyAll pushAll withLives withdraw in
+            upd-rel (λ q x y. q < peers → x ≡ seedOf name y) (l .seed) (b .seed) p unsetSeed unset (r .seeds) (λ m. refl);
         handles = unfold disconnects notifyAll ledgerDisconnect pushAll withQueues in handled;
         lives = unfold disconnects notifyAll ledgerDisconnect pushAll withQueues in lived;
         queues = λ q. queue-at q (look (eqb p q));

@@ -41,6 +41,7 @@ module _ {name : ℕ → ℕ} {E : ℕ} (apart : (s t : ℕ) → name s ≡ name
           rw (r .lives .same s, e, r .handles .same p s, d)
           (record {
             accepted = r .accepted;
+            seeds = r .seeds;
             given = upd-rel (λ _ x y. x ≡ y) (l .given) (b .given) p _ _ (r .given) (ap (givenAfter (b .handle p s)) (r .given p));
             handles = handled-put p s (handleOf (shown b p s) (suc (count (b .handle p s)))) (r .handles) apart (lives-entered (r .lives) s e);
             lives = r .lives;
@@ -64,6 +65,7 @@ module _ {name : ℕ → ℕ} {E : ℕ} (apart : (s t : ℕ) → name s ≡ name
   follows-out b l p ms rest r =
       record {
         accepted = r .accepted;
+        seeds = r .seeds;
         given = r .given;
         handles = r .handles;
         lives = r .lives;

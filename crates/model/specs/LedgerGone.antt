@@ -15,7 +15,7 @@ use Rattle.laws.specs.Tables.{upd, upd-same, upd-other}
 use Rattle.laws.specs.Weights.{All, all-imp}
 use Rattle.laws.specs.Loads.{all-map}
 use Rattle.frames.specs.declared.Command.{Command}
-use Rattle.frames.specs.declared.Command.the-variants.{Open, Disconnect, Create, Destroy, Release, Transfer, Send, Receive, Quota, Holders}
+use Rattle.frames.specs.declared.Command.the-variants.{Open, Disconnect, Create, Destroy, Release, Transfer, Send, Receive, Quota, Holders, ShowSeed}
 use Rattle.model.specs.Lists.{both}
 use Rattle.model.specs.State.{Handle, Handle.none, handleOf, held, Entry, Entry.message, Entry.destroyed, Entry.released}
 use Rattle.model.specs.Step.{Call, step, run, answerOf}
@@ -27,7 +27,7 @@ use Rattle.model.specs.NoticesProof.{noted as always-noted}
 use Rattle.model.specs.SimHandles.{some-none}
 use Rattle.model.specs.History.{book-noted, ledger-book, ledger-entered}
 use Rattle.model.specs.Sources.{Story, story}
-use Rattle.model.specs.Ledger.{Item, Item.message as messageItem, Item.destroyed as destroyedItem, Item.released as releasedItem, Ledger, ledgerCreate, ledgerDestroy, ledgerRelease, ledgerGive, ledgerGiveAll, ledgerQueues, ledgerReceive, ledgerDisconnect, ledgerCounted, enter, withBook, ledgerAfter}
+use Rattle.model.specs.Ledger.{Item, Item.message as messageItem, Item.destroyed as destroyedItem, Item.released as releasedItem, Ledger, ledgerCreate, ledgerDestroy, ledgerRelease, ledgerGive, ledgerGiveAll, ledgerQueues, ledgerReceive, ledgerDisconnect, ledgerCounted, enter, withBook, ledgerAfter, seedNodes, ledgerSeed}
 use Rattle.model.specs.LedgerSim.{itemOf}
 use Rattle.model.specs.LedgerStep.{enteredAfter, note-enters}
 use Rattle.model.specs.LedgerPassed.{Passed, passed, ledger-kept}
@@ -102,10 +102,11 @@ module _ (n : ℕ) where
   dead-command l f (Destroy q i) t less e = rw (t .0 .named) (destroyed-dead (ledgerCounted l) (t .0 .node) e)
   dead-command l f (Release q i) t less e = rw (t .0 .named) (unfold ledgerRelease in e)
   dead-command l f (Transfer q i r) t less e = rw (t .0 .named) (ap (λ (x : ℕ → Bool). x n) (give-lives (ledgerCounted l) (r .0) (t .0 .node)) ∙ e)
-  dead-command l f (Send q z) t less e = unfold ledgerQueues in e
+  dead-command l f (Send q z) t less e = unfold ledgerSeed ledgerQueues in e
   dead-command l f (Receive q room) t less e = ap (λ (x : ℕ → Bool). x n) (receive-lives (ledgerCounted l) (q .0) (l .queue (q .0))) ∙ e
   dead-command l f (Quota q u) t less e = e
   dead-command l f (Holders q i) t less e = e
+  dead-command l f (ShowSeed q room) t less e = ap (λ (x : ℕ → Bool). x n) (gives-lives (ledgerCounted l) (q .0) (seedNodes (l .seed (q .0)))) ∙ e
 
   module _ (p : ℕ) where
     -- A handle is given only to a live node.
@@ -147,10 +148,11 @@ module _ (n : ℕ) where
         (unfold ledgerRelease in
         cell-other (l .handle) (q .0) (t .0 .node .number) (handleOf (i .0) (t .0 .count - 1)) p n (λ y z. some-none (sym (t .0 .handle) ∙ rw (y, z) e)) ∙ e)
     unheld-command l f (Transfer q i r) t less d e = rw (t .0 .named) (unheld-give (ledgerCounted l) (r .0) (t .0 .node) d e)
-    unheld-command l f (Send q z) t less d e = unfold ledgerQueues in e
+    unheld-command l f (Send q z) t less d e = unfold ledgerSeed ledgerQueues in e
     unheld-command l f (Receive q room) t less d e = unheld-receive (ledgerCounted l) (q .0) (l .queue (q .0)) d e
     unheld-command l f (Quota q u) t less d e = e
     unheld-command l f (Holders q i) t less d e = e
+    unheld-command l f (ShowSeed q room) t less d e = unheld-gives (ledgerCounted l) (q .0) (seedNodes (l .seed (q .0))) d e
 
 -- What stands in a queue is for a node that the peer holds, or for a live one.
 unheld-unqueued : (cs : List Call) (p n : ℕ) → ledgerAfter cs .lives n ≡ false → ledgerAfter cs .handle p n ≡ none → All (λ x. about n x ≡ false) (ledgerAfter cs .queue p)
@@ -180,6 +182,7 @@ entered-more e (Send p z) = omega arith
 entered-more e (Receive p room) = omega arith
 entered-more e (Quota p u) = omega arith
 entered-more e (Holders p i) = omega arith
+entered-more e (ShowSeed p room) = omega arith
 
 -- What holds of the ledger of a created node n and is kept by every command that the ledger enters, is kept by all calls; the book beside it does not show.
 pub kept-of-node : (P : Ledger → Type 0) (n : ℕ) → ((l : Ledger) (k : Book) → P l → P (withBook l k)) →

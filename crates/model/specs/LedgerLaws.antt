@@ -7,6 +7,8 @@ use mathlib.Core.Bool.{true, false}
 use mathlib.Core.List.{List, [], _∷_, _++_, map}
 use lib.ListN.{length}
 use lib.Dec.{eqb}
+use Rattle.laws.specs.Tests.{pick}
+use Rattle.laws.specs.Tables.{upd}
 use Rattle.laws.specs.Weights.{keep, All}
 use Rattle.frames.specs.Frame.{opcode, idAt, payloadOf}
 use Rattle.model.specs.Numbers.{peers}
@@ -15,7 +17,7 @@ use Rattle.model.specs.State.{Handle.none, handleOf, held, idOr, total}
 use Rattle.model.specs.Requests.{destinations, attached}
 use Rattle.model.specs.Book.{Node, Noted.noted, Book, ownedBy, nodesOf, Fed, actingPeer, sizesOf}
 use Rattle.model.specs.Rising.{Sorted}
-use Rattle.model.specs.Ledger.{Item.destroyed, Item.released, Ledger, noRelease, outlasts, letters}
+use Rattle.model.specs.Ledger.{Item.destroyed, Item.released, Ledger, noRelease, outlasts, letters, LedgerSeed.unset, LedgerSeed.kept}
 use Rattle.model.specs.Tally.{tally}
 use Rattle.model.specs.Rows.{bookOf, ledgerOf}
 use Rattle.model.specs.Happened.{Happened}
@@ -47,6 +49,8 @@ pub record DestroyDoes (b : Book) (l k : Ledger) (number p i : ℕ) : Type 0 whe
   pub at-holder : (q : ℕ) → (p ≡ q → ⊥) → held (l .handle q (node .number)) ≡ true → k .queue q ≡ l .queue q ++ (destroyed number node ∷ [])
   -- and none elsewhere
   pub elsewhere : (q : ℕ) → (p ≡ q → ⊥) → held (l .handle q (node .number)) ≡ false → k .queue q ≡ l .queue q
+  -- no seed changes
+  pub seeds : k .seed ≡ l .seed
 
 abbrev pub DestroyIn : Type 0
 DestroyIn =
@@ -71,6 +75,7 @@ pub record ReleaseDoes (b : Book) (l k : Ledger) (number p i : ℕ) : Type 0 whe
   -- every other queue is as it was
   pub elsewhere : (q : ℕ) → (p ≡ q → count ≡ 1 → ⊥) →
       (node .owner ≡ q → l .lives (node .number) ≡ true → 1 < total (l .handle) (node .number) → total (k .handle) (node .number) ≡ 1 → ⊥) → k .queue q ≡ l .queue q
+  pub seeds : k .seed ≡ l .seed
 
 abbrev pub ReleaseIn : Type 0
 ReleaseIn =
@@ -93,6 +98,8 @@ pub record SendDoes (b : Book) (l k : Ledger) (number p : ℕ) (f : List ℕ) : 
   pub queue : (q : ℕ) → k .queue q ≡ l .queue q ++ letters number (b .user p) (payloadOf f) (attachedNodes b p f) (keep (ownedBy q) (destinationNodes b p f))
   pub handles : k .handle ≡ l .handle
   pub lives : k .lives ≡ l .lives
+  -- 02 No. 1: "a send with no destinations that replaces the peer's own seed"; any other leaves all seeds
+  pub seeds : k .seed ≡ pick (eqb (sizesOf f .nd) 0) (upd (l .seed) p (kept (payloadOf f) (attachedNodes b p f))) (l .seed)
 
 abbrev pub SendIn : Type 0
 SendIn =
@@ -128,6 +135,8 @@ pub record DisconnectDoes (l k : Ledger) (number p : ℕ) : Type 0 where
   pub dead : (n : ℕ) → l .maker n ≡ p → k .lives n ≡ false
   pub others-live : (n : ℕ) → (l .maker n ≡ p → ⊥) → k .lives n ≡ l .lives n
   pub handles : (n : ℕ) → k .handle p n ≡ none
+  -- 02 No. 1: "disconnect drops the seed", and no other
+  pub seeds : k .seed ≡ upd (l .seed) p unset
   pub others : (q : ℕ) → (p ≡ q → ⊥) → k .handle q ≡ l .handle q
   pub at-others : (q : ℕ) → q < peers → (p ≡ q → ⊥) → NoticesAt l k number p q
 

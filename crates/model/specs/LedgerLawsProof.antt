@@ -25,7 +25,7 @@ use Rattle.model.specs.Coded.{coded}
 use Rattle.model.specs.Occurs.{both-true}
 use Rattle.model.specs.Rising.{rising-pass, rising-sorted}
 use Rattle.model.specs.RisingAll.{passing-le, rising-all}
-use Rattle.model.specs.Ledger.{Item, Item.destroyed, Item.released, Ledger, ledgerDestroy, outlasts, fallen, ledgerRelease, ledgerQueues, byOwnId, ledgerDisconnect, ledgerCounted, enter, withBook}
+use Rattle.model.specs.Ledger.{Item, Item.destroyed, Item.released, Ledger, ledgerDestroy, outlasts, fallen, ledgerRelease, ledgerQueues, byOwnId, ledgerDisconnect, ledgerCounted, enter, withBook, ledgerSeed}
 use Rattle.model.specs.LedgerPassed.{Names}
 use Rattle.model.specs.LedgerGone.{cell-other}
 use Rattle.model.specs.Tally.{tally}
@@ -53,6 +53,7 @@ destroy-does l f g p i x o v peer =
       dead = upd-same (l .lives) (n .number) false;
       others = λ m z. upd-other (l .lives) (n .number) m false z;
       handles = refl;
+      seeds = refl;
       at-owner = rw (eq-eqb (n .owner) (p .0) o, lt-ltb (p .0) peers (peer (p .0) (n .number) holds), holds) refl;
       at-holder = λ q z h. rw (ne-eqb (n .owner) q (λ y. z (sym o ∙ y)), lt-ltb q peers (peer q (n .number) h), h) refl;
       elsewhere = λ q z h. rw (ne-eqb (n .owner) q (λ y. z (sym o ∙ y)), h) (nothing (ltb q peers) (l .queue q));
@@ -134,21 +135,22 @@ module _ (l : Ledger) (f : List ℕ) (g : Book) (p : Peer) (i : HandleId) (x : N
         less = rw (upd-same, upd-same) refl;
         others = λ q m z. cell-other (l .handle) (p .0) (n .number) (handleOf (i .0) (x .count - 1)) q m z;
         lives = refl;
+        seeds = refl;
         fell = release-fell;
         gone = release-gone;
         elsewhere = release-elsewhere;
       })
 
 -- Send. Its sizes are those of the frame.
-same-sizes : (f : List ℕ) (z : Sizes) → Sized f z → z ≡ sizesOf f
+pub same-sizes : (f : List ℕ) (z : Sizes) → Sized f z → z ≡ sizesOf f
 same-sizes f z s = ap₂ (λ (d h : ℕ). record { nd = d; nh = h; nb = z .nb }) (s .destinations) (s .attached) ∙ ap (λ (b : ℕ). record { nd = getD f 2 0; nh = getD f 3 0; nb = b }) (s .bytes)
 
 send-does : (l : Ledger) (f : List ℕ) (g : Book) (p : Peer) (z : Sizes) → z ≡ sizesOf f → length (destinationNodes (l .book) (p .0) f) ≡ sizesOf f .nd →
     length (attachedNodes (l .book) (p .0) f) ≡ sizesOf f .nh → All (λ (n : Node). l .lives (n .number) ≡ true) (destinationNodes (l .book) (p .0) f) →
     SendDoes (l .book) l (withBook (enter l f (Send p z)) g) (suc (l .accepted)) (p .0) f
-unfolding enter withBook ledgerQueues ledgerCounted
+unfolding enter withBook ledgerSeed ledgerQueues ledgerCounted
 send-does l f g p z e to with-them alive =
-    rw e (record { to-each = to; each-attached = with-them; living = alive; queue = λ q. refl; handles = refl; lives = refl })
+    rw e (record { to-each = to; each-attached = with-them; living = alive; queue = λ q. refl; handles = refl; lives = refl; seeds = refl })
 
 -- Disconnect: the nodes that a peer made and that pass, by their ascending IDs.
 abbrev listed : Ledger → ℕ → (ℕ → Bool) → List ℕ
@@ -249,6 +251,7 @@ module _ (l : Ledger) (f : List ℕ) (g : Book) (p : Peer) where
           dead = λ n e. rw (eq-eqb (l .maker n) (p .0) e) refl;
           others-live = λ n e. rw (ne-eqb (l .maker n) (p .0) e) refl;
           handles = λ n. rw upd-same refl;
+          seeds = refl;
           others = λ q z. upd-other (l .handle) (p .0) q (λ n. none) z;
           at-others = λ q b z.
               record {

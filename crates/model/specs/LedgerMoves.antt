@@ -13,7 +13,7 @@ use Rattle.laws.specs.Tests.{pick, pick-all, pick-cases, Seen, Seen.is-true, Se
 use Rattle.laws.specs.Tables.{upd, upd-same, upd-other, upd-all}
 use Rattle.laws.specs.Weights.{All, all-append, keep}
 use Rattle.frames.specs.declared.Command.{Command}
-use Rattle.frames.specs.declared.Command.the-variants.{Open, Disconnect, Create, Destroy, Release, Transfer, Send, Receive, Quota, Holders}
+use Rattle.frames.specs.declared.Command.the-variants.{Open, Disconnect, Create, Destroy, Release, Transfer, Send, Receive, Quota, Holders, ShowSeed}
 use Rattle.frames.specs.Frame.{payloadOf}
 use Rattle.frames.specs.Legal.{Legal}
 use Rattle.model.specs.Numbers.{peers}
@@ -25,7 +25,7 @@ use Rattle.model.specs.Occurs.{both-true}
 use Rattle.model.specs.Counts.{total-other, count-handle}
 use Rattle.model.specs.Queues.{Later, front}
 use Rattle.model.specs.QueuesLaws.{later-refl, later-append, later-keep, later-empty, later-trans, later-front, map-new, total-set}
-use Rattle.model.specs.Ledger.{Item, Item.message, Item.destroyed, Item.released, Ledger, ledgerCreate, noRelease, ledgerDestroy, outlasts, fallen, ledgerRelease, dueId, ledgerGive, ledgerGiveAll, ledgerQueues, letters, ledgerSend, ledgerReceive, byOwnId, ledgerDisconnect, ledgerCounted, onNode, enter, itemNumber}
+use Rattle.model.specs.Ledger.{Item, Item.message, Item.destroyed, Item.released, Ledger, ledgerCreate, noRelease, ledgerDestroy, outlasts, fallen, ledgerRelease, dueId, ledgerGive, ledgerGiveAll, ledgerQueues, letters, ledgerSend, ledgerReceive, byOwnId, ledgerDisconnect, ledgerCounted, onNode, enter, itemNumber, LedgerSeed, LedgerSeed.kept, seedNodes, ledgerSeed}
 use Rattle.model.specs.Waits.{LapsedIn}
 
 -- What an accepted command takes out of the queue of p for its answer: a receive of p the first item.
@@ -40,6 +40,7 @@ takenOf l p (Send q z) = []
 takenOf l p (Receive q room) = pick (eqb (q .0) p) (front (l .queue p)) []
 takenOf l p (Quota q u) = []
 takenOf l p (Holders q i) = []
+takenOf l p (ShowSeed q room) = []
 
 -- What a command queues has its own number, the next one.
 abbrev pub NextIn : Ledger → Item → Type 0
@@ -228,9 +229,9 @@ module _ (l : Ledger) where
   unfolding ledgerCounted
   still p = later-refl (l .queue p)
 
-  moved-send : (u : ℕ) (ds hs : List Node) (payload : List ℕ) (p : ℕ) → MovedIn l (ledgerSend counted u ds hs payload) p []
-  unfolding ledgerQueues ledgerCounted
-  moved-send u ds hs payload p =
+  moved-send : (u : ℕ) (ds hs : List Node) (payload : List ℕ) (t : Bool) (q : ℕ) (x : LedgerSeed) (p : ℕ) → MovedIn l (ledgerSeed (ledgerSend counted u ds hs payload) t q x) p []
+  unfolding ledgerQueues ledgerCounted ledgerSeed
+  moved-send u ds hs payload t q x p =
       later-append (l .queue p) (letters (suc (l .accepted)) u payload hs (keep (ownedBy p) ds))
       (map-new (NextIn l) (λ n. message (suc (l .accepted)) (record { user = u; to = n; payload = payload; carried = hs })) (λ n. refl) (keep (ownedBy p) ds))
 
@@ -250,7 +251,10 @@ module _ (l : Ledger) where
   moved-by f (Transfer q i t) h p =
       on-node (l .book .handle (q .0) (i .0)) (λ n c. ledgerGive counted (t .0) n) p (still p) (λ n c. moved-transfer (t .0) n (omega (arith, h .1)) p)
   moved-by f (Send q z) h p =
-      moved-send (l .book .user (q .0)) (nodesOf (l .book) (q .0) (destinations f z)) (nodesOf (l .book) (q .0) (attached f z)) (payloadOf f) p
+      let hs = nodesOf (l .book) (q .0) (attached f z) in
+      moved-send (l .book .user (q .0)) (nodesOf (l .book) (q .0) (destinations f z)) hs (payloadOf f) (eqb (z .nd) 0) (q .0) (kept (payloadOf f) hs) p
   moved-by f (Receive q room) h p = moved-receive (q .0) (omega (arith, h)) (l .queue (q .0)) refl p
   moved-by f (Quota q u) h p = later-refl (l .queue p)
   moved-by f (Holders q i) h p = later-refl (l .queue p)
+  moved-by f (ShowSeed q room) h p =
+      unfold ledgerCounted in (moved-gives l (NextIn l) (ledgerCounted l) (q .0) (seedNodes (l .seed (q .0))) (omega (arith, h)) (λ t. omega arith) p)

@@ -14,7 +14,7 @@ use borrow.Author.Tests.{eq-eqb}
 use Rattle.laws.specs.Tests.{Seen, Seen.is-true, Seen.is-false, look, clash, Same, Same.same, Same.other, same?}
 use Rattle.laws.specs.Tables.{upd, upd-same, upd-other}
 use Rattle.frames.specs.declared.Command.{Command}
-use Rattle.frames.specs.declared.Command.the-variants.{Open, Disconnect, Create, Destroy, Release, Transfer, Send, Receive, Quota, Holders}
+use Rattle.frames.specs.declared.Command.the-variants.{Open, Disconnect, Create, Destroy, Release, Transfer, Send, Receive, Quota, Holders, ShowSeed}
 use Rattle.model.specs.Numbers.{nextId}
 use Rattle.model.specs.Lists.{both}
 use Rattle.model.specs.State.{Handle, Handle.none, Handle.some, handleOf, count, idOr}
@@ -23,7 +23,7 @@ use Rattle.model.specs.Book.{Node, Book}
 use Rattle.model.specs.Claim.{bookAfter}
 use Rattle.model.specs.SimHandles.{some-none}
 use Rattle.model.specs.Sources.{story}
-use Rattle.model.specs.Ledger.{Item, Item.message as messageItem, Item.destroyed as destroyedItem, Item.released as releasedItem, Ledger, ledgerCreate, ledgerDestroy, ledgerRelease, dueId, ledgerGive, ledgerGiveAll, ledgerQueues, ledgerReceive, ledgerDisconnect, ledgerCounted, enter, withBook, ledgerAfter}
+use Rattle.model.specs.Ledger.{Item, Item.message as messageItem, Item.destroyed as destroyedItem, Item.released as releasedItem, Ledger, ledgerCreate, ledgerDestroy, ledgerRelease, dueId, ledgerGive, ledgerGiveAll, ledgerQueues, ledgerReceive, ledgerDisconnect, ledgerCounted, enter, withBook, ledgerAfter, LedgerSeed, seedNodes, ledgerSeed}
 use Rattle.model.specs.LedgerSim.{below}
 use Rattle.model.specs.LedgerPassed.{Passed}
 use Rattle.model.specs.LedgerGone.{cell-other, kept-of-node}
@@ -52,6 +52,10 @@ module _ (p n i : ℕ) where
   owns-queues : (l : Ledger) (f : ℕ → List Item) → Owns l p n i → Owns (ledgerQueues l f) p n i
   unfolding ledgerQueues
   owns-queues l f h = record { maker = h .maker; holds = h .holds }
+
+  owns-seed : (l : Ledger) (t : Bool) (q : ℕ) (x : LedgerSeed) → Owns l p n i → Owns (ledgerSeed l t q x) p n i
+  unfolding ledgerSeed
+  owns-seed l t q x h = record { maker = h .maker; holds = h .holds }
 
   -- A ledger whose handle of p to n is the same, and in which n is not live again.
   still : (l : Ledger) (lives : Bool) (x : Handle) → StillOr l p n i → (l .lives n ≡ false → lives ≡ false) → x ≡ l .handle p n → ((c : ℕ) × (x ≡ some i c)) ⊎ ((lives ≡ false) × (x ≡ none))
@@ -178,10 +182,11 @@ module _ (p n i : ℕ) where
       (owns-release (ledgerCounted l) (q .0) (j .0) (t .0 .node) (t .0 .count) (unfold ledgerCounted in t .0 .handle) (t .0 .counted)
       (unfold ledgerCounted in λ z v e. t .1 (sym (t .0 .maker) ∙ z) v e) (owns-counted l h))
   owns-command l f (Transfer q j r) t less h = rw (t .0 .named) (owns-give (ledgerCounted l) (r .0) (t .0 .node) (owns-counted l h))
-  owns-command l f (Send q z) t less h = owns-queues (ledgerCounted l) _ (owns-counted l h)
+  owns-command l f (Send q z) t less h = owns-seed _ (eqb (z .nd) 0) (q .0) _ (owns-queues (ledgerCounted l) _ (owns-counted l h))
   owns-command l f (Receive q room) t less h = owns-receive (ledgerCounted l) (q .0) (l .queue (q .0)) (owns-counted l h)
   owns-command l f (Quota q u) t less h = h
   owns-command l f (Holders q j) t less h = h
+  owns-command l f (ShowSeed q room) t less h = owns-gives (ledgerCounted l) (q .0) (seedNodes (l .seed (q .0))) (owns-counted l h)
 
 pub own-keeps : OwnKeeps
 own-keeps cs ds p n i c e f =

@@ -11,7 +11,7 @@ use Rattle.laws.specs.Tests.{clash}
 use Rattle.laws.specs.Weights.{All, all-imp}
 use Rattle.laws.specs.Loads.{all-map}
 use Rattle.frames.specs.declared.Command.{Command}
-use Rattle.frames.specs.declared.Command.the-variants.{Open, Disconnect, Create, Destroy, Release, Transfer, Send, Receive, Quota, Holders}
+use Rattle.frames.specs.declared.Command.the-variants.{Open, Disconnect, Create, Destroy, Release, Transfer, Send, Receive, Quota, Holders, ShowSeed}
 use Rattle.model.specs.Numbers.{nodes, owner}
 use Rattle.model.specs.Requests.{destinations}
 use Rattle.model.specs.State.{isLive, Handle.some, held, count, State, slot}
@@ -51,6 +51,7 @@ Passed l f (Send p z) = All (λ n. l .lives (n .number) ≡ true) (nodesOf (l .b
 Passed l f (Receive p room) = Unit {0}
 Passed l f (Quota p u) = Unit {0}
 Passed l f (Holders p i) = (x : Names l (p .0) (i .0)) × (x .node .owner ≡ p .0)
+Passed l f (ShowSeed p room) = Unit {0}
 
 module _ {N : ℕ} (name : ℕ → ℕ) {E : ℕ} (b : State) (l : Ledger) (w : Sim N name b (l .book)) (r : Follows name E b l) (v : Holding b) where
   names : (p i : ℕ) → slot b p i < nodes → (x : Names l p i) × (b .handle p (slot b p i) ≡ some i (x .count))
@@ -93,6 +94,7 @@ module _ {N : ℕ} (name : ℕ → ℕ) {E : ℕ} (b : State) (l : Ledger) (w : 
   passed-bus f (Receive p room) t = tt
   passed-bus f (Quota p u) t = tt
   passed-bus f (Holders p i) t = let x = names (p .0) (i .0) (t .holds) in (x .0, t .owns)
+  passed-bus f (ShowSeed p room) t = tt
 
 pub passed : (cs : List Call) (c : Call) (d : Command) → Accepted (run cs) c d → Passed (ledgerAfter cs) (c .frame) d
 passed cs c d a =

@@ -35,6 +35,7 @@ unfolding deliver pushAll arriving withQueues withCharges ledgerQueues
 follows-send {name} b l u ds hs payload r =
     record {
       accepted = r .accepted;
+      seeds = r .seeds;
       given = r .given;
       handles = r .handles;
       lives = r .lives;
@@ -78,6 +79,7 @@ follows-destroy {name} {E} b l p s r apart o =
     record {
       accepted = unfold destroys destroyAll pushAll withLives withdraw withQueues accept ledgerDestroy ledgerCounted in ap suc (r .accepted);
       given = unfold destroys destroyAll pushAll withLives withdraw withQueues accept ledgerDestroy ledgerCounted in r .given;
+      seeds = unfold destroys destroyAll pushAll withLives withdraw withQueues accept ledgerDestroy ledgerCounted in r .seeds;
       handles = unfold destroys destroyAll pushAll withLives withdraw withQueues accept ledgerDestroy ledgerCounted in r .handles;
       lives = unfold destroys destroyAll pushAll withLives withdraw withQueues accept ledgerDestroy ledgerCounted in lived-destroy p s (suc (b .accepted)) (r .lives) apart o;
       queues = λ q. queue-at q ∙ ap (map (itemOf name)) (sym (told-all b p s q o));
@@ -92,14 +94,14 @@ follows-destroy {name} {E} b l p s r apart o =
 
 -- Release: the tables other than the queues.
 abbrev Less : State → ℕ → ℕ → ℕ → ℕ → State → Type 0
-Less b p s i c a = (a .handle ≡ upd (b .handle) p (upd (b .handle p) s (handleOf i (c - 1)))) × (a .given ≡ b .given) × (a .life ≡ b .life) × (a .accepted ≡ b .accepted)
+Less b p s i c a = (a .handle ≡ upd (b .handle) p (upd (b .handle p) s (handleOf i (c - 1)))) × (a .given ≡ b .given) × (a .life ≡ b .life) × (a .accepted ≡ b .accepted) × (a .seed ≡ b .seed)
 
 release-tables : (b : State) (p s i c : ℕ) → Less b p s i c (releases b p s i c)
 unfolding releases notify forget takeOut withCharges withQueues withHandles
 release-tables b p s i c =
     let less = withHandle b p s (handleOf i (c - 1)) in
     let y = pick (eqb c 1) (forget less p s) less in
-    let once = pick-all (Less b p s i c) (eqb c 1) (forget less p s) less (refl, refl, refl, refl) (refl, refl, refl, refl) in
+    let once = pick-all (Less b p s i c) (eqb c 1) (forget less p s) less (refl, refl, refl, refl, refl) (refl, refl, refl, refl, refl) in
     pick-all (Less b p s i c) (fell b y s) (push y (owner s) (released (y .accepted) s ∷ [])) y once once
 
 -- What goes with the handle, and the release notice.
@@ -132,6 +134,7 @@ follows-release {name} {E} b l p s i c r apart e =
     record {
       accepted = unfold ledgerRelease ledgerCounted accept in rw (t .3) (ap suc (r .accepted));
       given = unfold ledgerRelease ledgerCounted accept in rw (t .1) (r .given);
+      seeds = unfold ledgerRelease ledgerCounted accept in rw (t .4) (r .seeds);
       handles = unfold ledgerRelease ledgerCounted accept in rw (t .0) put;
       lives = unfold ledgerRelease ledgerCounted accept in rw (t .2) (r .lives);
       queues = λ q. queue-at q ∙ ap (map (itemOf name)) (sym (release-at b p s i c q));

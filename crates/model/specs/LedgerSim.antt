@@ -12,13 +12,14 @@ use Rattle.laws.specs.Tests.{Seen, Seen.is-true, Seen.is-false, look, clash, Sa
 use Rattle.laws.specs.Tables.{upd, upd-same, upd-other, upd-rel, upd-all}
 use Rattle.laws.specs.Sums.{sum-ext}
 use Rattle.model.specs.Numbers.{peers, owner}
-use Rattle.model.specs.State.{Life, isLive, Handle, Handle.none, held, count, Message, Entry, Entry.message, Entry.destroyed, Entry.released, State, total}
-use Rattle.model.specs.Tables.{accept, withStatus, withUser}
+use Rattle.model.specs.State.{Life, isLive, Handle, Handle.none, held, count, Message, Entry, Entry.message, Entry.destroyed, Entry.released, State, total, Seed, Seed.unset, Seed.kept, seedCarries}
+use Rattle.model.specs.Tables.{accept, withStatus, withUser, withSeed}
+use Rattle.model.specs.Changes.{reseed}
 use Rattle.model.specs.Effects.{opens}
 use Rattle.model.specs.Book.{Book, sameNode}
 use Rattle.model.specs.Sim.{called}
 use Rattle.model.specs.SimRelease.{eqb-apart}
-use Rattle.model.specs.Ledger.{Letter, Item, Item.message as messageItem, Item.destroyed as destroyedItem, Item.released as releasedItem, Ledger, withBook, ledgerCounted}
+use Rattle.model.specs.Ledger.{Letter, Item, Item.message as messageItem, Item.destroyed as destroyedItem, Item.released as releasedItem, LedgerSeed, LedgerSeed.unset as unsetSeed, LedgerSeed.kept as keptSeed, seedNodes, Ledger, ledgerSeed, withBook, ledgerCounted}
 
 -- A message and an entry in the book's names.
 abbrev pub letterOf : (ℕ → ℕ) → Message → Letter
@@ -28,6 +29,15 @@ abbrev pub itemOf : (ℕ → ℕ) → Entry → Item
 itemOf name (message k m) = messageItem k (letterOf name m)
 itemOf name (destroyed k s) = destroyedItem k (called name s)
 itemOf name (released k s) = releasedItem k (called name s)
+
+-- A seed in the book's names.
+abbrev pub seedOf : (ℕ → ℕ) → Seed → LedgerSeed
+seedOf name unset = unsetSeed
+seedOf name (kept payload carried) = keptSeed payload (map (called name) carried)
+
+pub seed-nodes : (name : ℕ → ℕ) (x : Seed) → seedNodes (seedOf name x) ≡ map (called name) (seedCarries x)
+seed-nodes name unset = refl
+seed-nodes name (kept payload carried) = refl
 
 -- Handles, by number in the ledger and by slot on the bus, where E nodes were entered: the same; none to a number that was not entered; and what is held sits in a slot.
 pub record Handled (name : ℕ → ℕ) (E : ℕ) (h g : ℕ → ℕ → Handle) : Type 0 where
@@ -48,6 +58,7 @@ pub record Follows (name : ℕ → ℕ) (E : ℕ) (b : State) (l : Ledger) : Typ
   pub handles : Handled name E (l .handle) (b .handle)
   pub lives : Lived name E (l .lives) (l .maker) (b .life)
   pub queues : (p : ℕ) → l .queue p ≡ map (itemOf name) (b .queue p)
+  pub seeds : (p : ℕ) → p < peers → l .seed p ≡ seedOf name (b .seed p)
 
 -- A node that lives, or that somebody holds, was entered.
 pub below : (a b : ℕ) → (b ≤ a → ⊥) → a < b
@@ -103,16 +114,31 @@ total-named {name} {E} {h} {g} r s = sum-ext (λ q. count (h q (name s))) (λ q.
 -- The book goes on beside the ledger; one more command is accepted.
 pub follows-book : {name : ℕ → ℕ} {E : ℕ} (b : State) (l : Ledger) (k : Book) → Follows name E b l → Follows name E b (withBook l k)
 unfolding withBook
-follows-book b l k r = record { accepted = r .accepted; given = r .given; handles = r .handles; lives = r .lives; queues = r .queues }
+follows-book b l k r = record { accepted = r .accepted; given = r .given; handles = r .handles; lives = r .lives; queues = r .queues; seeds = r .seeds }
 
 pub follows-accept : {name : ℕ → ℕ} {E : ℕ} (b : State) (l : Ledger) → Follows name E b l → Follows name E (accept b) (ledgerCounted l)
 unfolding accept ledgerCounted
-follows-accept b l r = record { accepted = ap suc (r .accepted); given = r .given; handles = r .handles; lives = r .lives; queues = r .queues }
+follows-accept b l r = record { accepted = ap suc (r .accepted); given = r .given; handles = r .handles; lives = r .lives; queues = r .queues; seeds = r .seeds }
 
 -- Open: the ledger sees nothing.
 pub follows-open : {name : ℕ → ℕ} {E : ℕ} (b : State) (l : Ledger) (p u : ℕ) → Follows name E b l → Follows name E (opens b p u) l
 unfolding opens withUser withStatus
-follows-open b l p u r = record { accepted = r .accepted; given = r .given; handles = r .handles; lives = r .lives; queues = r .queues }
+follows-open b l p u r = record { accepted = r .accepted; given = r .given; handles = r .handles; lives = r .lives; queues = r .queues; seeds = r .seeds }
+
+-- A seed set anew, or left.
+pub follows-seed : {name : ℕ → ℕ} {E : ℕ} (b : State) (l : Ledger) (t : Bool) (p : ℕ) (x : Seed) → Follows name E b l → Follows name E (reseed b t p x) (ledgerSeed l t p (seedOf name x))
+unfolding ledgerSeed
+follows-seed b l false p x r = record { accepted = r .accepted; given = r .given; handles = r .handles; lives = r .lives; queues = r .queues; seeds = r .seeds }
+follows-seed {name} b l true p x r =
+    unfold withSeed in
+    record {
+      accepted = r .accepted;
+      given = r .given;
+      handles = r .handles;
+      lives = r .lives;
+      queues = r .queues;
+      seeds = upd-rel (λ q y z. q < peers → y ≡ seedOf name z) (l .seed) (b .seed) p _ x (r .seeds) (λ m. refl);
+    }
 
 -- Two nodes are the same node if their slots are.
 pub same-called : (name : ℕ → ℕ) → ((s t : ℕ) → name s ≡ name t → s ≡ t) → (s t : ℕ) → sameNode (called name s) (called name t) ≡ eqb s t

@@ -4,26 +4,27 @@ use Prim.Native.Nat.{ℕ, suc, _+_, _*_, _<_}
 use mathlib.Core.Path.{_≡_, refl}
 use mathlib.Core.List.{List, map}
 use native.Mathlib.Omega.{arith}
+use lib.Dec.{eqb}
 use Rattle.laws.specs.Tests.{pick-all}
 use Rattle.frames.specs.declared.Command.{Command}
-use Rattle.frames.specs.declared.Command.the-variants.{Open, Disconnect, Create, Destroy, Release, Transfer, Send, Receive, Quota, Holders}
+use Rattle.frames.specs.declared.Command.the-variants.{Open, Disconnect, Create, Destroy, Release, Transfer, Send, Receive, Quota, Holders, ShowSeed}
 use Rattle.frames.specs.Frame.{payloadOf}
 use Rattle.frames.specs.Legal.{Legal}
 use Rattle.model.specs.Numbers.{slots}
 use Rattle.model.specs.Requests.{destinations, attached}
-use Rattle.model.specs.State.{State, slot, freePlace}
+use Rattle.model.specs.State.{State, slot, freePlace, Seed.kept, seedCarries}
 use Rattle.model.specs.Tables.{accept}
 use Rattle.model.specs.Effects.{effect}
-use Rattle.model.specs.Book.{Book, noteOpen, noteCreate, noteReceive, noteSend, toDropped, dropHandles, answeredId, answersMessage, shownIds, note}
+use Rattle.model.specs.Book.{Book, noteOpen, noteCreate, noteReceive, noteSend, toDropped, dropHandles, answeredId, answersMessage, shownIds, note, noteSeed}
 use Rattle.model.specs.Tested.{Tested}
 use Rattle.model.specs.IdsLaws.{Holding}
 use Rattle.model.specs.Sim.{Sim}
 use Rattle.model.specs.SimSend.{held-at-slot, noted-at-slot, nodes-of-slots}
 use Rattle.model.specs.SimStep.{Ready, renamed, taken-unnamed}
-use Rattle.model.specs.SimRun.{receive-entered, transfer-entered, release-entered}
+use Rattle.model.specs.SimRun.{receive-entered, transfer-entered, release-entered, learn-entered}
 use Rattle.model.specs.Ledger.{Ledger, ledgerCounted, enter, withBook}
-use Rattle.model.specs.LedgerSim.{Follows, follows-book, follows-accept, follows-open}
-use Rattle.model.specs.LedgerGive.{follows-give, follows-receive}
+use Rattle.model.specs.LedgerSim.{Follows, follows-book, follows-accept, follows-open, follows-seed, seed-nodes}
+use Rattle.model.specs.LedgerGive.{follows-give, follows-receive, follows-gives}
 use Rattle.model.specs.LedgerQueues.{follows-send, follows-destroy, follows-release}
 use Rattle.model.specs.LedgerCreate.{follows-create}
 use Rattle.model.specs.LedgerDisconnect.{follows-disconnect}
@@ -40,21 +41,23 @@ enteredAfter e (Send p z) = e
 enteredAfter e (Receive p room) = e
 enteredAfter e (Quota p u) = e
 enteredAfter e (Holders p i) = e
+enteredAfter e (ShowSeed p room) = e
 
 pub note-enters : (k : Book) (f a : List ℕ) (c : Command) → note k f a c .entered ≡ enteredAfter (k .entered) c
-unfolding note noteOpen noteCreate noteSend toDropped dropHandles
+unfolding note noteOpen noteCreate noteSend noteSeed toDropped dropHandles
 note-enters k f a (Open p u) = refl
 note-enters k f a (Disconnect p) = refl
 note-enters k f a (Create p i) = refl
 note-enters k f a (Destroy p i) = refl
 note-enters k f a (Release p i) = release-entered k (p .0) (i .0) (k .handle (p .0) (i .0))
 note-enters k f a (Transfer p i q) = transfer-entered k (k .handle (p .0) (i .0)) (q .0) (answeredId a)
-note-enters k f a (Send p z) = refl
+note-enters k f a (Send p z) = pick-all (λ (x : Book). x .entered ≡ k .entered) (eqb (z .nd) 0) _ _ refl refl
 note-enters k f a (Receive p room) =
     pick-all (λ (x : Book). x .entered ≡ k .entered) (answersMessage a) (noteReceive k (p .0) (shownIds a) (k .queue (p .0))) k
     (receive-entered k (p .0) (shownIds a) (k .queue (p .0))) refl
 note-enters k f a (Quota p u) = refl
 note-enters k f a (Holders p i) = refl
+note-enters k f a (ShowSeed p room) = learn-entered k (p .0) (shownIds a) (k .seed (p .0))
 
 -- The command counted.
 holding-accept : (b : State) → Holding b → Holding (accept b)
@@ -87,11 +90,15 @@ module _ {N : ℕ} (name : ℕ → ℕ) (b : State) (f : List ℕ) (l : Ledger) 
       rw (noted-at-slot name b (l .book) w (p .0) (i .0) (tested .holds) .1) (follows-give (w .apart) (accept b) (ledgerCounted l) (q .0) (slot b (p .0) (i .0)) counted)
   follows-command (Send p z) legal tested =
       rw (nodes-of-slots name b (l .book) w (p .0) (destinations f z) (tested .holds), nodes-of-slots name b (l .book) w (p .0) (attached f z) (tested .holds-attached), w .users (p .0))
-      (follows-send (accept b) (ledgerCounted l) (b .user (p .0)) (map (slot b (p .0)) (destinations f z)) (map (slot b (p .0)) (attached f z)) (payloadOf f) counted)
+      (follows-seed _ _ (eqb (z .nd) 0) (p .0) (kept (payloadOf f) (map (slot b (p .0)) (attached f z)))
+      (follows-send (accept b) (ledgerCounted l) (b .user (p .0)) (map (slot b (p .0)) (destinations f z)) (map (slot b (p .0)) (attached f z)) (payloadOf f) counted))
   follows-command (Receive p room) legal tested =
       rw (r .queues (p .0)) (follows-receive (w .apart) (accept b) (ledgerCounted l) (p .0) (b .queue (p .0)) counted)
   follows-command (Quota p u) legal tested = r
   follows-command (Holders p i) legal tested = r
+  follows-command (ShowSeed p room) legal tested =
+      rw (r .seeds (p .0) (omega (arith, legal)), seed-nodes name (b .seed (p .0)))
+      (follows-gives (w .apart) (accept b) (ledgerCounted l) (p .0) (seedCarries (b .seed (p .0))) counted)
 
 -- The same with the book k that the ledger has, and the book after the command beside it.
 pub follows-next : {N : ℕ} (name : ℕ → ℕ) (b : State) (f : List ℕ) (l : Ledger) (k : Book) → l .book ≡ k → Sim N name b k → Follows name (k .entered) b l → Ready b → Holding b → k .entered < N →

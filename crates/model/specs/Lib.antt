@@ -101,6 +101,7 @@ pub mod Attached
 pub mod DeliveredProof
 pub mod Noticed
 pub mod LedgerPassed
+pub mod LedgerSeeds
 pub mod LedgerGone
 pub mod LedgerOwn
 pub mod Lives
@@ -120,3 +121,7 @@ pub mod LedgerLaws
 pub mod LedgerLawsProof
 pub mod Waiting
 pub mod WaitsPlace
+pub mod Seeds
+pub mod SeedsLast
+pub mod SeedsProof
+pub mod SeedsWorked

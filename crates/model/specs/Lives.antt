@@ -14,7 +14,7 @@ use Rattle.laws.specs.Tables.{upd, upd-same, upd-other}
 use Rattle.ids.specs.declared.HandleId.{HandleId}
 use Rattle.ids.specs.declared.Peer.{Peer}
 use Rattle.frames.specs.declared.Command.{Command}
-use Rattle.frames.specs.declared.Command.the-variants.{Open, Disconnect, Create, Destroy, Release, Transfer, Send, Receive, Quota, Holders}
+use Rattle.frames.specs.declared.Command.the-variants.{Open, Disconnect, Create, Destroy, Release, Transfer, Send, Receive, Quota, Holders, ShowSeed}
 use Rattle.frames.specs.declared.Parsed.the-variants.{Read}
 use Rattle.frames.specs.Frame.{opcode, idAt, parse}
 use Rattle.frames.specs.Fields.{Fields, fields-command}
@@ -27,7 +27,7 @@ use Rattle.model.specs.Accepted.{Accepted, Came, Came.left, Came.done, c
 use Rattle.model.specs.Coded.{code, actor, coded}
 use Rattle.model.specs.Standing.{did}
 use Rattle.model.specs.History.{history-append, run-next, book-next, book-left, book-noted, ledger-next, ledger-left, ledger-book, ledger-entered}
-use Rattle.model.specs.Ledger.{Item, Item.message, Item.destroyed, Item.released, Ledger, ledgerCreate, ledgerDestroy, ledgerRelease, ledgerGive, ledgerGiveAll, ledgerQueues, ledgerReceive, ledgerDisconnect, ledgerCounted, onNode, enter, withBook, ledgerAfter}
+use Rattle.model.specs.Ledger.{Item, Item.message, Item.destroyed, Item.released, Ledger, ledgerCreate, ledgerDestroy, ledgerRelease, ledgerGive, ledgerGiveAll, ledgerQueues, ledgerReceive, ledgerDisconnect, ledgerCounted, onNode, enter, withBook, ledgerAfter, seedNodes, ledgerSeed}
 use Rattle.model.specs.LedgerStep.{note-enters}
 use Rattle.model.specs.RowsRun.{entered-next}
 use Rattle.model.specs.Rows.{bookOf, ledgerOf}
@@ -141,6 +141,7 @@ module _ (n : ℕ) where
   endsBy l (Receive q room) p = false
   endsBy l (Quota q u) p = false
   endsBy l (Holders q i) p = false
+  endsBy l (ShowSeed q room) p = false
 
   lasts-command : (l : Ledger) (f : List ℕ) (c : Command) (p : ℕ) → n < l .book .entered → l .maker n ≡ p → Lasts l (enter l f c) n (endsBy l c p)
   unfolding enter ledgerCounted
@@ -162,10 +163,11 @@ module _ (n : ℕ) where
       go : (x : Noted) → Lasts l (onNode (ledgerCounted l) x (λ n c. ledgerGive (ledgerCounted l) (r .0) n)) n false
       go blank = lasts-same l _ refl refl
       go (noted x c) = let y = give-same (ledgerCounted l) (r .0) x in lasts-same l _ (y .0) (y .1)
-  lasts-command l f (Send q z) p less e = unfold ledgerQueues in lasts-same l _ refl refl
+  lasts-command l f (Send q z) p less e = unfold ledgerSeed ledgerQueues in lasts-same l _ refl refl
   lasts-command l f (Receive q room) p less e = let y = receive-same (ledgerCounted l) (q .0) (l .queue (q .0)) in lasts-same l _ (y .0) (y .1)
   lasts-command l f (Quota q u) p less e = lasts-same l l refl refl
   lasts-command l f (Holders q i) p less e = lasts-same l l refl refl
+  lasts-command l f (ShowSeed q room) p less e = let y = gives-same (ledgerCounted l) (q .0) (seedNodes (l .seed (q .0))) in lasts-same l _ (y .0) (y .1)
 
 -- The frame says what the command is.
 ends-frame : (l : Ledger) (xs : List Fed) (x : Fed) (d : Command) (p n : ℕ) → l .book ≡ bookOf xs → x .number ≡ 0 → parse (x .frame) ≡ Read d → ends xs x p n ≡ endsBy n l d p
@@ -186,6 +188,7 @@ ends-frame l xs x d p n e z r = let y = coded (x .frame) d r in go d (y .byte) (
     go (Receive q room) o a h = rw (z, o) refl
     go (Quota q u) o a h = rw (z, o) refl
     go (Holders q i) o a h = rw (z, o) refl
+    go (ShowSeed q room) o a h = rw (z, o) refl
 
 ends-refused : (xs : List Fed) (x : Fed) (p n : ℕ) → (x .number ≡ 0 → ⊥) → ends xs x p n ≡ false
 ends-refused xs x p n h = rw (ne-eqb (x .number) 0 h) refl
@@ -200,9 +203,9 @@ unfolding enter ledgerCreate ledgerCounted
 create-lives l f p i n e = rw (e, upd-same, upd-same) (refl, refl)
 
 -- A node that p created, after the calls cs.
-record Made (cs : List Call) (p n : ℕ) : Type 0 where
-  entered : n < bookAfter cs .entered
-  maker : ledgerAfter cs .maker n ≡ p
+pub record Made (cs : List Call) (p n : ℕ) : Type 0 where
+  pub entered : n < bookAfter cs .entered
+  pub maker : ledgerAfter cs .maker n ≡ p
 
 -- One call more.
 module _ (cs : List Call) (c : Call) (p n : ℕ) (m : Made cs p n) where
@@ -230,7 +233,7 @@ module _ (cs : List Call) (c : Call) (p n : ℕ) (m : Made cs p n) where
           )
 
 -- Any further calls.
-made-lives : (cs ds : List Call) (p n : ℕ) → Made cs p n →
+pub made-lives : (cs ds : List Call) (p n : ℕ) → Made cs p n →
     ledgerAfter (cs ++ ds) .lives n ≡ both (ledgerAfter cs .lives n) (not (endedIn (historyFrom start cs) (historyFrom (run cs) ds) p n))
 made-lives cs [] p n m = ap (λ (l : List Call). ledgerAfter l .lives n) (append-nil cs) ∙ both-yes (ledgerAfter cs .lives n) ∙ unfold historyFrom in refl
 made-lives cs (c ∷ ds) p n m =
@@ -272,6 +275,7 @@ module _ (cs : List Call) (c : Call) (zero : step (run cs) c .outcome .number �
       go (Receive p room) a = absurd (omega (arith, three, coded (c .frame) (Receive p room) (a .read) .byte))
       go (Quota p u) a = absurd (omega (arith, three, coded (c .frame) (Quota p u) (a .read) .byte))
       go (Holders p i) a = absurd (omega (arith, three, coded (c .frame) (Holders p i) (a .read) .byte))
+      go (ShowSeed p room) a = absurd (omega (arith, three, coded (c .frame) (ShowSeed p room) (a .read) .byte))
 
   lives-call : (ds : List Call) →
       ledgerOf (historyFrom start cs ++ historyFrom (run cs) (c ∷ ds)) .lives (bookAfter cs .entered)

@@ -10,9 +10,9 @@ use lib.ListN.{length}
 use Rattle.laws.specs.Tests.{Seen, Seen.is-true, Seen.is-false, look, Same, Same.same, Same.other, same?}
 use Rattle.laws.specs.Tables.{upd-same, upd-other}
 use Rattle.ids.specs.declared.Peer.{Peer}
-use Rattle.frames.specs.declared.Command.the-variants.{Receive}
+use Rattle.frames.specs.declared.Command.the-variants.{Receive, ShowSeed}
 use Rattle.model.specs.Numbers.{invalid}
-use Rattle.model.specs.State.{isLive, Handle, Handle.some, count, Message, Entry, Entry.message, State}
+use Rattle.model.specs.State.{isLive, Handle, Handle.some, count, Message, Entry, Entry.message, State, seedCarries}
 use Rattle.model.specs.Tables.{accept, withGiven, withHandles, withQueues}
 use Rattle.model.specs.Changes.{takeOut, withdraw, shown, shownAll, give, giveAll}
 use Rattle.model.specs.Effects.{receives, effect}
@@ -102,3 +102,23 @@ module _ (cs : List Call) (c : Call) (p : Peer) (room : ℕ) (a : Accepted (run 
         rw handles-after (given-for (takeOut b (p .0) (m ∷ []) q) (p .0) (m .carried)) in
         rw (book-noted cs c (Receive p room) a, y .1) (shown-for (w .name) (effect b (c .frame) (Receive p room) .handle (p .0)) (note (bookAfter cs) (c .frame) (answerOf (step b c)) (Receive p room)) (p .0) (s .handles (p .0))
         (shownAll (takeOut b (p .0) (m ∷ []) q) (p .0) (m .carried)) (m .carried) g)
+
+-- An accepted reading of the seed: "enters the IDs that 0c shows as it does a receive's".
+module _ (cs : List Call) (c : Call) (p : Peer) (room : ℕ) (a : Accepted (run cs) c (ShowSeed p room)) where
+  seed-handles : effect (run cs) (c .frame) (ShowSeed p room) .handle ≡ giveAll (run cs) (p .0) (seedCarries (run cs .seed (p .0))) .handle
+  unfolding effect accept
+  seed-handles = ap (λ (x : State). x .handle) (gives-accept (run cs) (p .0) (seedCarries (run cs .seed (p .0))))
+
+  pub seed-shown : (w : Story (suc (length cs)) cs) →
+      ShownFor (bookAfter (cs ++ (c ∷ []))) (p .0) (shownIds (answerOf (step (run cs) c))) (map (called (w .name)) (seedCarries (run cs .seed (p .0))))
+  seed-shown w =
+      let b = run cs in
+      let ss = seedCarries (b .seed (p .0)) in
+      let r = ready cs (w .ids) in
+      let t = tested b (c .frame) (ShowSeed p room) (a .unrefused) in
+      let sh = answer-shows b c (ShowSeed p room) a r in
+      let s = sim-command (w .name) b (c .frame) (ShowSeed p room) (bookAfter cs) (answerOf (step b c)) (w .sim) r (a .legal) t sh (omega (arith, w .entered)) in
+      let g : GivenFor (effect b (c .frame) (ShowSeed p room) .handle (p .0)) (shownAll b (p .0) ss) ss = rw seed-handles (given-for b (p .0) ss) in
+      rw (book-noted cs c (ShowSeed p room) a, sh)
+      (shown-for (w .name) (effect b (c .frame) (ShowSeed p room) .handle (p .0)) (note (bookAfter cs) (c .frame) (answerOf (step b c)) (ShowSeed p room)) (p .0) (s .handles (p .0))
+      (shownAll b (p .0) ss) ss g)

@@ -10,7 +10,7 @@ use lib.ListN.{length, getD}
 use Rattle.laws.specs.Bytes.{be, numAt, num-at}
 use Rattle.ids.specs.declared.Peer.{Peer}
 use Rattle.frames.specs.declared.Command.{Command}
-use Rattle.frames.specs.declared.Command.the-variants.{Open, Disconnect, Create, Destroy, Release, Transfer, Send, Receive, Quota, Holders}
+use Rattle.frames.specs.declared.Command.the-variants.{Open, Disconnect, Create, Destroy, Release, Transfer, Send, Receive, Quota, Holders, ShowSeed}
 use Rattle.frames.specs.Frame.{opcode}
 use Rattle.answers.specs.Answer.{noticeBytes, receivedBytes, contentsOf, answerBytes}
 use Rattle.answers.specs.AnswerLaws.{message-kind, destroyed-kind, released-kind}
@@ -141,6 +141,7 @@ call-tells cs c eight zero = let y = accepted-call (run cs) c zero in go (y .0) 
     go (Receive p room) a = rw (coded (c .frame) (Receive p room) (a .read) .peer) (tells cs c p room a (story (length cs) cs (omega arith)) (run cs .queue (p .0)) refl)
     go (Quota p u) a = absurd (omega (arith, coded (c .frame) (Quota p u) (a .read) .byte))
     go (Holders p i) a = absurd (omega (arith, coded (c .frame) (Holders p i) (a .read) .byte))
+    go (ShowSeed p room) a = absurd (omega (arith, coded (c .frame) (ShowSeed p room) (a .read) .byte))
 
 pub notices-tell : NoticesTell
 notices-tell =

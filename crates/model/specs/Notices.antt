@@ -10,7 +10,7 @@ use Rattle.laws.specs.Weights.{load, All}
 use Rattle.frames.specs.Frame.{mostIds}
 use Rattle.quota.specs.Charges.{users}
 use Rattle.model.specs.Numbers.{peers, nodes, owner}
-use Rattle.model.specs.State.{Status, Status.unopened, Status.opened, Life, isLive, Handle, held, count, Entry, Entry.message, Entry.destroyed, Entry.released, State, noUser, total, names}
+use Rattle.model.specs.State.{Status, Status.unopened, Status.opened, Life, isLive, Handle, held, count, Entry, Entry.message, Entry.destroyed, Entry.released, Seed, seedCarries, State, noUser, total, names, seeded}
 
 -- How often a list has the slot s.
 abbrev pub times : ℕ → List ℕ → ℕ
@@ -38,8 +38,8 @@ Stands h l q (message n m) = (owner (m .to) ≡ q) × (held (h q (m .to)) ≡ tr
 Stands h l q (destroyed n s) = (isLive (l s) ≡ false) × (held (h q s) ≡ true)
 Stands h l q (released n s) = (isLive (l s) ≡ true) × (owner s ≡ q) × (total h s ≡ 1)
 
--- Over the tables: statuses, users, handles, lives, queues.
-pub record Tidy (st : ℕ → Status) (us : ℕ → ℕ) (h : ℕ → ℕ → Handle) (l : ℕ → Life) (qs : ℕ → List Entry) : Type 0 where
+-- Over the tables: statuses, users, handles, lives, queues, seeds.
+pub record Tidy (st : ℕ → Status) (us : ℕ → ℕ) (h : ℕ → ℕ → Handle) (l : ℕ → Life) (qs : ℕ → List Entry) (sd : ℕ → Seed) : Type 0 where
   -- "Peers 0 to 7. Users 0 to 3. A peer belongs to one user".
   pub present : (p : ℕ) → (st p ≡ unopened → ⊥) → (p < peers) × (us p < users)
   pub absent : (p : ℕ) → st p ≡ unopened → us p ≡ noUser
@@ -47,6 +47,8 @@ pub record Tidy (st : ℕ → Status) (us : ℕ → ℕ) (h : ℕ → ℕ → Ha
   pub holders : (p s : ℕ) → held (h p s) ≡ true → (st p ≡ opened) × (s < nodes) × (0 < count (h p s))
   -- A live node is held by its owner ("Creation gives the owner count 1 (the pinned one)").
   pub owned : (s : ℕ) → isLive (l s) ≡ true → held (h (owner s) s) ≡ true
+  -- A seed carries at most 8 slots ("Same sizes as a send").
+  pub seeds : (p : ℕ) → Carried (seedCarries (sd p))
   -- Every queued entry stands rightly.
   pub stands : (q : ℕ) → All (Stands h l q) (qs q)
   -- A peer has at most one notice for a node, of either kind.
@@ -54,7 +56,7 @@ pub record Tidy (st : ℕ → Status) (us : ℕ → ℕ) (h : ℕ → ℕ → Ha
 
 -- Of a bus.
 abbrev pub Noted : State → Type 0
-Noted b = Tidy (b .status) (b .user) (b .handle) (b .life) (b .queue)
+Noted b = Tidy (b .status) (b .user) (b .handle) (b .life) (b .queue) (b .seed)
 
 -- An entry names a slot: as a message's destination, as one that it carries, or as a notice's node.
 abbrev pub mentions : ℕ → Entry → Bool
@@ -62,8 +64,9 @@ mentions s (message n m) = names s m
 mentions s (destroyed n t) = eqb s t
 mentions s (released n t) = eqb s t
 
--- Nothing names the slot s: its node does not live, no peer holds it, no queued entry names it ("after that its room is used again").
+-- Nothing names the slot s: its node does not live, no peer holds it, no queued entry and no seed names it ("after that its room is used again").
 pub record Unnamed (b : State) (s : ℕ) : Type 0 where
   pub dead : isLive (b .life s) ≡ false
   pub unheld : (p : ℕ) → held (b .handle p s) ≡ false
   pub unqueued : (q : ℕ) → All (λ e. mentions s e ≡ false) (b .queue q)
+  pub unseeded : seeded (b .seed) s ≡ false

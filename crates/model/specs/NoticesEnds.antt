@@ -65,6 +65,7 @@ module _ (b : State) (p : ℕ) (t : ℕ → Bool) (k : ℕ) where
         present = n .present;
         absent = n .absent;
         holders = n .holders;
+        seeds = n .seeds;
         owned = λ s e. n .owned s (lives-live s e);
         stands = λ q. all-imp (λ e. Stands (b .handle) (b .life) q e × Without p t e) (Stands (b .handle) lives q) (one q) (b .queue q)
             (all-both (Stands (b .handle) (b .life) q) (Without p t) (b .queue q) (n .stands q) (a q));
@@ -131,6 +132,7 @@ noted-leave b p n op empty d =
       absent = upd-all (λ q x. x ≡ unopened → b .user q ≡ noUser) (b .status) p disconnected (n .absent) (λ e. unopened-disconnected e);
       holders = upd-rel (λ q x g. (s : ℕ) → held (g s) ≡ true → (x ≡ opened) × (s < nodes) × (0 < count (g s))) (b .status) (b .handle) p disconnected (λ s. none) (n .holders)
           (λ s e. clash (sym e));
+      seeds = n .seeds;
       owned = λ s e. rw (upd-other (b .handle) p (owner s) (λ s. none) (λ z. d s e (sym z))) (n .owned s e);
       stands = λ q. st q (same? p q);
       once = n .once;
@@ -174,6 +176,7 @@ noted-open b p u n l m =
       absent = upd-rel (λ q x v. x ≡ unopened → v ≡ noUser) (b .status) (b .user) p opened u (n .absent) (λ e. unopened-opened (sym e));
       holders = upd-all (λ q x. (s : ℕ) → held (b .handle q s) ≡ true → (x ≡ opened) × (s < nodes) × (0 < count (b .handle q s))) (b .status) p opened (n .holders)
           (λ s e. (refl, n .holders p s e .1, n .holders p s e .2));
+      seeds = n .seeds;
       owned = n .owned;
       stands = n .stands;
       once = n .once;

@@ -12,7 +12,7 @@ use Rattle.laws.specs.Search.{first, first-found}
 use Rattle.laws.specs.Weights.{All}
 use Rattle.model.specs.Numbers.{peers, slots}
 use Rattle.model.specs.Lists.{either, any}
-use Rattle.model.specs.State.{Status, Status.unopened, Status.opened, isLive, held, Entry, Entry.message, Entry.destroyed, Entry.released, messagesIn, State, heldByAny, names, named, counts, freePlace}
+use Rattle.model.specs.State.{Status, Status.unopened, Status.opened, isLive, held, Entry, Entry.message, Entry.destroyed, Entry.released, messagesIn, State, heldByAny, names, named, seeded, counts, freePlace}
 use Rattle.model.specs.Notices.{Stands, Noted, mentions, Unnamed}
 use Rattle.model.specs.Occurs.{no, either-false, any-below}
 use Rattle.model.specs.NoticesEnds.{unopened-opened}
@@ -63,13 +63,16 @@ past-empty b p n l = closed-empty b p n (λ z. unopened-opened (sym (past-unopen
 -- A slot that does not count.
 pub free-unnamed : (b : State) (s : ℕ) → Noted b → counts b s ≡ false → Unnamed b s
 unfolding counts heldByAny named
-free-unnamed b s n e = record { dead = x .0; unheld = un; unqueued = λ q. go q (look (ltb q peers)) }
+free-unnamed b s n e = record { dead = x .0; unheld = un; unqueued = λ q. go q (look (ltb q peers)); unseeded = w .1 }
   where
-    x : (isLive (b .life s) ≡ false) × (either (heldByAny (b .handle) s) (named (b .queue) s) ≡ false)
-    x = either-false (isLive (b .life s)) (either (heldByAny (b .handle) s) (named (b .queue) s)) e
+    x : (isLive (b .life s) ≡ false) × (either (heldByAny (b .handle) s) (either (named (b .queue) s) (seeded (b .seed) s)) ≡ false)
+    x = either-false (isLive (b .life s)) (either (heldByAny (b .handle) s) (either (named (b .queue) s) (seeded (b .seed) s))) e
 
-    y : (heldByAny (b .handle) s ≡ false) × (named (b .queue) s ≡ false)
-    y = either-false (heldByAny (b .handle) s) (named (b .queue) s) (x .1)
+    y : (heldByAny (b .handle) s ≡ false) × (either (named (b .queue) s) (seeded (b .seed) s) ≡ false)
+    y = either-false (heldByAny (b .handle) s) (either (named (b .queue) s) (seeded (b .seed) s)) (x .1)
+
+    w : (named (b .queue) s ≡ false) × (seeded (b .seed) s ≡ false)
+    w = either-false (named (b .queue) s) (seeded (b .seed) s) (y .1)
 
     un : (p : ℕ) → held (b .handle p s) ≡ false
     un p = at (look (held (b .handle p s)))
@@ -93,7 +96,7 @@ free-unnamed b s n e = record { dead = x .0; unheld = un; unqueued = λ q. go q 
         on (is-true z) = no (x .0) (rw (← eqb-true s t z) at (a .0 .0))
 
     go : (q : ℕ) → Seen (ltb q peers) → All (λ z. mentions s z ≡ false) (b .queue q)
-    go q (is-true z) = each q (b .queue q) (any-below (λ q. any (names s) (messagesIn (b .queue q))) peers q (ltb-true q peers z) (y .1)) (n .stands q)
+    go q (is-true z) = each q (b .queue q) (any-below (λ q. any (names s) (messagesIn (b .queue q))) peers q (ltb-true q peers z) (w .0)) (n .stands q)
     go q (is-false z) = rw (past-empty b q n (ltb-false q peers z)) tt
 
 -- The slot that create takes.

@@ -1,19 +1,21 @@
 -- A slot stays with its node while anything names it: a dead slot lives again only by a create, and only where nothing named it.
 -- "Reusing a dead node's record while a queued message names it" is an error of others that document 01 lists.
 -- Assumes nothing.
+use Rattle.frames.specs.Frame.{payloadOf}
+use Rattle.model.specs.Requests.{destinations, attached}
 use Prim.Native.Nat.{ℕ, _+_, _*_, _<_}
 use mathlib.Core.Path.{_≡_}
 use mathlib.Core.Bool.{Bool, true, false}
-use mathlib.Core.List.{List, [], _∷_}
+use mathlib.Core.List.{List, [], _∷_, map}
 use lib.Dec.{eqb}
 use Rattle.laws.specs.Tests.{Same, Same.same, Same.other, same?, pick-all}
 use Rattle.laws.specs.Tables.{upd-other}
 use Rattle.frames.specs.declared.Command.{Command}
-use Rattle.frames.specs.declared.Command.the-variants.{Open, Disconnect, Create, Destroy, Release, Transfer, Send, Receive, Quota, Holders}
+use Rattle.frames.specs.declared.Command.the-variants.{Open, Disconnect, Create, Destroy, Release, Transfer, Send, Receive, Quota, Holders, ShowSeed}
 use Rattle.model.specs.Numbers.{slots}
-use Rattle.model.specs.State.{Life.live, isLive, Handle, Handle.none, Handle.some, Entry, Entry.message, Entry.destroyed, Entry.released, State, slot, counts, freePlace}
+use Rattle.model.specs.State.{Life.live, isLive, Handle, Handle.none, Handle.some, Entry, Entry.message, Entry.destroyed, Entry.released, State, slot, counts, freePlace, seedCarries, Seed.kept}
 use Rattle.model.specs.Refusals.{refusal}
-use Rattle.model.specs.Tables.{accept, withStatus, withUser, withHandles, withGiven, withQueues, withCharges, withLives}
+use Rattle.model.specs.Tables.{accept, withStatus, withUser, withHandles, withGiven, withQueues, withCharges, withLives, withSeed}
 use Rattle.model.specs.Changes.{push, pushAll, takeOut, withdraw, give, giveAll, forget, fell, notify, notifyAll, destroyAll, deliver}
 use Rattle.model.specs.Effects.{opens, creates, destroys, releases, releasesHandle, disconnects, receives, effect}
 use Rattle.model.specs.Step.{Call, step, run}
@@ -74,17 +76,21 @@ create-life b p i s n f d e = go (same? (p * slots + freePlace b p) s)
 pub reborn : (b : State) (f : List ℕ) (k : Command) → Noted b → refusal b f k ≡ 0 → (s : ℕ) → isLive (b .life s) ≡ false → isLive (effect b f k .life s) ≡ true → Unnamed b s
 unfolding effect accept
 reborn b f (Open p u) n r s d e = unfold opens withUser withStatus in no d e
-reborn b f (Disconnect p) n r s d e = no d (ages-disconnect (accept b) (p .0) s e)
+reborn b f (Disconnect p) n r s d e = unfold withSeed in no d (ages-disconnect (accept b) (p .0) s e)
 reborn b f (Create p i) n r s d e =
     let u = create-life (accept b) (p .0) (i .0) s n (unfold freePlace counts in tested b f (Create p i) r .free) d e in
-    record { dead = u .dead; unheld = u .unheld; unqueued = u .unqueued }
+    record { dead = u .dead; unheld = u .unheld; unqueued = u .unqueued; unseeded = u .unseeded }
 reborn b f (Destroy p i) n r s d e = unfold destroys in no d (ages-destroyAll (accept b) (p .0) (eqb (slot b (p .0) (i .0))) s e)
 reborn b f (Release p i) n r s d e = no d (ages-release (accept b) (p .0) (slot b (p .0) (i .0)) (b .handle (p .0) (slot b (p .0) (i .0))) s e)
 reborn b f (Transfer p i q) n r s d e = no d (ages-give (accept b) (q .0) (slot b (p .0) (i .0)) s e)
-reborn b f (Send p z) n r s d e = unfold deliver withCharges pushAll withQueues in no d e
+reborn b f (Send p z) n r s d e =
+    no d (pick-all (Ages b) (eqb (z .nd) 0)
+    (withSeed (deliver (accept b) (b .user (p .0)) (map (slot b (p .0)) (destinations f z)) (map (slot b (p .0)) (attached f z)) (payloadOf f)) (p .0) (kept (payloadOf f) (map (slot b (p .0)) (attached f z)))) (deliver (accept b) (b .user (p .0)) (map (slot b (p .0)) (destinations f z)) (map (slot b (p .0)) (attached f z)) (payloadOf f))
+    (unfold withSeed deliver withCharges pushAll withQueues in (λ t z. z)) (unfold deliver withCharges pushAll withQueues in (λ t z. z)) s e)
 reborn b f (Receive p room) n r s d e = no d (ages-receive (accept b) (p .0) (b .queue (p .0)) s e)
 reborn b f (Quota p u) n r s d e = no d e
 reborn b f (Holders p i) n r s d e = no d e
+reborn b f (ShowSeed p room) n r s d e = no d (ages-giveAll (accept b) (p .0) (seedCarries (b .seed (p .0))) s e)
 
 -- Every call of every run; and a free slot of a run's bus.
 pub slot-stays : (cs : List Call) (c : Call) (s : ℕ) → isLive (run cs .life s) ≡ false → isLive (step (run cs) c .state .life s) ≡ true → Unnamed (run cs) s

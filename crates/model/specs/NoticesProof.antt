@@ -8,21 +8,21 @@ use native.Mathlib.Omega.{arith}
 use lib.ListN.{length-map}
 use lib.Dec.{eqb}
 use borrow.Author.Tests.{eqb-true, eqb-false, eq-eqb, ne-eqb}
-use Rattle.laws.specs.Tests.{pick, Seen, Seen.is-true, Seen.is-false, look, Same, Same.same, Same.other, same?, clash}
-use Rattle.laws.specs.Tables.{upd-same}
+use Rattle.laws.specs.Tests.{pick, pick-all, Seen, Seen.is-true, Seen.is-false, look, Same, Same.same, Same.other, same?, clash}
+use Rattle.laws.specs.Tables.{upd-same, upd-all}
 use Rattle.laws.specs.Build.{build-length}
 use Rattle.laws.specs.Loads.{all-map}
 use Rattle.laws.specs.Weights.{All, all-imp}
-use Rattle.frames.specs.declared.Command.the-variants.{Open, Disconnect, Create, Destroy, Release, Transfer, Send, Receive, Quota, Holders}
+use Rattle.frames.specs.declared.Command.the-variants.{Open, Disconnect, Create, Destroy, Release, Transfer, Send, Receive, Quota, Holders, ShowSeed}
 use Rattle.frames.specs.declared.Sizes.{Sizes}
 use Rattle.frames.specs.Frame.{payloadOf}
 use Rattle.frames.specs.Legal.{Sized}
 use Rattle.model.specs.Numbers.{peers, slots, nodes, owner}
 use Rattle.model.specs.Lists.{both}
-use Rattle.model.specs.State.{Status.opened, Status.disconnected, Life, isLive, Handle, Handle.none, Handle.some, handleOf, held, count, Entry, Entry.message, Entry.destroyed, Entry.released, messagesIn, State, start, slot, total, counts, freePlace}
+use Rattle.model.specs.State.{Status.opened, Status.disconnected, Life, isLive, Handle, Handle.none, Handle.some, handleOf, held, count, Entry, Entry.message, Entry.destroyed, Entry.released, messagesIn, Seed, Seed.unset, Seed.kept, seedCarries, State, start, slot, total, counts, freePlace}
 use Rattle.model.specs.Requests.{destinations, attached}
 use Rattle.model.specs.Refusals.{pinned}
-use Rattle.model.specs.Tables.{accept, withStatus, withHandles, withHandle, withGiven, withQueues, withCharges, withLives}
+use Rattle.model.specs.Tables.{accept, withStatus, withHandles, withHandle, withGiven, withQueues, withCharges, withSeed, withLives}
 use Rattle.model.specs.Changes.{takeOut, withdraw, give, giveAll, forget, notify, pushAll, destroyAll}
 use Rattle.model.specs.Effects.{opens, creates, destroys, releases, releasesHandle, disconnects, receives, effect}
 use Rattle.model.specs.Step.{Call, run}
@@ -44,6 +44,7 @@ noted-start =
       present = λ p z. absurd (z refl);
       absent = λ p z. refl;
       holders = λ p s z. clash (sym z);
+      seeds = λ p. (omega arith, tt);
       owned = λ s z. clash (sym z);
       stands = λ q. tt;
       once = λ q s. omega arith;
@@ -188,11 +189,26 @@ noted-receive b p (message k m ∷ q) n op e =
 carried-slots : (b : State) (f : List ℕ) (p : ℕ) (z : Sizes) → Sized f z → All (λ i. slot b p i < nodes) (attached f z) → Carried (map (slot b p) (attached f z))
 carried-slots b f p z s a = (rw (length-map, build-length) (s .few-attached), all-map (λ s. s < nodes) (slot b p) (attached f z) a)
 
+-- A seed set, or dropped.
+pub noted-seed : (b : State) (p : ℕ) (x : Seed) → Noted b → Carried (seedCarries x) → Noted (withSeed b p x)
+unfolding withSeed
+noted-seed b p x n c =
+    record {
+      present = n .present;
+      absent = n .absent;
+      holders = n .holders;
+      owned = n .owned;
+      seeds = upd-all (λ q y. Carried (seedCarries y)) (b .seed) p x (n .seeds) c;
+      stands = n .stands;
+      once = n .once;
+    }
+
 -- Every accepted command.
 pub noted-kept : Kept Noted
 unfolding effect
 noted-kept b f (Open p u) n g e = unfold opens in noted-open (accept b) (p .0) (u .0) (noted-accept b n) (omega (arith, g .0)) (omega (arith, g .1))
-noted-kept b f (Disconnect p) n g e = noted-disconnect (accept b) (p .0) (noted-accept b n) (unfold accept in tested b f (Disconnect p) e .is-open)
+noted-kept b f (Disconnect p) n g e =
+    noted-seed (disconnects (accept b) (p .0)) (p .0) unset (noted-disconnect (accept b) (p .0) (noted-accept b n) (unfold accept in tested b f (Disconnect p) e .is-open)) (omega arith, tt)
 noted-kept b f (Create p i) n g e =
     let t = tested b f (Create p i) e in
     noted-create (accept b) (p .0) (i .0) (noted-accept b n) (unfold accept in t .acting .is-open) (omega (arith, g .0)) (unfold freePlace counts accept in t .free)
@@ -208,13 +224,17 @@ noted-kept b f (Transfer p i q) n g e =
     noted-give (accept b) (q .0) (slot b (p .0) (i .0)) (noted-accept b n) (unfold accept in t .destination) (t .holds)
 noted-kept b f (Send p z) n g e =
     let t = tested b f (Send p z) e in
-    noted-deliver (accept b) (b .user (p .0)) (map (slot b (p .0)) (destinations f z)) (map (slot b (p .0)) (attached f z)) (payloadOf f) (noted-accept b n)
-    (unfold accept in t .lives) (carried-slots b f (p .0) z (g .1) (t .holds-attached))
+    let c = carried-slots b f (p .0) z (g .1) (t .holds-attached) in
+    let d = noted-deliver (accept b) (b .user (p .0)) (map (slot b (p .0)) (destinations f z)) (map (slot b (p .0)) (attached f z)) (payloadOf f) (noted-accept b n)
+    (unfold accept in t .lives) c in
+    pick-all Noted (eqb (z .nd) 0) _ _ (noted-seed _ (p .0) (kept (payloadOf f) (map (slot b (p .0)) (attached f z))) d c) d
 noted-kept b f (Receive p room) n g e =
     let t = tested b f (Receive p room) e in
     noted-receive (accept b) (p .0) (b .queue (p .0)) (noted-accept b n) (unfold accept in t .acting .is-open) (unfold accept in refl)
 noted-kept b f (Quota p u) n g e = n
 noted-kept b f (Holders p i) n g e = n
+noted-kept b f (ShowSeed p room) n g e =
+    noted-giveAll (accept b) (p .0) (seedCarries (b .seed (p .0))) (noted-accept b n) (unfold accept in tested b f (ShowSeed p room) e .acting .is-open) (n .seeds (p .0) .1)
 
 -- Every run.
 pub noted : (cs : List Call) → Noted (run cs)

@@ -30,7 +30,7 @@ noted-accept b n = n
 pub noted-queues : (b : State) (qs : ℕ → List Entry) → Noted b → ((q : ℕ) → All (Stands (b .handle) (b .life) q) (qs q)) →
     ((q s : ℕ) → noticesFor s (qs q) ≤ 1) → Noted (withQueues b qs)
 unfolding withQueues
-noted-queues b qs n a o = record { present = n .present; absent = n .absent; holders = n .holders; owned = n .owned; stands = a; once = o }
+noted-queues b qs n a o = record { present = n .present; absent = n .absent; holders = n .holders; owned = n .owned; seeds = n .seeds; stands = a; once = o }
 
 pub noted-queue : (b : State) (p : ℕ) (x : List Entry) → Noted b → All (Stands (b .handle) (b .life) p) x → ((s : ℕ) → noticesFor s x ≤ 1) → Noted (withQueue b p x)
 noted-queue b p x n a o =

@@ -33,6 +33,7 @@ noted-put b p s i c n op ls u =
       present = n .present;
       absent = n .absent;
       holders = put-all (λ q t y. held y ≡ true → (b .status q ≡ opened) × (t < nodes) × (0 < count y)) (b .handle) p s x (n .holders) (λ e. (op, ls, omega arith));
+      seeds = n .seeds;
       owned = λ t e. grows (owner t) t (n .owned t e);
       stands = λ q. all-imp (λ e. Stands (b .handle) (b .life) q e × Unreleased s e) (Stands (put (b .handle) p s x) (b .life) q) (one q) (b .queue q)
           (all-both (Stands (b .handle) (b .life) q) (Unreleased s) (b .queue q) (n .stands q) (u q));
@@ -101,6 +102,7 @@ noted-drop b p s n d a u =
       present = n .present;
       absent = n .absent;
       holders = put-all (λ q t y. held y ≡ true → (b .status q ≡ opened) × (t < nodes) × (0 < count y)) (b .handle) p s none (n .holders) (λ e. clash (sym e));
+      seeds = n .seeds;
       owned = λ t e. own t e (same? s t);
       stands = λ q. st q (same? p q);
       once = n .once;
@@ -141,6 +143,7 @@ noted-born b s n h a =
       present = n .present;
       absent = n .absent;
       holders = n .holders;
+      seeds = n .seeds;
       owned = upd-all (λ t x. isLive x ≡ true → held (b .handle (owner t) t) ≡ true) (b .life) s live (n .owned) (λ e. h);
       stands = λ q. all-imp (λ e. Stands (b .handle) (b .life) q e × (noticeFor s e ≡ false)) (Stands (b .handle) (upd (b .life) s live) q) (one q) (b .queue q)
           (all-both (Stands (b .handle) (b .life) q) (λ e. noticeFor s e ≡ false) (b .queue q) (n .stands q) (a q));

@@ -13,12 +13,12 @@ use Rattle.laws.specs.Tests.{pick, pick-all, Seen, Seen.is-true, Seen.is-false,
 use Rattle.laws.specs.Tables.{upd, upd-same, upd-other, upd-rel, upd-all}
 use Rattle.laws.specs.Weights.{All}
 use Rattle.frames.specs.declared.Command.{Command}
-use Rattle.frames.specs.declared.Command.the-variants.{Open, Disconnect, Create, Destroy, Release, Transfer, Send, Receive, Quota, Holders}
+use Rattle.frames.specs.declared.Command.the-variants.{Open, Disconnect, Create, Destroy, Release, Transfer, Send, Receive, Quota, Holders, ShowSeed}
 use Rattle.frames.specs.Frame.{opcode, idAt}
 use Rattle.frames.specs.Fields.{fields-command}
 use Rattle.model.specs.Numbers.{nextId}
-use Rattle.model.specs.State.{isLive, Handle, Handle.none, Handle.some, handleOf, count, idOr, Entry, Entry.message, Entry.destroyed, Entry.released, State, slot}
-use Rattle.model.specs.Tables.{accept, withStatus, withUser, withGiven, withHandle, withHandles, withQueues, withCharges, withLives}
+use Rattle.model.specs.State.{isLive, Handle, Handle.none, Handle.some, handleOf, count, idOr, Entry, Entry.message, Entry.destroyed, Entry.released, State, slot, seedCarries}
+use Rattle.model.specs.Tables.{accept, withStatus, withUser, withGiven, withHandle, withHandles, withQueues, withCharges, withLives, withSeed}
 use Rattle.model.specs.Changes.{pushAll, takeOut, withdraw, shown, givenAfter, give, giveAll, forget, notify, notifyAll, destroyAll, deliver}
 use Rattle.model.specs.Effects.{opens, creates, destroys, releases, releasesHandle, disconnects, receives, effect}
 use Rattle.model.specs.Step.{Call, step, run, answerOf}
@@ -145,8 +145,9 @@ Makes p i (Send q z) = ⊥
 Makes p i (Receive q room) = ⊥
 Makes p i (Quota q u) = ⊥
 Makes p i (Holders q j) = ⊥
+Makes p i (ShowSeed q room) = ⊥
 
-abbrev Named : State → Book → ℕ → ℕ → Node → Type 0
+abbrev pub Named : State → Book → ℕ → ℕ → Node → Type 0
 Named b k p i m = ((c : ℕ) × (k .handle p i ≡ noted m c)) ⊎ ((j : ℕ) × (i ≡ 4 * j + 3) × (b .given p < j))
 
 named-by : {N : ℕ} (name : ℕ → ℕ) (b a : State) (k k′ : Book) → Sim N name b k → Sim N name a k′ → Grown b a → (p i : ℕ) (m : Node) (d : ℕ) → k′ .handle p i ≡ noted m d → Named b k p i m
@@ -169,15 +170,17 @@ named-create b k q j p i m d e = go (same? q p) (same? j i)
 grown-effect : (b : State) (f : List ℕ) (k : Command) → ((p i : ℕ) → Makes p i k → ⊥) → Grown b (effect b f k)
 unfolding effect accept
 grown-effect b f (Open p u) n = unfold opens withStatus withUser in grown-same b
-grown-effect b f (Disconnect p) n = grown-disconnect b (accept b) (p .0) (grown-same b)
+grown-effect b f (Disconnect p) n = unfold withSeed in grown-disconnect b (accept b) (p .0) (grown-same b)
 grown-effect b f (Create p i) n = absurd (n (p .0) (i .0) (refl, refl))
 grown-effect b f (Destroy p i) n = grown-destroy b (accept b) (p .0) (slot b (p .0) (i .0)) (grown-same b)
 grown-effect b f (Release p i) n = grown-release b (accept b) (p .0) (slot b (p .0) (i .0)) (b .handle (p .0) (slot b (p .0) (i .0))) refl (grown-same b)
 grown-effect b f (Transfer p i q) n = grown-give b (accept b) (q .0) (slot b (p .0) (i .0)) (grown-same b)
-grown-effect b f (Send p z) n = unfold deliver pushAll withCharges withQueues in grown-same b
+grown-effect b f (Send p z) n =
+    pick-all (Grown b) (eqb (z .nd) 0) _ _ (unfold withSeed deliver pushAll withCharges withQueues in grown-same b) (unfold deliver pushAll withCharges withQueues in grown-same b)
 grown-effect b f (Receive p room) n = grown-receive b (accept b) (p .0) (b .queue (p .0)) (grown-same b)
 grown-effect b f (Quota p u) n = grown-same b
 grown-effect b f (Holders p i) n = grown-same b
+grown-effect b f (ShowSeed p room) n = grown-gives b (accept b) (p .0) (seedCarries (b .seed (p .0))) (grown-same b)
 
 given-effect : (b : State) (f : List ℕ) (k : Command) (q : ℕ) → b .given q ≤ effect b f k .given q
 unfolding effect accept
@@ -191,6 +194,7 @@ given-effect b f (Send p z) q = grown-effect b f (Send p z) (λ p i z. z) q .0
 given-effect b f (Receive p room) q = grown-effect b f (Receive p room) (λ p i z. z) q .0
 given-effect b f (Quota p u) q = omega arith
 given-effect b f (Holders p i) q = omega arith
+given-effect b f (ShowSeed p room) q = grown-effect b f (ShowSeed p room) (λ p i z. z) q .0
 
 -- One call.
 module _ (cs : List Call) (c : Call) (p i : ℕ) where
@@ -220,6 +224,7 @@ module _ (cs : List Call) (c : Call) (p i : ℕ) where
   named-command (Receive q room) a m e h = inl (same-names (Receive q room) a (λ n. refl) (λ p i z. z) m e h)
   named-command (Quota q u) a m e h = inl (same-names (Quota q u) a (λ n. refl) (λ p i z. z) m e h)
   named-command (Holders q j) a m e h = inl (same-names (Holders q j) a (λ n. refl) (λ p i z. z) m e h)
+  named-command (ShowSeed q room) a m e h = inl (same-names (ShowSeed q room) a (λ n. refl) (λ p i z. z) m e h)
 
   makes-creates : (d : Command) → Accepted (run cs) c d → Makes p i d → Creates p i (fed c (step (run cs) c))
   makes-creates (Create q j) a z =
@@ -234,8 +239,9 @@ module _ (cs : List Call) (c : Call) (p i : ℕ) where
   makes-creates (Receive q room) a z = absurd z
   makes-creates (Quota q u) a z = absurd z
   makes-creates (Holders q j) a z = absurd z
+  makes-creates (ShowSeed q room) a z = absurd z
 
-  named-call : (Creates p i (fed c (step (run cs) c)) → ⊥) → (m : Node) (e : ℕ) → bookAfter (cs ++ (c ∷ [])) .handle p i ≡ noted m e → Named (run cs) k p i m
+  pub named-call : (Creates p i (fed c (step (run cs) c)) → ⊥) → (m : Node) (e : ℕ) → bookAfter (cs ++ (c ∷ [])) .handle p i ≡ noted m e → Named (run cs) k p i m
   named-call uncreated m e h = go (came (run cs) c)
     where
       go : Came (run cs) c → Named (run cs) k p i m
@@ -309,6 +315,7 @@ given-never p i e b c x = let y = accepted-call b c (x .number) in go (y .0) (y 
     go (Receive q room) a = omega (arith, x .byte, coded (c .frame) (Receive q room) (a .read) .byte)
     go (Quota q u) a = omega (arith, x .byte, coded (c .frame) (Quota q u) (a .read) .byte)
     go (Holders q j) a = omega (arith, x .byte, coded (c .frame) (Holders q j) (a .read) .byte)
+    go (ShowSeed q room) a = omega (arith, x .byte, coded (c .frame) (ShowSeed q room) (a .read) .byte)
 
 never-created : (p i : ℕ) → i % 4 ≡ 3 → (b : State) (cs : List Call) → All (λ x. Creates p i x → ⊥) (historyFrom b cs)
 unfolding historyFrom

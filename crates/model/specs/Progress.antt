@@ -15,7 +15,7 @@ use Rattle.model.specs.State.{Entry, State}
 use Rattle.model.specs.Step.{Call, Result, step, runFrom, run}
 use Rattle.model.specs.Queues.{stamp, Later, Lapsed, front}
 
--- An accepted receive of p: the number 0 for a frame with the command byte 08 and the acting peer p.
+-- An accepted receive of p: the number 0 for a frame with the command byte 08 and the acting peer p. 0c is none: 02 No. 1, "0c is no receive in the rules of order".
 abbrev pub isReceive : ℕ → Call → Result → Bool
 isReceive p c r = both (eqb (r .outcome .number) 0) (both (eqb (opcode (c .frame)) 8) (eqb (getD (c .frame) 1 0) p))
 

@@ -13,7 +13,7 @@ use lib.Dec.{eqb, ltb}
 use borrow.Author.Tests.{eqb-true, eq-eqb, ne-eqb, ltb-true, ltb-false}
 use Rattle.laws.specs.Tests.{pick, Seen, Seen.is-true, Seen.is-false, look}
 use Rattle.frames.specs.declared.Command.{Command}
-use Rattle.frames.specs.declared.Command.the-variants.{Open, Disconnect, Create, Destroy, Release, Transfer, Send, Receive, Quota, Holders}
+use Rattle.frames.specs.declared.Command.the-variants.{Open, Disconnect, Create, Destroy, Release, Transfer, Send, Receive, Quota, Holders, ShowSeed}
 use Rattle.frames.specs.Frame.{opcode}
 use Rattle.model.specs.Lists.{both}
 use Rattle.model.specs.State.{Entry, State}
@@ -42,6 +42,7 @@ taken-coded b p f (Send q z) e g = rw e refl
 taken-coded b p f (Receive q room) e g = rw (e, g) refl
 taken-coded b p f (Quota q u) e g = rw e refl
 taken-coded b p f (Holders q i) e g = rw e refl
+taken-coded b p f (ShowSeed q room) e g = rw e refl
 
 -- What one call takes out.
 abbrev pub taken : State → ℕ → Call → List Entry
@@ -107,6 +108,7 @@ one-taken b p f (Receive q room) e = go (look (eqb (q .0) p))
     go (is-true z) = rw z (front-one room (b .queue p) (rw (eqb-true (q .0) p z) at (tested b f (Receive q room) e .next)))
 one-taken b p f (Quota q u) e = refl
 one-taken b p f (Holders q i) e = refl
+one-taken b p f (ShowSeed q room) e = refl
 
 pub call-one : (b : State) (p : ℕ) (c : Call) → length (taken b p c) ≡ pick (isReceive p c (step b c)) 1 0
 call-one b p c = go (came b c)

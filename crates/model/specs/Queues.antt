@@ -9,7 +9,7 @@ use lib.Dec.{eqb}
 use Rattle.laws.specs.Tests.{pick}
 use Rattle.laws.specs.Weights.{All}
 use Rattle.frames.specs.declared.Command.{Command}
-use Rattle.frames.specs.declared.Command.the-variants.{Open, Disconnect, Create, Destroy, Release, Transfer, Send, Receive, Quota, Holders}
+use Rattle.frames.specs.declared.Command.the-variants.{Open, Disconnect, Create, Destroy, Release, Transfer, Send, Receive, Quota, Holders, ShowSeed}
 use Rattle.frames.specs.Frame.{payloadOf}
 use Rattle.model.specs.State.{isLive, held, Entry, Entry.message, Entry.destroyed, Entry.released, State, slot, total}
 use Rattle.model.specs.Requests.{destinations, attached}
@@ -54,6 +54,7 @@ takenBy b p (Send q z) = []
 takenBy b p (Receive q room) = pick (eqb (q .0) p) (front (b .queue p)) []
 takenBy b p (Quota q u) = []
 takenBy b p (Holders q i) = []
+takenBy b p (ShowSeed q room) = []
 
 -- What an accepted command queues as messages, one for each destination: a send alone.
 abbrev pub sentBy : State → List ℕ → Command → List Entry
@@ -70,6 +71,7 @@ sentBy b f (Send q z) =
 sentBy b f (Receive q room) = []
 sentBy b f (Quota q u) = []
 sentBy b f (Holders q i) = []
+sentBy b f (ShowSeed q room) = []
 
 -- From the state b to the state a, while taken came out of the queue of p.
 abbrev pub MovedBy : (Entry → Type 0) → State → State → ℕ → List Entry → Type 0

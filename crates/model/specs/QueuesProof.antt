@@ -12,20 +12,20 @@ use Rattle.laws.specs.Tests.{pick, pick-cases, Seen, Seen.is-true, Seen.is-fals
 use Rattle.laws.specs.Tables.{upd, upd-same, upd-other}
 use Rattle.laws.specs.Weights.{keep, All, all-keep}
 use Rattle.frames.specs.declared.Command.{Command}
-use Rattle.frames.specs.declared.Command.the-variants.{Open, Disconnect, Create, Destroy, Release, Transfer, Send, Receive, Quota, Holders}
+use Rattle.frames.specs.declared.Command.the-variants.{Open, Disconnect, Create, Destroy, Release, Transfer, Send, Receive, Quota, Holders, ShowSeed}
 use Rattle.frames.specs.Frame.{payloadOf}
 use Rattle.frames.specs.Legal.{Legal}
 use Rattle.model.specs.Numbers.{peers, owner}
 use Rattle.model.specs.Lists.{both}
-use Rattle.model.specs.State.{Status.disconnected, isLive, Handle, Handle.none, Handle.some, handleOf, held, count, Message, Entry, Entry.message, Entry.destroyed, Entry.released, messagesIn, State, slot, total, byOwnerId}
+use Rattle.model.specs.State.{Status.disconnected, isLive, Handle, Handle.none, Handle.some, handleOf, held, count, Message, Entry, Entry.message, Entry.destroyed, Entry.released, messagesIn, State, slot, total, byOwnerId, Seed, Seed.unset, Seed.kept, seedCarries}
 use Rattle.model.specs.Requests.{destinations, attached}
-use Rattle.model.specs.Tables.{accept, withStatus, withUser, withGiven, withHandles, withHandle, withQueues, withCharges, withLives}
+use Rattle.model.specs.Tables.{accept, withStatus, withUser, withGiven, withHandles, withHandle, withQueues, withCharges, withLives, withSeed}
 use Rattle.model.specs.Refusals.{refusal}
-use Rattle.model.specs.Changes.{push, pushAll, takeOut, withdraw, shown, give, giveAll, dropped, remains, forget, fell, notify, releaseNotices, notifyAll, destroyNotices, destroyAll, arriving, deliver, givenAfter}
+use Rattle.model.specs.Changes.{push, pushAll, takeOut, withdraw, shown, give, giveAll, dropped, remains, forget, fell, notify, releaseNotices, notifyAll, destroyNotices, destroyAll, arriving, deliver, givenAfter, reseed}
 use Rattle.model.specs.Effects.{opens, creates, destroys, releases, releasesHandle, disconnects, receives, effect}
 use Rattle.model.specs.Tested.{tested}
 use Rattle.model.specs.Queues.{Later, Later.behind, Lapsed, Next, front, takenBy, sentBy, MovedBy, Moved}
-use Rattle.model.specs.QueuesLaws.{later-refl, later-keep, later-empty, later-trans, later-front, Each, map-new, map-all-of, each-push, each-pushAll, each-atPeers, each-takeOut, each-withdraw, total-set}
+use Rattle.model.specs.QueuesLaws.{later-refl, later-keep, later-empty, later-trans, later-front, Each, map-new, map-all-of, each-push, each-pushAll, each-atPeers, each-takeOut, each-withdraw, total-set, later-imp}
 use Rattle.model.specs.Unchanged.{notify-apart}
 use Rattle.model.specs.Counts.{total-other, count-handle}
 use Rattle.laws.specs.Loads.{all-map}
@@ -112,6 +112,13 @@ first-out b p out e rest h q = go (same? p q)
     go : Same p q → b .queue q ≡ pick (eqb p q) (front (b .queue q)) [] ++ upd (b .queue) p rest q
     go (same z) = rw (← z, eq-eqb p p refl, upd-same, h) refl
     go (other z) = rw (ne-eqb p q z, upd-other (b .queue) p q rest z) refl
+
+-- Why an entry leaves does not depend on seeds.
+lapsed-seed : (b a : State) (q : ℕ) (x : Seed) (p : ℕ) (e : Entry) → Lapsed b a p e → Lapsed b (withSeed a q x) p e
+unfolding withSeed
+lapsed-seed b a q x p (message n m) l = l
+lapsed-seed b a q x p (destroyed n s) l = l
+lapsed-seed b a q x p (released n s) l = l
 
 -- One command in the state b, and any fact of what it queues: notices with its number, and a send's messages.
 module _ (b : State) (new : Entry → Type 0) (of-destroy : (s : ℕ) → new (destroyed (suc (b .accepted)) s)) (of-release : (s : ℕ) → new (released (suc (b .accepted)) s)) where
@@ -229,11 +236,17 @@ module _ (b : State) (new : Entry → Type 0) (of-destroy : (s : ℕ) → new (d
   moved-send u ds hs bytes h =
       each-pushAll (Lapsed b (deliver (accept b) u ds hs bytes)) new (accept b) (arriving (accept b) u ds hs bytes) (λ r. arriving-new u ds hs bytes r h)
 
+  -- A seed moves no entry.
+  unseeded : {a : State} (t : Bool) (q : ℕ) (x : Seed) (p : ℕ) → MovedBy new b a p [] → MovedBy new b (reseed a t q x) p []
+  unfolding withSeed
+  unseeded {a} true q x p m = later-imp (lapsed-seed b a q x p) (λ e n. n) m
+  unseeded false q x p m = m
+
   -- Every accepted command.
   pub moved-by : (f : List ℕ) (k : Command) → All new (sentBy b f k) → Legal f k → refusal b f k ≡ 0 → (p : ℕ) → MovedBy new b (effect b f k) p (takenBy b p k)
   unfolding effect accept
   moved-by f (Open q u) n l e p = unfold opens withUser withStatus in later-refl (b .queue p)
-  moved-by f (Disconnect q) n l e p = moved-disconnect (q .0) p
+  moved-by f (Disconnect q) n l e p = unseeded true (q .0) unset p (moved-disconnect (q .0) p)
   moved-by f (Create q i) n l e p = unfold creates withHandles withLives in later-refl (b .queue p)
   moved-by f (Destroy q i) n l e p = moved-destroy (q .0) (slot b (q .0) (i .0)) (tested b f (Destroy q i) e .owns) p
   moved-by f (Release q i) n l e p = moved-releases (q .0) (slot b (q .0) (i .0)) (b .handle (q .0) (slot b (q .0) (i .0))) p
@@ -242,13 +255,15 @@ module _ (b : State) (new : Entry → Type 0) (of-destroy : (s : ℕ) → new (d
       let m : t .0 < peers = omega (arith, l .1) in
       moved-give new b (give (accept b) (t .0) s) (accept b) (t .0) s m (λ r. omega arith) (λ r. omega arith) p
   moved-by f (Send q z) n l e p =
-      moved-send (b .user (q .0)) (map (slot b (q .0)) (destinations f z)) (map (slot b (q .0)) (attached f z)) (payloadOf f)
+      unseeded (eqb (z .nd) 0) (q .0) (kept (payloadOf f) (map (slot b (q .0)) (attached f z))) p
+      (moved-send (b .user (q .0)) (map (slot b (q .0)) (destinations f z)) (map (slot b (q .0)) (attached f z)) (payloadOf f)
       (map-all-of new (λ d. message (suc (b .accepted)) (record { to = d; user = b .user (q .0); payload = payloadOf f; carried = map (slot b (q .0)) (attached f z) }))
       (map (slot b (q .0)) (destinations f z)) n)
-      p
+      p)
   moved-by f (Receive q room) n l e p = moved-receive (q .0) (omega (arith, l)) (b .queue (q .0)) refl p
   moved-by f (Quota q u) n l e p = later-refl (b .queue p)
   moved-by f (Holders q i) n l e p = later-refl (b .queue p)
+  moved-by f (ShowSeed q room) n l e p = moved-gives new b (accept b) (q .0) (seedCarries (b .seed (q .0))) (omega (arith, l)) (λ t. omega arith) p
 
 -- What a send queues carries its number.
 sent-next : (b : State) (f : List ℕ) (k : Command) → All (Next b) (sentBy b f k)
@@ -265,6 +280,7 @@ sent-next b f (Send q z) =
 sent-next b f (Receive q room) = tt
 sent-next b f (Quota q u) = tt
 sent-next b f (Holders q i) = tt
+sent-next b f (ShowSeed q room) = tt
 
 pub moved : (b : State) (f : List ℕ) (k : Command) → Legal f k → refusal b f k ≡ 0 → (p : ℕ) → Moved b (effect b f k) p (takenBy b p k)
 moved b f k = moved-by b (Next b) (λ s. refl) (λ s. refl) f k (sent-next b f k)

@@ -20,13 +20,14 @@ pub record Quiet (b c : State) : Type 0 where
   pub charges : c .charges ≡ b .charges
   pub status : c .status ≡ b .status
   pub user : c .user ≡ b .user
+  pub seed : c .seed ≡ b .seed
 
 pub quiet-same : (b : State) → Quiet b b
-quiet-same b = record { messages = λ q. refl; charges = refl; status = refl; user = refl }
+quiet-same b = record { messages = λ q. refl; charges = refl; status = refl; user = refl; seed = refl }
 
 pub quiet-then : {a b c : State} → Quiet a b → Quiet b c → Quiet a c
 quiet-then x y =
-    record { messages = λ q. y .messages q ∙ x .messages q; charges = y .charges ∙ x .charges; status = y .status ∙ x .status; user = y .user ∙ x .user }
+    record { messages = λ q. y .messages q ∙ x .messages q; charges = y .charges ∙ x .charges; status = y .status ∙ x .status; user = y .user ∙ x .user; seed = y .seed ∙ x .seed }
 
 -- The messages of queues that are put together, filtered, or of notices alone.
 pub messages-append : (q q′ : List Entry) → messagesIn (q ++ q′) ≡ messagesIn q ++ messagesIn q′
@@ -57,24 +58,24 @@ released-silent n (s ∷ ss) = released-silent n ss
 -- Each small change.
 pub quiet-accept : (b : State) → Quiet b (accept b)
 unfolding accept
-quiet-accept b = record { messages = λ q. refl; charges = refl; status = refl; user = refl }
+quiet-accept b = record { messages = λ q. refl; charges = refl; status = refl; user = refl; seed = refl }
 
 pub quiet-given : (b : State) (f : ℕ → ℕ) → Quiet b (withGiven b f)
 unfolding withGiven
-quiet-given b f = record { messages = λ q. refl; charges = refl; status = refl; user = refl }
+quiet-given b f = record { messages = λ q. refl; charges = refl; status = refl; user = refl; seed = refl }
 
 pub quiet-handles : (b : State) (p : ℕ) (h : ℕ → Handle) → Quiet b (withHandles b p h)
 unfolding withHandles
-quiet-handles b p h = record { messages = λ q. refl; charges = refl; status = refl; user = refl }
+quiet-handles b p h = record { messages = λ q. refl; charges = refl; status = refl; user = refl; seed = refl }
 
 pub quiet-lives : (b : State) (f : ℕ → Life) → Quiet b (withLives b f)
 unfolding withLives
-quiet-lives b f = record { messages = λ q. refl; charges = refl; status = refl; user = refl }
+quiet-lives b f = record { messages = λ q. refl; charges = refl; status = refl; user = refl; seed = refl }
 
 pub quiet-queue : (b : State) (p : ℕ) (x : List Entry) → messagesIn x ≡ messagesIn (b .queue p) → Quiet b (withQueue b p x)
 unfolding withQueues
 quiet-queue b p x h =
-    record { messages = upd-all (λ q y. messagesIn y ≡ messagesIn (b .queue q)) (b .queue) p x (λ q. refl) h; charges = refl; status = refl; user = refl }
+    record { messages = upd-all (λ q y. messagesIn y ≡ messagesIn (b .queue q)) (b .queue) p x (λ q. refl) h; charges = refl; status = refl; user = refl; seed = refl }
 
 pub quiet-push : (b : State) (p : ℕ) (new : List Entry) → messagesIn new ≡ [] → Quiet b (withQueue b p (b .queue p ++ new))
 quiet-push b p new e = quiet-queue b p (b .queue p ++ new) (rw (messages-append, e) (append-nil (messagesIn (b .queue p))))
@@ -82,7 +83,7 @@ quiet-push b p new e = quiet-queue b p (b .queue p ++ new) (rw (messages-append,
 pub quiet-pushAll : (b : State) (new : ℕ → List Entry) → ((q : ℕ) → messagesIn (new q) ≡ []) → Quiet b (pushAll b new)
 unfolding pushAll withQueues
 quiet-pushAll b new e =
-    record { messages = λ q. rw (messages-append, e q) (append-nil (messagesIn (b .queue q))); charges = refl; status = refl; user = refl }
+    record { messages = λ q. rw (messages-append, e q) (append-nil (messagesIn (b .queue q))); charges = refl; status = refl; user = refl; seed = refl }
 
 pub quiet-withdraw : (b : State) (p : ℕ) (t : ℕ → Bool) → Quiet b (withdraw b p t)
 unfolding withdraw

@@ -11,13 +11,13 @@ use Rattle.laws.specs.Tests.{pick}
 use Rattle.laws.specs.Weights.{keep}
 use Rattle.ids.specs.Refusals.{EOVERFLOW, EBADF, ESHUTDOWN, EEXIST, ENXIO, EPERM, EHOSTUNREACH, ENOSPC, EDQUOT, EAGAIN, ERANGE}
 use Rattle.frames.specs.declared.Command.{Command}
-use Rattle.frames.specs.declared.Command.the-variants.{Open, Disconnect, Create, Destroy, Release, Transfer, Send, Receive, Quota, Holders}
+use Rattle.frames.specs.declared.Command.the-variants.{Open, Disconnect, Create, Destroy, Release, Transfer, Send, Receive, Quota, Holders, ShowSeed}
 use Rattle.frames.specs.Frame.{payloadOf}
 use Rattle.quota.specs.declared.Charge.{Charge}
 use Rattle.quota.specs.Charges.{allowsAll}
 use Rattle.model.specs.Numbers.{slots, nodes, owner, mostCommands}
 use Rattle.model.specs.Lists.{both, every}
-use Rattle.model.specs.State.{Status, Status.unopened, Status.opened, Status.disconnected, isLive, count, Entry, Entry.message, Entry.destroyed, Entry.released, State, slot, freePlace}
+use Rattle.model.specs.State.{Status, Status.unopened, Status.opened, Status.disconnected, isLive, count, Entry, Entry.message, Entry.destroyed, Entry.released, Seed, Seed.unset, Seed.kept, State, slot, freePlace}
 use Rattle.model.specs.Requests.{destinations, attached}
 
 -- Each row takes the rest of the cascade, r.
@@ -84,6 +84,11 @@ takeable room (message n m ∷ q) = pick (leb (length (m .payload) + 8 * length 
 takeable room (destroyed n s ∷ q) = 0
 takeable room (released n s ∷ q) = 0
 
+-- 0c: "reading with none set gives 11"; "laid out as 08 and with its room test".
+abbrev pub showable : ℕ → Seed → ℕ
+showable room unset = EAGAIN
+showable room (kept payload carried) = pick (leb (length payload + 8 * length carried) room) 0 ERANGE
+
 -- The cascade of each command. Where it names IDs, find gives their slots, and for a create k is the free place.
 abbrev pub createBy : (ℕ → ℕ) → ℕ → State → ℕ → ℕ → ℕ
 createBy find k b p i = countable b (present (b .status p) (unheld (find i) (roomy k 0)))
@@ -139,6 +144,9 @@ refusesQuota b p = present (b .status p) 0
 unfoldable pub refusesHolders : State → ℕ → ℕ → ℕ
 refusesHolders b p i = holdersBy (slot b p) b p i
 
+unfoldable pub refusesSeed : State → ℕ → ℕ → ℕ
+refusesSeed b p room = countable b (present (b .status p) (showable room (b .seed p)))
+
 -- The refusal of a command that its frame f gave.
 unfoldable pub refusal : State → List ℕ → Command → ℕ
 refusal b f (Open p u) = refusesOpen b (p .0)
@@ -151,6 +159,7 @@ refusal b f (Send p z) = refusesSend b (p .0) (destinations f z) (attached f z) 
 refusal b f (Receive p room) = refusesReceive b (p .0) room
 refusal b f (Quota p u) = refusesQuota b (p .0)
 refusal b f (Holders p i) = refusesHolders b (p .0) (i .0)
+refusal b f (ShowSeed p room) = refusesSeed b (p .0) room
 
 -- The same where a search of one's own gives the slots of IDs, by peer, and the free places: the core's judgement is this one, with the search that its code makes.
 unfoldable pub refusalBy : (ℕ → ℕ → ℕ) → (ℕ → ℕ) → State → List ℕ → Command → ℕ
@@ -164,3 +173,4 @@ refusalBy find free b f (Send p z) = sendBy (find (p .0)) b (p .0) (destinations
 refusalBy find free b f (Receive p room) = refusesReceive b (p .0) room
 refusalBy find free b f (Quota p u) = refusesQuota b (p .0)
 refusalBy find free b f (Holders p i) = holdersBy (find (p .0)) b (p .0) (i .0)
+refusalBy find free b f (ShowSeed p room) = refusesSeed b (p .0) room

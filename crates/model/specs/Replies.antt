@@ -8,14 +8,14 @@ use lib.Dec.{eqb}
 use Rattle.laws.specs.Tests.{pick}
 use Rattle.laws.specs.Sums.{sumTo}
 use Rattle.frames.specs.declared.Command.{Command}
-use Rattle.frames.specs.declared.Command.the-variants.{Open, Disconnect, Create, Destroy, Release, Transfer, Send, Receive, Quota, Holders}
+use Rattle.frames.specs.declared.Command.the-variants.{Open, Disconnect, Create, Destroy, Release, Transfer, Send, Receive, Quota, Holders, ShowSeed}
 use Rattle.quota.specs.Charges.{balanceOf}
-use Rattle.answers.specs.declared.Received.the-variants.{Message as aMessage, Destroyed as aDestroyed, Released as aReleased}
+use Rattle.answers.specs.declared.Received.the-variants.{Message as aMessage, Destroyed as aDestroyed, Released as aReleased, Seed as aSeed}
 use Rattle.answers.specs.declared.Answer.{Answer}
 use Rattle.answers.specs.declared.Answer.the-variants.{Done as isDone, Transferred as isTransferred, Received as isReceived, Quota as isQuota, Holders as isHolders}
 use Rattle.model.specs.Numbers.{peers, invalid}
 use Rattle.model.specs.Lists.{any}
-use Rattle.model.specs.State.{held, idOr, Message, Entry, Entry.message, Entry.destroyed, Entry.released, State, slot}
+use Rattle.model.specs.State.{held, idOr, Message, Entry, Entry.message, Entry.destroyed, Entry.released, Seed, Seed.unset, Seed.kept, State, slot}
 use Rattle.model.specs.Changes.{takeOut, shown, shownAll}
 
 pub record Reply : Type 0 where
@@ -59,6 +59,16 @@ shows b p (message n m ∷ q) = showsMessage b p n m q
 shows b p (destroyed n s ∷ q) = plain (isReceived (aDestroyed (record { 0 = idOr invalid (b .handle p s) })))
 shows b p (released n s ∷ q) = plain (isReceived (aReleased (record { 0 = idOr invalid (b .handle p s) })))
 
+-- 0c: "shows the seed as kind 04 with a message's fields, destination all ones, flag 0"; the user is the peer's own.
+unfoldable pub showsSeed : State → ℕ → Seed → Reply
+showsSeed b p unset = plain isDone
+showsSeed b p (kept payload carried) =
+    record {
+      answer = isReceived (aSeed (record { to = record { 0 = invalid }; user = record { 0 = b .user p }; flag = false; nb = length payload; nh = length carried }));
+      ids = shownAll b p carried;
+      payload = payload;
+    }
+
 -- "one byte with bit p set if peer p holds a handle to the node".
 unfoldable pub holdersOf : State → ℕ → ℕ
 holdersOf b s = sumTo (λ q. pick (held (b .handle q s)) (2 ^ q) 0) peers
@@ -74,3 +84,4 @@ reply b f (Send p z) = plain isDone
 reply b f (Receive p room) = shows b (p .0) (b .queue (p .0))
 reply b f (Quota p u) = plain (isQuota (balanceOf (b .charges (p .0)) u))
 reply b f (Holders p i) = plain (isHolders (holdersOf b (slot b (p .0) (i .0))))
+reply b f (ShowSeed p room) = showsSeed b (p .0) (b .seed (p .0))

@@ -12,7 +12,7 @@ use Rattle.laws.specs.Sums.{sumTo}
 use Rattle.laws.specs.Weights.{keep, All}
 use Rattle.ids.specs.Refusals.{EINVAL, ENOTTY, EMSGSIZE, EOVERFLOW, EBADF, ESHUTDOWN, EEXIST, ENXIO, EPERM, EHOSTUNREACH, ENOSPC, EDQUOT, EAGAIN, ERANGE}
 use Rattle.frames.specs.declared.Command.{Command}
-use Rattle.frames.specs.declared.Command.the-variants.{Open, Disconnect, Create, Destroy, Release, Transfer, Send, Receive, Quota, Holders}
+use Rattle.frames.specs.declared.Command.the-variants.{Open, Disconnect, Create, Destroy, Release, Transfer, Send, Receive, Quota, Holders, ShowSeed}
 use Rattle.frames.specs.declared.Parsed.{Parsed}
 use Rattle.frames.specs.declared.Parsed.the-variants.{Read, Refused}
 use Rattle.frames.specs.Frame.{opcode, idAt, shortAt, frameLength, parse}
@@ -23,7 +23,7 @@ use Rattle.model.specs.State.{Status, Status.unopened, Status.opened, St
 use Rattle.model.specs.Requests.{destinations, attached}
 use Rattle.model.specs.Step.{Call}
 use Rattle.model.specs.Book.{Node, Noted, Noted.blank, Noted.noted, Book, ownedBy, nodesOf, Fed, empty, feedAll, queued, othersQueued, isSend}
-use Rattle.model.specs.Ledger.{Item, Item.message, Item.destroyed, Item.released, Ledger, blankLedger, feedLedgerAll}
+use Rattle.model.specs.Ledger.{Item, Item.message, Item.destroyed, Item.released, LedgerSeed, LedgerSeed.unset, LedgerSeed.kept, seedNodes, Ledger, blankLedger, feedLedgerAll}
 use Rattle.model.specs.Tally.{tally}
 use Rattle.model.specs.Standing.{standing}
 use Rattle.model.specs.Coded.{code, actor}
@@ -38,19 +38,16 @@ shortBuffer c = ltb (length (c .buffer)) 591
 abbrev pub emptyFrame : List ℕ → Bool
 emptyFrame f = eqb (length f) 0
 
--- 25 ENOTTY: "command byte unknown": 01 to 0a are known
+-- 25 ENOTTY: "command byte unknown": 01 to 0a are known, and 0c (02 No. 1)
 abbrev pub unknownByte : List ℕ → Bool
-unknownByte f = either (ltb (opcode f) 1) (ltb 10 (opcode f))
+unknownByte f = either (ltb (opcode f) 1) (either (eqb (opcode f) 11) (ltb 12 (opcode f)))
 
--- 22: "for send, a frame under 6 bytes, then peer, then nd 0"
+-- 22: "for send, a frame under 6 bytes, then peer". "then nd 0" is no more: 02 No. 1, "EINVAL for nd 0 no longer covers this form".
 abbrev pub shortSend : List ℕ → Bool
 shortSend f = both (isSend f) (ltb (length f) 6)
 
 abbrev pub sendPeer : List ℕ → Bool
 sendPeer f = both (isSend f) (ltb 7 (getD f 1 0))
-
-abbrev pub noDestination : List ℕ → Bool
-noDestination f = both (isSend f) (eqb (getD f 2 0) 0)
 
 -- 90 EMSGSIZE: "send with nd over 8, nh over 8 or nb over 512"
 abbrev pub tooLarge : List ℕ → Bool
@@ -114,6 +111,7 @@ idsOf f (Release p i) = i .0 ∷ []
 idsOf f (Transfer p i q) = i .0 ∷ []
 idsOf f (Send p z) = destinations f z ++ attached f z
 idsOf f (Holders p i) = i .0 ∷ []
+idsOf f (ShowSeed p room) = []
 idsOf f (Open p u) = []
 idsOf f (Disconnect p) = []
 idsOf f (Create p i) = []
@@ -132,6 +130,7 @@ livingOf f (Release p i) = []
 livingOf f (Receive p room) = []
 livingOf f (Quota p u) = []
 livingOf f (Holders p i) = []
+livingOf f (ShowSeed p room) = []
 
 -- 75 EOVERFLOW: "2^40 - 1 commands accepted already; not for questions"
 abbrev pub row75 : List Fed → List ℕ → Command → Bool
@@ -155,6 +154,7 @@ atDestination t xs (Send p z) = false
 atDestination t xs (Receive p room) = false
 atDestination t xs (Quota p u) = false
 atDestination t xs (Holders p i) = false
+atDestination t xs (ShowSeed p room) = false
 
 abbrev pub row9-destination : List Fed → List ℕ → Command → Bool
 row9-destination xs f c = atDestination isUnopened xs c
@@ -178,6 +178,7 @@ row17 xs f (Send p z) = false
 row17 xs f (Receive p room) = false
 row17 xs f (Quota p u) = false
 row17 xs f (Holders p i) = false
+row17 xs f (ShowSeed p room) = false
 
 -- 6 ENXIO: "an ID the acting peer does not hold"
 abbrev pub row6 : List Fed → List ℕ → Command → Bool
@@ -203,12 +204,14 @@ row1 xs f (Transfer p i q) = false
 row1 xs f (Send p z) = false
 row1 xs f (Receive p room) = false
 row1 xs f (Quota p u) = false
+row1 xs f (ShowSeed p room) = false
 
 -- 113 EHOSTUNREACH: "destroy of, transfer of, or send to a node already destroyed"
 abbrev pub row113 : List Fed → List ℕ → Command → Bool
 row113 xs f c = not (every (λ n. ledgerOf xs .lives (n .number)) (nodesOf (bookOf xs) (actor c) (livingOf f c)))
 
--- 28 ENOSPC: "create with 16 nodes counted". "A node counts against its owner while it lives, while any peer holds a handle to it, or while a queued message names it".
+-- 28 ENOSPC: "create with 16 nodes counted". "A node counts against its owner while it lives, while any peer holds a handle to it, or while a queued message names it". 02 No. 1: "A node
+-- named by a seed counts against its owner as if by a queued message".
 abbrev pub isNode : ℕ → Node → Bool
 isNode n x = eqb n (x .number)
 
@@ -218,7 +221,10 @@ namesNode n (destroyed k x) = false
 namesNode n (released k x) = false
 
 abbrev pub countsNode : Ledger → ℕ → Bool
-countsNode l n = either (l .lives n) (either (anyBelow (λ q. held (l .handle q n)) peers) (anyBelow (λ q. any (namesNode n) (l .queue q)) peers))
+countsNode l n =
+    either (l .lives n)
+    (either (anyBelow (λ q. held (l .handle q n)) peers)
+    (either (anyBelow (λ q. any (namesNode n) (l .queue q)) peers) (anyBelow (λ q. any (isNode n) (seedNodes (l .seed q))) peers)))
 
 abbrev pub countedNodes : Ledger → ℕ → ℕ
 countedNodes l p = sumTo (λ n. pick (both (eqb (l .maker n) p) (countsNode l n)) 1 0) (l .book .entered)
@@ -234,6 +240,7 @@ row28 xs f (Send p z) = false
 row28 xs f (Receive p room) = false
 row28 xs f (Quota p u) = false
 row28 xs f (Holders p i) = false
+row28 xs f (ShowSeed p room) = false
 
 -- 122 EDQUOT: "Quota, for each resource at each destination peer: what the sender's user has queued there plus all this send adds there must be at most half, rounded down, of the
 -- limit less what the other users have queued."
@@ -254,6 +261,7 @@ row122 xs f (Transfer p i q) = false
 row122 xs f (Receive p room) = false
 row122 xs f (Quota p u) = false
 row122 xs f (Holders p i) = false
+row122 xs f (ShowSeed p room) = false
 
 -- 11 EAGAIN: "receive, nothing queued"; 34 ERANGE: "next is a message with nb + 8 x nh over the room"
 abbrev pub nothingIn : List Item → Bool
@@ -266,8 +274,18 @@ overRoom room [] = false
 overRoom room (destroyed k n ∷ q) = false
 overRoom room (released k n ∷ q) = false
 
+-- 02 No. 1: "command 0c, laid out as 08 and with its room test"; "reading with none set gives 11".
+abbrev pub isUnset : LedgerSeed → Bool
+isUnset unset = true
+isUnset (kept payload ns) = false
+
+abbrev pub seedOverRoom : ℕ → LedgerSeed → Bool
+seedOverRoom room (kept payload ns) = ltb room (length payload + 8 * length ns)
+seedOverRoom room unset = false
+
 abbrev pub row11 : List Fed → List ℕ → Command → Bool
 row11 xs f (Receive p room) = nothingIn (ledgerOf xs .queue (p .0))
+row11 xs f (ShowSeed p room) = isUnset (ledgerOf xs .seed (p .0))
 row11 xs f (Open p u) = false
 row11 xs f (Disconnect p) = false
 row11 xs f (Create p i) = false
@@ -280,6 +298,7 @@ row11 xs f (Holders p i) = false
 
 abbrev pub row34 : List Fed → List ℕ → Command → Bool
 row34 xs f (Receive p room) = overRoom room (ledgerOf xs .queue (p .0))
+row34 xs f (ShowSeed p room) = seedOverRoom room (ledgerOf xs .seed (p .0))
 row34 xs f (Open p u) = false
 row34 xs f (Disconnect p) = false
 row34 xs f (Create p i) = false
@@ -309,10 +328,11 @@ onRead t (Refused n) = false
 abbrev pub ofCommand : ℕ → (List Fed → List ℕ → Command → Bool) → Row
 ofCommand n t = record { number = n; applies = λ xs c. onRead (t xs (c .frame)) (parse (c .frame)) }
 
--- "Order: answer buffer; EIO; empty frame; ENOTTY; for send, a frame under 6 bytes, then peer, then nd 0, then EMSGSIZE, then length; for others length, then the rest of EINVAL;"
+-- "Order: answer buffer; EIO; empty frame; ENOTTY; for send, a frame under 6 bytes, then peer, .. then EMSGSIZE, then length; for others length, then the rest of EINVAL;" The row
+-- of nd 0 is gone: 02 No. 1, "Same sizes as a send".
 abbrev pub frameRows : List Row
 frameRows =
-    ofFrame EINVAL emptyFrame ∷ ofFrame ENOTTY unknownByte ∷ ofFrame EINVAL shortSend ∷ ofFrame EINVAL sendPeer ∷ ofFrame EINVAL noDestination ∷ ofFrame EMSGSIZE tooLarge
+    ofFrame EINVAL emptyFrame ∷ ofFrame ENOTTY unknownByte ∷ ofFrame EINVAL shortSend ∷ ofFrame EINVAL sendPeer ∷ ofFrame EMSGSIZE tooLarge
     ∷ ofFrame EINVAL wrongLength ∷ ofFrame EINVAL peerOver ∷ ofFrame EINVAL userOver ∷ ofFrame EINVAL destinationOver ∷ ofFrame EINVAL lowBits ∷ []
 
 -- "EOVERFLOW; acting peer; destination peer; then the table's order downwards"

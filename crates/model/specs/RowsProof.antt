@@ -14,15 +14,15 @@ use Rattle.laws.specs.Search.{first-before}
 use Rattle.laws.specs.Build.{build-length}
 use Rattle.ids.specs.Refusals.{EOVERFLOW, EBADF, ESHUTDOWN, EEXIST, ENXIO, EPERM, EHOSTUNREACH, ENOSPC, EDQUOT, EAGAIN, ERANGE}
 use Rattle.frames.specs.declared.Command.{Command}
-use Rattle.frames.specs.declared.Command.the-variants.{Open, Disconnect, Create, Destroy, Release, Transfer, Send, Receive, Quota, Holders}
+use Rattle.frames.specs.declared.Command.the-variants.{Open, Disconnect, Create, Destroy, Release, Transfer, Send, Receive, Quota, Holders, ShowSeed}
 use Rattle.frames.specs.Frame.{sendId, payloadOf}
 use Rattle.frames.specs.Legal.{Legal, payload-length}
 use Rattle.quota.specs.Charges.{users}
 use Rattle.model.specs.Numbers.{slots, nodes, owner, mostCommands}
 use Rattle.model.specs.Lists.{every}
-use Rattle.model.specs.State.{Status, Status.unopened, Status.opened, Status.disconnected, isLive, Handle.none, hasId, Entry, Entry.message, Entry.destroyed, Entry.released, State, slot, slotOf, freePlace}
+use Rattle.model.specs.State.{Status, Status.unopened, Status.opened, Status.disconnected, isLive, Handle.none, hasId, Entry, Entry.message, Entry.destroyed, Entry.released, State, slot, slotOf, freePlace, Seed, Seed.unset, Seed.kept}
 use Rattle.model.specs.Requests.{destinations, attached}
-use Rattle.model.specs.Refusals.{present, openable, holding, owning, pinned, living, fits, takeable, refusesOpen, refusesDisconnect, refusesCreate, refusesDestroy, refusesRelease, refusesTransfer, refusesSend, refusesReceive, refusesQuota, refusesHolders, refusal}
+use Rattle.model.specs.Refusals.{present, openable, holding, owning, pinned, living, fits, takeable, refusesOpen, refusesDisconnect, refusesCreate, refusesDestroy, refusesRelease, refusesTransfer, refusesSend, refusesReceive, refusesQuota, refusesHolders, refusal, showable, refusesSeed}
 use Rattle.model.specs.Step.{run}
 use Rattle.model.specs.Book.{Node, Noted, Noted.blank, Noted.noted, Book, nodesOf, Fed}
 use Rattle.model.specs.Tested.{every-all}
@@ -31,8 +31,8 @@ use Rattle.model.specs.ChargedProof.{known-open}
 use Rattle.model.specs.Sim.{called, Sim}
 use Rattle.model.specs.SimSend.{held-at-slot, noted-at-slot, nodes-of-slots}
 use Rattle.model.specs.Tally.{tally}
-use Rattle.model.specs.LedgerSim.{itemOf, Follows}
-use Rattle.model.specs.Rows.{bookOf, ledgerOf, standsIn, isUnopened, isOpened, isGone, isNoted, ofOther, isPinned, countedNodes, overQuota, nothingIn, overRoom, row75, row9, row108, row9-destination, row108-destination, row17, row6, row1, row113, row28, row122, row11, row34}
+use Rattle.model.specs.LedgerSim.{itemOf, Follows, seedOf}
+use Rattle.model.specs.Rows.{bookOf, ledgerOf, standsIn, isUnopened, isOpened, isGone, isNoted, ofOther, isPinned, countedNodes, overQuota, nothingIn, overRoom, row75, row9, row108, row9-destination, row108-destination, row17, row6, row1, row113, row28, row122, row11, row34, isUnset, seedOverRoom}
 use Rattle.model.specs.RowsQuota.{leb-not, fits-row}
 
 -- A row passed over, or not: what is behind it counts only where it does not apply.
@@ -152,6 +152,15 @@ module _ {N : ℕ} (name : ℕ → ℕ) (b : State) (xs : List Fed) (w : Sim N n
   takeable-row space (destroyed n t ∷ q) = refl
   takeable-row space (released n t ∷ q) = refl
 
+  showable-row : (space : ℕ) (x : Seed) → showable space x ≡ pick (isUnset (seedOf name x)) EAGAIN (pick (seedOverRoom space (seedOf name x)) ERANGE 0)
+  showable-row space unset = refl
+  showable-row space (kept payload carried) =
+      rw (length-map carried (called name), leb-not (length payload + 8 * length carried) space) (back (ltb space (length payload + 8 * length carried)))
+    where
+      back : (x : Bool) → pick (not x) 0 ERANGE ≡ pick x ERANGE 0
+      back true = refl
+      back false = refl
+
   -- The cascade of each command.
   abbrev cascade : List ℕ → Command → ℕ
   cascade f c =
@@ -170,7 +179,7 @@ module _ {N : ℕ} (name : ℕ → ℕ) (b : State) (xs : List Fed) (w : Sim N n
       (pick (row34 xs f c) ERANGE 0))))))))))))
 
   pub refusal-rows : (f : List ℕ) (c : Command) → Legal f c → refusal b f c ≡ cascade f c
-  unfolding refusal refusesOpen refusesDisconnect refusesCreate refusesDestroy refusesRelease refusesTransfer refusesSend refusesReceive refusesQuota refusesHolders
+  unfolding refusal refusesOpen refusesDisconnect refusesCreate refusesDestroy refusesRelease refusesTransfer refusesSend refusesReceive refusesQuota refusesHolders refusesSeed
   refusal-rows f (Open p u) l = count-row _ _ (openable-row (p .0))
   refusal-rows f (Disconnect p) l = count-row _ _ (present-row (p .0) 0 0 (λ o. refl))
   refusal-rows f (Create p i) l =
@@ -205,3 +214,4 @@ module _ {N : ℕ} (name : ℕ → ℕ) (b : State) (xs : List Fed) (w : Sim N n
   refusal-rows f (Receive p space) l = count-row _ _ (present-row (p .0) _ _ (λ o. rw (r .queues (p .0)) (takeable-row space (b .queue (p .0)))))
   refusal-rows f (Quota p u) l = present-row (p .0) 0 0 (λ o. refl)
   refusal-rows f (Holders p i) l = present-row (p .0) _ _ (λ o. held-row (p .0) (i .0 ∷ []) _ _ (λ a. owner-row (p .0) (i .0) 0 0 (a .0) refl))
+  refusal-rows f (ShowSeed p space) l = count-row _ _ (present-row (p .0) _ _ (λ o. rw (r .seeds (p .0) (omega (arith, l))) (showable-row space (b .seed (p .0)))))

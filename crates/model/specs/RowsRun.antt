@@ -11,32 +11,34 @@ use lib.ListN.{length}
 use lib.Dec.{eqb, ltb}
 use borrow.Author.Tests.{eqb-true, ne-eqb}
 use Rattle.laws.specs.Tests.{pick, pick-else, Seen, Seen.is-true, Seen.is-false, look, clash}
-use Rattle.laws.specs.Weights.{All, all-append}
+use Rattle.laws.specs.Weights.{All, all-append, all-imp}
 use Rattle.frames.specs.declared.Command.{Command}
-use Rattle.frames.specs.declared.Command.the-variants.{Open, Disconnect, Create, Destroy, Release, Transfer, Send, Receive, Quota, Holders}
+use Rattle.frames.specs.declared.Command.the-variants.{Open, Disconnect, Create, Destroy, Release, Transfer, Send, Receive, Quota, Holders, ShowSeed}
 use Rattle.frames.specs.declared.Parsed.{Parsed}
 use Rattle.frames.specs.declared.Parsed.the-variants.{Read, Refused}
 use Rattle.frames.specs.Frame.{parse}
 use Rattle.frames.specs.Legal.{Legal, Outcome, legal}
 use Rattle.answers.specs.Answer.{answerSize, numberOf, outcomeOf}
 use Rattle.model.specs.Lists.{any}
-use Rattle.model.specs.State.{Message, Entry, Entry.message, Entry.destroyed, Entry.released, messagesIn, names, State, start}
+use Rattle.model.specs.State.{Message, Entry, Entry.message, Entry.destroyed, Entry.released, messagesIn, names, State, start, seedCarries}
 use Rattle.model.specs.Refusals.{refusal}
 use Rattle.model.specs.Step.{Call, carryOut, judge, finish, step, run, answerOf}
 use Rattle.model.specs.StepLaws.{reply-number}
 use Rattle.model.specs.Book.{Node, Noted, Noted.blank, Noted.noted, Book, nodeIn, nodesOf, Fed}
 use Rattle.model.specs.Claim.{fed, historyFrom, bookAfter}
-use Rattle.model.specs.Accepted.{Came, Came.left, Came.done, came}
+use Rattle.model.specs.Accepted.{Came, Came.left, Came.done, came, Accepted}
 use Rattle.model.specs.Requests.{attached}
 use Rattle.model.specs.ChargedProof.{always-charged}
 use Rattle.model.specs.Sim.{called}
 use Rattle.model.specs.Tally.{tallied}
 use Rattle.model.specs.Standing.{stands}
-use Rattle.model.specs.Ledger.{ledgerAfter}
-use Rattle.model.specs.LedgerSim.{Follows, held-entered}
+use Rattle.model.specs.Ledger.{ledgerAfter, LedgerSeed, seedNodes, blankLedger, feedLedgerAll}
+use Rattle.model.specs.LedgerSim.{Follows, held-entered, seed-nodes}
 use Rattle.model.specs.LedgerStep.{enteredAfter, note-enters}
 use Rattle.model.specs.History.{ledger-book, book-next, book-noted, book-left}
 use Rattle.model.specs.Sources.{Source, Sourced, story}
+use Rattle.model.specs.LedgerPassed.{ledger-kept}
+use Rattle.model.specs.LedgerSeeds.{seeds-kept, seeds-next}
 use Rattle.model.specs.Rows.{Row, frameRows, commandRows, rows, firstNumber, Exact}
 use Rattle.model.specs.RowsFrame.{numberIn, frame-exactly}
 use Rattle.model.specs.RowsCounted.{either-true, counted-row}
@@ -69,6 +71,7 @@ at-least e (Send p z) = omega arith
 at-least e (Receive p room) = omega arith
 at-least e (Quota p u) = omega arith
 at-least e (Holders p i) = omega arith
+at-least e (ShowSeed p room) = omega arith
 
 pub entered-next : (cs : List Call) (c : Call) → bookAfter cs .entered ≤ bookAfter (cs ++ (c ∷ [])) .entered
 entered-next cs c = go (came (run cs) c)
@@ -116,6 +119,24 @@ module _ (cs : List Call) (name : ℕ → ℕ) where
   queue-entered s (destroyed n t ∷ q) a e = queue-entered s q (a .1) e
   queue-entered s (released n t ∷ q) a e = queue-entered s q (a .1) e
 
+-- What a seed names was entered too.
+abbrev EnteredAll : ℕ → LedgerSeed → Type 0
+EnteredAll E x = All (λ (n : Node). n .number < E) (seedNodes x)
+
+seeds-entered : (cs : List Call) (p : ℕ) → EnteredAll (ledgerAfter cs .book .entered) (ledgerAfter cs .seed p)
+seeds-entered cs = ledger-kept (λ l. (p : ℕ) → EnteredAll (l .book .entered) (l .seed p)) next [] cs (unfold historyFrom feedLedgerAll blankLedger in λ p. tt)
+  where
+    next : (cs : List Call) (c : Call) (d : Command) → Accepted (run cs) c d → ((p : ℕ) → EnteredAll (ledgerAfter cs .book .entered) (ledgerAfter cs .seed p)) →
+        (p : ℕ) → EnteredAll (ledgerAfter (cs ++ (c ∷ [])) .book .entered) (ledgerAfter (cs ++ (c ∷ [])) .seed p)
+    next cs c d a h p =
+        let E = ledgerAfter (cs ++ (c ∷ [])) .book .entered in
+        let more : ledgerAfter cs .book .entered ≤ E = rw (ledger-book cs, ledger-book (cs ++ (c ∷ []))) (entered-next cs c) in
+        let old : (q : ℕ) → EnteredAll E (ledgerAfter cs .seed q) = λ q. all-imp (λ (n : Node). n .number < ledgerAfter cs .book .entered) (λ (n : Node). n .number < E) (λ n l. omega (arith, more)) (seedNodes (ledgerAfter cs .seed q)) (h q) in
+        rw (seeds-next cs c d a)
+        (seeds-kept (EnteredAll E) (ledgerAfter cs) (c .frame) d old tt
+        (λ q z e. all-imp (λ (n : Node). n .number < ledgerAfter cs .book .entered) (λ (n : Node). n .number < E) (λ n l. omega (arith, more)) (nodesOf (ledgerAfter cs .book) (q .0) (attached (c .frame) z))
+        (rw (ledger-book cs) (nodes-entered cs (q .0) (attached (c .frame) z)))) p)
+
 -- The command's rows, of a bus of a run.
 run-rows : (cs : List Call) (c : Call) (k : Command) → parse (c .frame) ≡ Read k → Legal (c .frame) k → refusal (run cs) (c .frame) k ≡ firstNumber commandRows (historyFrom start cs) c
 run-rows cs c k e l =
@@ -126,13 +147,16 @@ run-rows cs c k e l =
     rw e
     (refusal-rows (w .name) (run cs) (historyFrom start cs) (w .sim) (w .follows) (always-charged cs) (tallied cs) (stands cs)
     (counted-row (w .name) (w .sim .apart) (run cs) (ledgerAfter cs) f
-    (λ q s h. subst (λ (x : Book). w .name s < x .entered) (sym same) (queue-entered cs (w .name) s (run cs .queue q) (w .sources q) h))) (c .frame) k l)
+    (λ q s h. subst (λ (x : Book). w .name s < x .entered) (sym same) (queue-entered cs (w .name) s (run cs .queue q) (w .sources q) h))
+    (λ q s m h.
+    let a = rw (f .seeds q m, seed-nodes (w .name) (run cs .seed q)) at (seeds-entered cs q) in
+    carried-entered cs (w .name) (ledgerAfter cs .book .entered) s (seedCarries (run cs .seed q)) a h)) (c .frame) k l)
 
 -- Every row has a number over 0, so 0 says that none applies.
-abbrev Over : Row → Type 0
+abbrev pub Over : Row → Type 0
 Over r = 0 < r .number
 
-first-append : (rs qs : List Row) (xs : List Fed) (c : Call) → All Over rs →
+pub first-append : (rs qs : List Row) (xs : List Fed) (c : Call) → All Over rs →
     firstNumber (rs ++ qs) xs c ≡ pick (eqb (firstNumber rs xs c) 0) (firstNumber qs xs c) (firstNumber rs xs c)
 first-append [] qs xs c o = refl
 first-append (r ∷ rs) qs xs c o = go (look (r .applies xs c)) (first-append rs qs xs c (o .1))
@@ -142,9 +166,9 @@ first-append (r ∷ rs) qs xs c o = go (look (r .applies xs c)) (first-append rs
     go (is-true e) ih = rw (e, ne-eqb (r .number) 0 (λ z. omega (arith, o .0))) refl
     go (is-false e) ih = rw e ih
 
-frames-over : All Over frameRows
+pub frames-over : All Over frameRows
 frames-over =
-    (omega arith, (omega arith, (omega arith, (omega arith, (omega arith, (omega arith, (omega arith, (omega arith, (omega arith, (omega arith, (omega arith, tt)))))))))))
+    (omega arith, (omega arith, (omega arith, (omega arith, (omega arith, (omega arith, (omega arith, (omega arith, (omega arith, (omega arith, tt))))))))))
 
 commands-over : All Over commandRows
 commands-over =

@@ -40,7 +40,15 @@ quota p u = 9 ∷ p ∷ u ∷ []
 abbrev pub holders : ℕ → ℕ → List ℕ
 holders p i = 10 ∷ p ∷ be 8 i
 
--- Answers: 00 or a refusal; an ID; the quota question's six numbers; a message to the ID to, of the user u, its flag 0 or told; the notices.
+abbrev pub showSeed : ℕ → ℕ → List ℕ
+showSeed p room = 12 ∷ p ∷ be 2 room
+
+-- 07 with nd 0.
+abbrev pub setSeed : ℕ → List ℕ → List ℕ → List ℕ
+setSeed p hs payload = send p [] hs payload
+
+-- Answers: 00 or a refusal; an ID; the quota question's six numbers; a message to the ID to, of the user u, its flag 0 or told; the notices;
+-- a seed of the user u.
 abbrev pub number : ℕ → List ℕ
 number n = n ∷ []
 
@@ -61,6 +69,9 @@ destroyedAt i = 0 ∷ 2 ∷ be 8 i
 
 abbrev pub releasedAt : ℕ → List ℕ
 releasedAt i = 0 ∷ 3 ∷ be 8 i
+
+abbrev pub showsAs : ℕ → List ℕ → List ℕ → List ℕ
+showsAs u ids payload = 0 ∷ 4 ∷ be 8 18446744073709551615 ++ (u ∷ 0 ∷ be 2 (length payload) ++ (length ids ∷ idBytes ids ++ payload))
 
 -- A row: a script of frames on a fresh bus and its last answers; or the quota rule with a limit, what others have, what is queued, and what is left.
 pub data Row : Type 0 where

@@ -1,5 +1,7 @@
 -- What the answer of an accepted call says, in the words of the book: the bytes of its reply, and what the book and the third demand read off them.
 -- Assumes nothing.
+use Rattle.ids.specs.Refusals.{EAGAIN}
+use Rattle.model.specs.Tested.{tested}
 use Prim.Native.Nat.{ℕ, suc, _^_, _≤_, _<_}
 use mathlib.Core.Path.{_≡_, refl, sym, ap, _∙_}
 use mathlib.Core.Bool.{true, false}
@@ -13,14 +15,14 @@ use Rattle.ids.specs.declared.HandleId.{HandleId}
 use Rattle.ids.specs.declared.Peer.{Peer}
 use Rattle.ids.specs.declared.User.{User}
 use Rattle.frames.specs.declared.Command.{Command}
-use Rattle.frames.specs.declared.Command.the-variants.{Transfer, Receive, Quota}
+use Rattle.frames.specs.declared.Command.the-variants.{Transfer, Receive, Quota, ShowSeed}
 use Rattle.quota.specs.Charges.{own, balanceOf}
 use Rattle.answers.specs.Answer.{answerSize, answerBytes, answerAfter, outcomeOf}
-use Rattle.answers.specs.AnswerLaws.{transferred-id, message-kind, destroyed-kind, released-kind, message-count, message-ids, quota-messages, quota-bytes, quota-handles}
+use Rattle.answers.specs.AnswerLaws.{transferred-id, message-kind, destroyed-kind, released-kind, message-count, message-ids, quota-messages, quota-bytes, quota-handles, seed-count, seed-ids-at}
 use Rattle.model.specs.Resources.{Resource, Resource.messages, Resource.bytes, Resource.handles, amount}
-use Rattle.model.specs.State.{Message, Entry, Entry.message, Entry.destroyed, Entry.released, State, slot}
+use Rattle.model.specs.State.{Message, Entry, Entry.message, Entry.destroyed, Entry.released, State, slot, Seed, Seed.unset, Seed.kept, seedCarries}
 use Rattle.model.specs.Changes.{takeOut, shown, give, shownAll}
-use Rattle.model.specs.Replies.{Reply, showsMessage, shows, reply}
+use Rattle.model.specs.Replies.{Reply, showsMessage, shows, reply, showsSeed}
 use Rattle.model.specs.Step.{Verdict, Call, finish, step, answerOf}
 use Rattle.model.specs.Book.{answeredId, answersMessage, shownIds}
 use Rattle.model.specs.Claim.{reported}
@@ -40,6 +42,16 @@ finish-answer b out v h =
 pub shown-length : (b : State) (p : ℕ) (ss : List ℕ) → length (shownAll b p ss) ≡ length ss
 shown-length b p [] = refl
 shown-length b p (s ∷ ss) = ap suc (shown-length (give b p s) p ss)
+
+seed-ids : (b : State) (p : ℕ) (x : Seed) → (x ≡ unset → ⊥) → length (seedCarries x) ≤ 8 → All (λ i. i < 256 ^ 8) (shownAll b p (seedCarries x)) →
+    shownIds (bytesOf (showsSeed b p x)) ≡ shownAll b p (seedCarries x)
+unfolding showsSeed
+seed-ids b p unset d few h = absurd (d refl)
+seed-ids b p (kept payload carried) d few h =
+    let ids = shownAll b p carried in
+    let k : length carried ≡ length ids = sym (shown-length b p carried) in
+    let few8 : length ids ≤ 8 = omega arith in
+    rw seed-count (seed-ids-at _ ids payload few8 h)
 
 module _ (b : State) (c : Call) where
   -- The answer of an accepted call is the bytes of its reply.
@@ -78,6 +90,15 @@ module _ (b : State) (c : Call) where
 
       pub receive-released : b .queue (p .0) ≡ released n s ∷ rest → answersMessage (answerOf (step b c)) ≡ false
       receive-released e = rw (receive-bytes (released n s ∷ rest) e, released-kind)
+
+  -- A seed reading answers the IDs of what the seed carries.
+  pub seed-shows : (p : Peer) (room : ℕ) → Accepted b c (ShowSeed p room) → length (seedCarries (b .seed (p .0))) ≤ 8 →
+      All (λ i. i < 256 ^ 8) (shownAll b (p .0) (seedCarries (b .seed (p .0)))) → shownIds (answerOf (step b c)) ≡ shownAll b (p .0) (seedCarries (b .seed (p .0)))
+  unfolding reply
+  seed-shows p room a few h = ap shownIds (answer-bytes (ShowSeed p room) a) ∙ seed-ids b (p .0) (b .seed (p .0)) (λ e. absurd (unset-refused e)) few h
+    where
+      unset-refused : b .seed (p .0) ≡ unset → ⊥
+      unset-refused e = let z : EAGAIN ≡ 0 = rw e at (tested b (c .frame) (ShowSeed p room) (a .unrefused) .next) in omega arith
 
   -- The quota question reports what the user has queued.
   pub quota-reports : (p : Peer) (u : User) → Accepted b c (Quota p u) → (r : Resource) → amount r (own (b .charges (p .0)) u) < 65536 →

@@ -11,7 +11,7 @@ use Rattle.frames.specs.Frame.{opcode, idAt}
 use Rattle.model.specs.Numbers.{invalid}
 use Rattle.model.specs.State.{Handle.none}
 use Rattle.model.specs.Book.{Node, Noted.noted, Fed, answeredId, shownIds, actingPeer}
-use Rattle.model.specs.Ledger.{Letter, Item, Item.message, Item.destroyed, Item.released}
+use Rattle.model.specs.Ledger.{Letter, Item, Item.message, Item.destroyed, Item.released, LedgerSeed.kept}
 use Rattle.model.specs.Rows.{bookOf, ledgerOf}
 use Rattle.model.specs.OneNode.{Creates}
 use Rattle.model.specs.Happened.{Happened}
@@ -30,7 +30,7 @@ AtOnePlace i n (j ∷ is) [] = ⊥
 AtOnePlace i n (j ∷ is) (m ∷ ns) = ((j ≡ i) × (m ≡ n)) ⊎ AtOnePlace i n is ns
 
 -- After the history xs, x shows at the peer p the ID i for the node n: "by an answer to that peer's receive (destination, attached, notice) and by the answer to a transfer of which it
--- is the destination; all ones is no ID".
+-- is the destination; all ones is no ID". And 0c shows the attached nodes of the peer's seed: 02 No. 1, "Attached handles follow the receive rule each time it is shown."
 pub data Shows (xs : List Fed) (x : Fed) (p i : ℕ) (n : Node) : Type 0 where
   destination : (k : ℕ) (m : Letter) (rest : List Item) → Takes p 1 x → ledgerOf xs .queue p ≡ message k m ∷ rest → m .to ≡ n → numAt (x .answer) 2 8 ≡ i → Shows xs x p i n
   attached : (k : ℕ) (m : Letter) (rest : List Item) → Takes p 1 x → ledgerOf xs .queue p ≡ message k m ∷ rest → AtOnePlace i n (shownIds (x .answer)) (m .carried) →
@@ -39,6 +39,8 @@ pub data Shows (xs : List Fed) (x : Fed) (p i : ℕ) (n : Node) : Type 0 where
   release : (k : ℕ) (rest : List Item) → Takes p 3 x → ledgerOf xs .queue p ≡ released k n ∷ rest → numAt (x .answer) 2 8 ≡ i → Shows xs x p i n
   transferred : (c : ℕ) → x .number ≡ 0 → opcode (x .frame) ≡ 6 → getD (x .frame) 10 0 ≡ p → bookOf xs .handle (actingPeer (x .frame)) (idAt (x .frame) 2 .0) ≡ noted n c →
       answeredId (x .answer) ≡ i → Shows xs x p i n
+  seeded : (payload : List ℕ) (ns : List Node) → x .number ≡ 0 → opcode (x .frame) ≡ 12 → actingPeer (x .frame) ≡ p → ledgerOf xs .seed p ≡ kept payload ns →
+      AtOnePlace i n (shownIds (x .answer)) ns → (i ≡ invalid → ⊥) → Shows xs x p i n
 
 -- (a) An ID that the bus gave, 4n + 3, and that was shown at a peer for a node is never shown at that peer for another node.
 abbrev pub GivenForOne : Type 0

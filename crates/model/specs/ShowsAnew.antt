@@ -13,7 +13,7 @@ use Rattle.laws.specs.Tests.{Same, Same.same, Same.other, same?}
 use Rattle.laws.specs.Weights.{All}
 use Rattle.ids.specs.declared.HandleId.{HandleId}
 use Rattle.frames.specs.declared.Command.{Command}
-use Rattle.frames.specs.declared.Command.the-variants.{Open, Disconnect, Create, Destroy, Release, Transfer, Send, Receive, Quota, Holders}
+use Rattle.frames.specs.declared.Command.the-variants.{Open, Disconnect, Create, Destroy, Release, Transfer, Send, Receive, Quota, Holders, ShowSeed}
 use Rattle.frames.specs.Frame.{opcode, idAt}
 use Rattle.frames.specs.Fields.{fields-command}
 use Rattle.model.specs.Numbers.{owner}
@@ -41,7 +41,7 @@ use Rattle.model.specs.ShowsNames.{named-held, held-named, NamedIn, show
 use Rattle.model.specs.ShowsOnce.{uncreated-for-one}
 
 -- The first create of p under i, or none.
-creates? : (p i : ℕ) (x : Fed) → Creates p i x ⊎ (Creates p i x → ⊥)
+pub creates? : (p i : ℕ) (x : Fed) → Creates p i x ⊎ (Creates p i x → ⊥)
 creates? p i x = go (same? (x .number) 0) (same? (opcode (x .frame)) 3) (same? (actingPeer (x .frame)) p) (same? (idAt (x .frame) 2 .0) i)
   where
     go : Same (x .number) 0 → Same (opcode (x .frame)) 3 → Same (actingPeer (x .frame)) p → Same (idAt (x .frame) 2 .0) i → Creates p i x ⊎ (Creates p i x → ⊥)
@@ -68,10 +68,10 @@ first-create p i (y ∷ ys) = go (creates? p i y) (first-create p i ys)
     go (inr c) (inr a) = inr (c, a)
 
 -- "EINVAL .. create with ID bit 0 or 1 set"; "EEXIST .. create with an ID the peer holds".
-abbrev Fresh : List Fed → ℕ → ℕ → Type 0
+abbrev pub Fresh : List Fed → ℕ → ℕ → Type 0
 Fresh xs p i = (i % 4 ≡ 0) × ((n : Node) (d : ℕ) → bookOf xs .handle p i ≡ noted n d → ⊥)
 
-create-fresh : (cs : List Call) (c : Call) (p i : ℕ) → Creates p i (fed c (step (run cs) c)) → Fresh (historyFrom start cs) p i
+pub create-fresh : (cs : List Call) (c : Call) (p i : ℕ) → Creates p i (fed c (step (run cs) c)) → Fresh (historyFrom start cs) p i
 create-fresh cs c p i x = let y = accepted-call (run cs) c (x .number) in go (y .0) (y .1)
   where
     go : (k : Command) → Accepted (run cs) c k → Fresh (historyFrom start cs) p i
@@ -84,6 +84,7 @@ create-fresh cs c p i x = let y = accepted-call (run cs) c (x .number) in go (y 
     go (Receive q room) a = absurd (omega (arith, x .byte, coded (c .frame) (Receive q room) (a .read) .byte))
     go (Quota q u) a = absurd (omega (arith, x .byte, coded (c .frame) (Quota q u) (a .read) .byte))
     go (Holders q j) a = absurd (omega (arith, x .byte, coded (c .frame) (Holders q j) (a .read) .byte))
+    go (ShowSeed q room) a = absurd (omega (arith, x .byte, coded (c .frame) (ShowSeed q room) (a .read) .byte))
     go (Create q j) a =
         let f = fields-command (c .frame) (Create q j) (a .read) in
         let id : j .0 ≡ i = ap (λ (v : HandleId). v .0) (f .1) ∙ x .id in

@@ -6,7 +6,7 @@ use mathlib.Core.Path.{_≡_, refl, sym, ap, ap₂, subst, _∙_}
 use mathlib.Core.Bool.{true}
 use mathlib.Core.Logic.{_⊎_}
 use mathlib.Core.Logic._⊎_.{inl, inr}
-use mathlib.Core.List.{List, [], _∷_, _++_, append-nil}
+use mathlib.Core.List.{List, [], _∷_, _++_, map, append-nil}
 use native.Mathlib.Omega.{arith}
 use lib.ListN.{length, getD}
 use borrow.Author.Tests.{eq-eqb}
@@ -16,11 +16,11 @@ use Rattle.laws.specs.Weights.{All, all-imp}
 use Rattle.laws.specs.Loads.{all-map}
 use Rattle.ids.specs.declared.HandleId.{HandleId}
 use Rattle.frames.specs.declared.Command.{Command}
-use Rattle.frames.specs.declared.Command.the-variants.{Open, Disconnect, Create, Destroy, Release, Transfer, Send, Receive, Quota, Holders}
+use Rattle.frames.specs.declared.Command.the-variants.{Open, Disconnect, Create, Destroy, Release, Transfer, Send, Receive, Quota, Holders, ShowSeed}
 use Rattle.frames.specs.Frame.{opcode, idAt}
 use Rattle.frames.specs.Fields.{fields-command}
-use Rattle.model.specs.Numbers.{invalid}
-use Rattle.model.specs.State.{Handle.some, held, idOr, Entry, Entry.message, Entry.destroyed, Entry.released, start}
+use Rattle.model.specs.Numbers.{invalid, peers}
+use Rattle.model.specs.State.{Handle.some, held, idOr, Entry, Entry.message, Entry.destroyed, Entry.released, start, seedCarries}
 use Rattle.model.specs.Step.{Call, step, run, answerOf}
 use Rattle.model.specs.Book.{Node, Noted, Noted.noted, countOf, Book, putHandle, noteTransfer, Fed, note, answeredId, shownIds, actingPeer}
 use Rattle.model.specs.Claim.{fed, historyFrom, bookAfter}
@@ -30,15 +30,17 @@ use Rattle.model.specs.Notices.{Stands}
 use Rattle.model.specs.NoticesProof.{noted as always-noted}
 use Rattle.model.specs.Sim.{called}
 use Rattle.model.specs.Sources.{Story, story, book-noted}
-use Rattle.model.specs.Ledger.{Letter, Item, Item.message as messageItem, Item.destroyed as destroyedItem, Item.released as releasedItem, Ledger, ownName, dueItem, ledgerAfter}
-use Rattle.model.specs.LedgerSim.{itemOf}
+use Rattle.model.specs.Ledger.{Letter, Item, Item.message as messageItem, Item.destroyed as destroyedItem, Item.released as releasedItem, Ledger, ownName, dueItem, ledgerAfter, LedgerSeed.kept as keptSeed, seedNodes}
+use Rattle.model.specs.LedgerSim.{itemOf, seed-nodes}
 use Rattle.model.specs.History.{history-append}
 use Rattle.model.specs.SimHandles.{some-of}
-use Rattle.model.specs.DeliveredProof.{delivers}
+use Rattle.model.specs.DeliveredProof.{delivers, named-at}
 use Rattle.model.specs.Due.{answers-due}
+use Rattle.model.specs.Named.{ShownFor, seed-shown}
+use Rattle.model.specs.Exchanges.{is-show}
 use Rattle.model.specs.Rows.{bookOf}
 use Rattle.model.specs.Happened.{Happened, of-next}
-use Rattle.model.specs.Shows.{Takes, AtOnePlace, Shows, Shows.destination, Shows.attached, Shows.destruction, Shows.release, Shows.transferred}
+use Rattle.model.specs.Shows.{Takes, AtOnePlace, Shows, Shows.destination, Shows.attached, Shows.destruction, Shows.release, Shows.transferred, Shows.seeded}
 
 -- p holds the node n under the ID i.
 pub record HoldsAs (k : Book) (l : Ledger) (p i : ℕ) (n : Node) : Type 0 where
@@ -129,6 +131,7 @@ module _ (cs : List Call) (c : Call) (p : ℕ) where
       go (Send q z) a = absurd (omega (arith, t .byte, coded (c .frame) (Send q z) (a .read) .byte))
       go (Quota q u) a = absurd (omega (arith, t .byte, coded (c .frame) (Quota q u) (a .read) .byte))
       go (Holders q j) a = absurd (omega (arith, t .byte, coded (c .frame) (Holders q j) (a .read) .byte))
+      go (ShowSeed q room) a = absurd (omega (arith, t .byte, coded (c .frame) (ShowSeed q room) (a .read) .byte))
       go (Receive q room) a =
           let f : q .0 ≡ p = sym (coded (c .frame) (Receive q room) (a .read) .peer) ∙ t .peer in
           answers-due cs c (Receive q room) (a .read) (t .number) ∙ ap (λ (r : ℕ). dueItem (ledgerAfter cs) r (ledgerAfter cs .queue r)) f
@@ -184,6 +187,7 @@ module _ (cs : List Call) (c : Call) (p i : ℕ) (n : Node) where
       go (Receive q room) a = absurd (omega (arith, six, coded (c .frame) (Receive q room) (a .read) .byte))
       go (Quota q u) a = absurd (omega (arith, six, coded (c .frame) (Quota q u) (a .read) .byte))
       go (Holders q j) a = absurd (omega (arith, six, coded (c .frame) (Holders q j) (a .read) .byte))
+      go (ShowSeed q room) a = absurd (omega (arith, six, coded (c .frame) (ShowSeed q room) (a .read) .byte))
       go (Transfer q j t) a =
           let f = fields-command (c .frame) (Transfer q j t) (a .read) in
           let k = bookAfter cs in
@@ -199,12 +203,29 @@ module _ (cs : List Call) (c : Call) (p i : ℕ) (n : Node) where
                 ∙ z .1,
           )
 
+  -- As an attached ID of a seed.
+  seed-named : (payload : List ℕ) (ns : List Node) → given cs c .number ≡ 0 → opcode (c .frame) ≡ 12 → actingPeer (c .frame) ≡ p → ledgerAfter cs .seed p ≡ keptSeed payload ns →
+      AtOnePlace i n (shownIds (bytes cs c)) ns → (i ≡ invalid → ⊥) → Named (cs ++ (c ∷ []))
+  seed-named payload ns zero twelve acts e at v =
+      let y = accepted-call (run cs) c zero in
+      let k = coded (c .frame) (y .0) (y .1 .read) in
+      let d = is-show (y .0) (sym (k .byte) ∙ twelve) in
+      let a : Accepted (run cs) c (ShowSeed (d .0) (d .1)) = subst (Accepted (run cs) c) (d .2) (y .1) in
+      let f : d .0 .0 ≡ p = sym (coded (c .frame) (ShowSeed (d .0) (d .1)) (a .read) .peer) ∙ acts in
+      let w = story (suc (length cs)) cs (omega arith) in
+      let m : d .0 .0 < peers = omega (arith, a .legal) in
+      let g : map (called (w .name)) (seedCarries (run cs .seed (d .0 .0))) ≡ ns =
+      sym (seed-nodes (w .name) (run cs .seed (d .0 .0))) ∙ ap seedNodes (sym (w .follows .seeds (d .0 .0) m)) ∙ ap (λ (q : ℕ). seedNodes (ledgerAfter cs .seed q)) f ∙ ap seedNodes e in
+      let s : ShownFor (bookAfter (cs ++ (c ∷ []))) p (shownIds (bytes cs c)) ns = rw (← f, ← g) (seed-shown cs c (d .0) (d .1) a w) in
+      named-at (bookAfter (cs ++ (c ∷ []))) p i n (shownIds (bytes cs c)) ns s at v
+
   shown-named : Shows (historyFrom start cs) (given cs c) p i n → Named cs ⊎ Named (cs ++ (c ∷ []))
   shown-named (destination k m rest t q e f) = inl (first-shown 1 (messageItem k m) rest t q e f)
   shown-named (attached k m rest t q a v) = inr (attached-shown k m rest t q a v)
   shown-named (destruction k rest t q f) = inl (first-shown 2 (destroyedItem k n) rest t q refl f)
   shown-named (release k rest t q f) = inl (first-shown 3 (releasedItem k n) rest t q refl f)
   shown-named (transferred d zero six to source shown) = inr (transfer-shown d zero six to source shown)
+  shown-named (seeded payload ns zero twelve acts e at v) = inr (seed-named payload ns zero twelve acts e at v)
 
 -- Of histories.
 abbrev pub NamedIn : List Fed → ℕ → ℕ → Node → Type 0

@@ -11,7 +11,7 @@ use Rattle.laws.specs.Weights.{All, all-append}
 use Rattle.model.specs.Book.{Node, Fed}
 use Rattle.model.specs.OneNode.{Creates, one-node, given-one-node}
 use Rattle.model.specs.Happened.{Happened, happened-front, of-cut}
-use Rattle.model.specs.Shows.{Shows, Shows.destination, Shows.attached, Shows.destruction, Shows.release, Shows.transferred, GivenForOne}
+use Rattle.model.specs.Shows.{Shows, Shows.destination, Shows.attached, Shows.destruction, Shows.release, Shows.transferred, GivenForOne, Shows.seeded}
 use Rattle.model.specs.ShowsNames.{NamedIn, shows-names}
 
 -- What shows an ID is no create.
@@ -21,6 +21,7 @@ no-create xs x p i j q n (attached k m rest t e f g) c = omega (arith, t .byte, 
 no-create xs x p i j q n (destruction k rest t e f) c = omega (arith, t .byte, c .byte)
 no-create xs x p i j q n (release k rest t e f) c = omega (arith, t .byte, c .byte)
 no-create xs x p i j q n (transferred d zero six to source told) c = omega (arith, six, c .byte)
+no-create xs x p i j q n (seeded payload ns zero twelve acts e f g) c = omega (arith, twelve, c .byte)
 
 -- From one moment of a history to a later one.
 module _ (P : Fed → Type 0) (p i : ℕ) (n m : Node)

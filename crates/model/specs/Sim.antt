@@ -6,9 +6,9 @@ use mathlib.Core.Path.{_≡_}
 use mathlib.Core.List.{map}
 use lib.ListN.{length}
 use Rattle.laws.specs.Weights.{load}
-use Rattle.model.specs.Numbers.{nodes, owner}
+use Rattle.model.specs.Numbers.{peers, nodes, owner}
 use Rattle.model.specs.Resources.{Resource}
-use Rattle.model.specs.State.{Handle, Handle.some, Message, messagesIn, State}
+use Rattle.model.specs.State.{Handle, Handle.some, Message, messagesIn, seedCarries, State}
 use Rattle.model.specs.Book.{Node, Noted, Noted.noted, BookMessage, Book, weight, by}
 
 -- The book's node of a slot.
@@ -31,5 +31,7 @@ pub record Sim (N : ℕ) (name : ℕ → ℕ) (b : State) (k : Book) : Type 0 wh
   pub users : (p : ℕ) → k .user p ≡ b .user p
   pub handles : (p : ℕ) → Handles name (b .handle p) (k .handle p)
   pub queues : (p : ℕ) → k .queue p ≡ map (told name) (messagesIn (b .queue p))
+  -- the nodes of a peer's seed
+  pub seeds : (p : ℕ) → p < peers → k .seed p ≡ map (called name) (seedCarries (b .seed p))
   -- sent is received, dropped and what the book has queued
   pub sums : (p u : ℕ) (r : Resource) → k .sent p u r ≡ k .received p u r + k .dropped p u r + load (by u) (weight r) (k .queue p)

@@ -11,13 +11,14 @@ use Rattle.laws.specs.Tests.{Seen, Seen.is-true, Seen.is-false, look, Same, Sam
 use Rattle.laws.specs.Tables.{upd, upd-same, upd-other, upd-rel}
 use Rattle.laws.specs.Weights.{All, all-imp, map-all}
 use Rattle.laws.specs.Search.{first-before}
-use Rattle.model.specs.Numbers.{slots, nodes, owner}
+use Rattle.model.specs.Numbers.{slots, nodes, owner, peers}
 use Rattle.model.specs.Lists.{any}
-use Rattle.model.specs.State.{Handle, Handle.none, Handle.some, handleOf, held, hasId, Message, Entry, Entry.message, Entry.destroyed, Entry.released, messagesIn, State, slotOf, slot, names, freePlace}
+use Rattle.model.specs.State.{Handle, Handle.none, Handle.some, handleOf, held, hasId, Message, Entry, Entry.message, Entry.destroyed, Entry.released, messagesIn, State, slotOf, slot, names, freePlace, seedCarries, seeded}
 use Rattle.model.specs.Tables.{withHandles, withLives}
 use Rattle.model.specs.Effects.{creates}
 use Rattle.model.specs.Book.{Noted, notedOf, Book, noteCreate}
 use Rattle.model.specs.Notices.{mentions, Unnamed}
+use Rattle.model.specs.Occurs.{any-below}
 use Rattle.model.specs.Sim.{called, told, Handles, Sim}
 use Rattle.model.specs.SimHandles.{some-none, handles-set}
 
@@ -25,7 +26,7 @@ use Rattle.model.specs.SimHandles.{some-none, handles-set}
 abbrev Absent : ℕ → Message → Type 0
 Absent s m = (s ≡ m .to → ⊥) × All (λ t. s ≡ t → ⊥) (m .carried)
 
-absent-list : (s : ℕ) (ts : List ℕ) → any (eqb s) ts ≡ false → All (λ t. s ≡ t → ⊥) ts
+pub absent-list : (s : ℕ) (ts : List ℕ) → any (eqb s) ts ≡ false → All (λ t. s ≡ t → ⊥) ts
 absent-list s [] e = tt
 absent-list s (t ∷ ts) e =
     let r = pick-else (eqb s t) true false (λ z. clash z) e in
@@ -97,6 +98,7 @@ module _ {N : ℕ} (name : ℕ → ℕ) (b : State) (k : Book) (p i : ℕ) (r : 
         known = λ n. known n (same? s n);
         users = r .users;
         sums = r .sums;
+        seeds = λ q m. r .seeds q m ∙ map-all _ _ (seedCarries (b .seed q)) (all-imp _ _ (λ t e. called-other name s (k .entered) t e) (seedCarries (b .seed q)) (absent-list s (seedCarries (b .seed q)) (any-below (λ q. any (eqb s) (seedCarries (b .seed q))) peers q m (unfold seeded in free .unseeded))));
         queues = λ q.
             r .queues q
             ∙ map-all _ _ (messagesIn (b .queue q))

@@ -85,6 +85,7 @@ module _ {N : ℕ} (name : ℕ → ℕ) (b : State) (k : Book) (p s : ℕ) (r : 
           (record {
             apart = r .apart;
             known = r .known;
+            seeds = r .seeds;
             users = r .users;
             sums = r .sums;
             queues =

@@ -9,11 +9,11 @@ use Rattle.laws.specs.Tests.{pick, pick-all}
 use Rattle.laws.specs.Tables.{upd-all}
 use Rattle.laws.specs.Weights.{All}
 use Rattle.frames.specs.declared.Command.{Command}
-use Rattle.frames.specs.declared.Command.the-variants.{Open, Disconnect, Create, Destroy, Release, Transfer, Send, Receive, Quota, Holders}
+use Rattle.frames.specs.declared.Command.the-variants.{Open, Disconnect, Create, Destroy, Release, Transfer, Send, Receive, Quota, Holders, ShowSeed}
 use Rattle.frames.specs.Legal.{Legal}
 use Rattle.model.specs.Numbers.{slots}
-use Rattle.model.specs.State.{Handle.some, handleOf, Entry, Entry.message, Entry.destroyed, Entry.released, messagesIn, State, slot, freePlace}
-use Rattle.model.specs.Tables.{accept, withStatus, withUser, withHandles, withHandle, withQueues, withCharges, withLives}
+use Rattle.model.specs.State.{Handle.some, handleOf, Entry, Entry.message, Entry.destroyed, Entry.released, messagesIn, State, slot, freePlace, seedCarries}
+use Rattle.model.specs.Tables.{accept, withStatus, withUser, withHandles, withHandle, withQueues, withCharges, withLives, withSeed}
 use Rattle.model.specs.Changes.{pushAll, takeOut, withdraw, forget, fell, notify, notifyAll, destroyAll, deliver}
 use Rattle.model.specs.Effects.{opens, creates, destroys, releases, disconnects, receives, effect}
 use Rattle.model.specs.Tested.{Tested}
@@ -76,11 +76,12 @@ Small (Send p z) = Unit {0}
 Small (Receive p room) = Unit {0}
 Small (Quota p u) = Unit {0}
 Small (Holders p i) = Unit {0}
+Small (ShowSeed p room) = Unit {0}
 
 pub ids-command : (b : State) (f : List ℕ) (c : Command) → Ready b → Legal f c → Tested b f c → Small c → Ids (effect b f c)
 unfolding effect accept
 ids-command b f (Open p u) r l t s = unfold opens withStatus withUser in r .ids
-ids-command b f (Disconnect p) r l t s = ids-disconnect (accept b) (p .0) (r .ids)
+ids-command b f (Disconnect p) r l t s = unfold withSeed in ids-disconnect (accept b) (p .0) (r .ids)
 ids-command b f (Create p i) r l t s =
     unfold creates withLives in
     ids-put (withLives (accept b) _) (p .0) (p .0 * slots + freePlace (accept b) (p .0)) (i .0) 1 (r .ids) (λ j e. absurd (omega (arith, l .1))) (omega (arith, l .1))
@@ -89,7 +90,10 @@ ids-command b f (Release p i) r l t s =
     let x = held-at-slot b (p .0) (i .0) (t .holds) in
     rw (x .1) (ids-release (accept b) (p .0) (slot b (p .0) (i .0)) (i .0) (x .0) (r .ids) (x .1))
 ids-command b f (Transfer p i q) r l t s = ids-give (accept b) (q .0) (slot b (p .0) (i .0)) (r .ids) (omega (arith, r .few (q .0)))
-ids-command b f (Send p z) r l t s = unfold deliver pushAll withCharges withQueues in r .ids
+ids-command b f (Send p z) r l t s =
+    pick-all Ids (eqb (z .nd) 0) _ _ (unfold withSeed deliver pushAll withCharges withQueues in r .ids) (unfold deliver pushAll withCharges withQueues in r .ids)
 ids-command b f (Receive p room) r l t s = ids-receives (accept b) (p .0) (b .queue (p .0)) (r .ids) (r .few (p .0)) (r .carried (p .0))
 ids-command b f (Quota p u) r l t s = r .ids
 ids-command b f (Holders p i) r l t s = r .ids
+ids-command b f (ShowSeed p room) r l t s =
+    ids-gives (accept b) (p .0) (seedCarries (b .seed (p .0))) (r .ids) (omega (arith, r .few (p .0), r .seeds (p .0) .0))

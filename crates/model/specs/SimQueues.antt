@@ -28,6 +28,7 @@ sim-quiet b a s q h =
       apart = s .apart;
       known = s .known;
       sums = s .sums;
+      seeds = rw (q .seed) (s .seeds);
       users = rw (q .user) (s .users);
       handles = rw h (s .handles);
       queues = λ p. rw (q .messages p) (s .queues p);
@@ -49,7 +50,7 @@ module _ {N : ℕ} (name : ℕ → ℕ) (b : State) (k : Book) (p : ℕ) (out : 
   pub sim-received : Sim N name (takeOut b p out rest) (toReceived k p (map (told name) out) (map (told name) (messagesIn rest)))
   unfolding takeOut toReceived withCharges withQueues
   sim-received =
-      record { apart = s .apart; known = s .known; users = s .users; handles = s .handles; queues = queues-out; sums = λ q u r. sum q u r (same? p q) }
+      record { apart = s .apart; known = s .known; users = s .users; handles = s .handles; seeds = s .seeds; queues = queues-out; sums = λ q u r. sum q u r (same? p q) }
     where
       sum : (q u : ℕ) (r : Resource) → Same p q →
           k .sent q u r
@@ -61,7 +62,7 @@ module _ {N : ℕ} (name : ℕ → ℕ) (b : State) (k : Book) (p : ℕ) (out : 
   pub sim-dropped : Sim N name (takeOut b p out rest) (toDropped k p (map (told name) out) (map (told name) (messagesIn rest)))
   unfolding takeOut toDropped withCharges withQueues
   sim-dropped =
-      record { apart = s .apart; known = s .known; users = s .users; handles = s .handles; queues = queues-out; sums = λ q u r. sum q u r (same? p q) }
+      record { apart = s .apart; known = s .known; users = s .users; handles = s .handles; seeds = s .seeds; queues = queues-out; sums = λ q u r. sum q u r (same? p q) }
     where
       sum : (q u : ℕ) (r : Resource) → Same p q →
           k .sent q u r

@@ -44,6 +44,7 @@ sim-put name b k p s i c r l one-id one-place =
     record {
       apart = r .apart;
       known = r .known;
+      seeds = r .seeds;
       users = r .users;
       sums = r .sums;
       queues = r .queues;
@@ -105,6 +106,7 @@ sim-open name b k p u r =
     record {
       apart = r .apart;
       known = r .known;
+      seeds = r .seeds;
       sums = r .sums;
       queues = r .queues;
       handles = r .handles;
@@ -118,6 +120,7 @@ sim-no-handles name b k p r =
     record {
       apart = r .apart;
       known = r .known;
+      seeds = r .seeds;
       users = r .users;
       sums = r .sums;
       queues = r .queues;
@@ -126,7 +129,7 @@ sim-no-handles name b k p r =
 
 sim-status : {N : ℕ} {name : ℕ → ℕ} {k : Book} (b : State) (p : ℕ) → Sim N name b k → Sim N name (withStatus b p disconnected) k
 unfolding withStatus
-sim-status b p r = record { apart = r .apart; known = r .known; users = r .users; sums = r .sums; queues = r .queues; handles = r .handles }
+sim-status b p r = record { apart = r .apart; known = r .known; users = r .users; sums = r .sums; queues = r .queues; handles = r .handles; seeds = r .seeds }
 
 notify-all-handles : (a b : State) → notifyAll a b .handle ≡ b .handle
 unfolding notifyAll pushAll withQueues

@@ -10,14 +10,14 @@ use borrow.Author.Tests.{ne-eqb}
 use Rattle.laws.specs.Tests.{pick, pick-all}
 use Rattle.laws.specs.Weights.{All}
 use Rattle.frames.specs.declared.Command.{Command}
-use Rattle.frames.specs.declared.Command.the-variants.{Open, Disconnect, Create, Destroy, Release, Transfer, Send, Receive, Quota, Holders}
+use Rattle.frames.specs.declared.Command.the-variants.{Open, Disconnect, Create, Destroy, Release, Transfer, Send, Receive, Quota, Holders, ShowSeed}
 use Rattle.frames.specs.Frame.{idAt}
 use Rattle.frames.specs.Fields.{Fields, fields-command}
-use Rattle.model.specs.State.{Entry, Entry.message, Entry.destroyed, Entry.released, messagesIn, State, start}
+use Rattle.model.specs.State.{Entry, Entry.message, Entry.destroyed, Entry.released, messagesIn, State, start, seedCarries}
 use Rattle.model.specs.Tables.{withQueues, withCharges}
 use Rattle.model.specs.Changes.{takeOut}
 use Rattle.model.specs.Step.{Call, step, runFrom, run, answerOf}
-use Rattle.model.specs.Book.{Node, Noted, Noted.blank, Noted.noted, BookMessage, Book, empty, putHandle, raise, toReceived, toDropped, noteOpen, noteCreate, noteTransfer, noteSend, learn, noteReceive, dropFor, noteRelease, dropHandles, answeredId, answersMessage, shownIds, note, feed, feedAll}
+use Rattle.model.specs.Book.{Node, Noted, Noted.blank, Noted.noted, BookMessage, Book, empty, putHandle, raise, toReceived, toDropped, noteOpen, noteCreate, noteTransfer, noteSend, learn, noteReceive, dropFor, noteRelease, dropHandles, answeredId, answersMessage, shownIds, note, feed, feedAll, noteSeed}
 use Rattle.model.specs.Claim.{fed, historyFrom, bookAfter}
 use Rattle.model.specs.Tested.{tested}
 use Rattle.model.specs.Accepted.{Accepted, Came, Came.left, Came.done, came, run-append}
@@ -25,7 +25,7 @@ use Rattle.model.specs.Notices.{Carried, Stands}
 use Rattle.model.specs.NoticesFree.{free-unnamed}
 use Rattle.model.specs.NoticesProof.{noted as always-noted}
 use Rattle.model.specs.BoundsProof.{given-bound}
-use Rattle.model.specs.Shown.{transfer-answers, receive-message, receive-shows, receive-destroyed, receive-released}
+use Rattle.model.specs.Shown.{transfer-answers, receive-message, receive-shows, receive-destroyed, receive-released, seed-shows}
 use Rattle.model.specs.SimHandles.{handles-none, some-none}
 use Rattle.model.specs.SimGive.{Ids, shown-small, shown-all-small}
 use Rattle.model.specs.SimStep.{ReceiveShows, Shows, Ready, World, renamed, sim-command}
@@ -44,6 +44,7 @@ ready cs ok =
       ids = ok;
       few = λ p. omega (arith, given-bound cs p);
       carried = λ p. carried-all (run cs) p (run cs .queue p) (always-noted cs .stands p);
+      seeds = always-noted cs .seeds;
       free = λ s. free-unnamed (run cs) s (always-noted cs);
     }
 
@@ -71,6 +72,8 @@ shows b c (Send p z) a r = tt
 shows b c (Receive p room) a r = shows-receive b c p room a r (b .queue (p .0)) refl
 shows b c (Quota p u) a r = tt
 shows b c (Holders p i) a r = tt
+shows b c (ShowSeed p room) a r =
+    seed-shows b c p room a (r .seeds (p .0) .0) (shown-all-small b (p .0) (seedCarries (b .seed (p .0))) (r .ids) (omega (arith, r .few (p .0), r .seeds (p .0) .0)))
 
 -- A chosen ID is read from 8 bytes.
 pub small : (c : Call) (k : Command) → Fields (c .frame) k → Small k
@@ -85,9 +88,10 @@ small c (Send p z) f = tt
 small c (Receive p room) f = tt
 small c (Quota p u) f = tt
 small c (Holders p i) f = tt
+small c (ShowSeed p room) f = tt
 
 -- The book enters at most one node with a command.
-learn-entered : (k : Book) (p : ℕ) (is : List ℕ) (ns : List Node) → learn k p is ns .entered ≡ k .entered
+pub learn-entered : (k : Book) (p : ℕ) (is : List ℕ) (ns : List Node) → learn k p is ns .entered ≡ k .entered
 unfolding putHandle
 learn-entered k p [] ns = refl
 learn-entered k p (i ∷ is) [] = refl
@@ -111,19 +115,20 @@ release-entered k p i blank = refl
 release-entered k p i (noted n c) = pick-all (λ (x : Book). x .entered ≡ k .entered) (eqb c 1) _ _ refl refl
 
 pub note-entered : (k : Book) (f a : List ℕ) (c : Command) → note k f a c .entered ≤ suc (k .entered)
-unfolding note noteOpen noteCreate noteSend toDropped dropHandles
+unfolding note noteOpen noteCreate noteSend noteSeed toDropped dropHandles
 note-entered k f a (Open p u) = omega arith
 note-entered k f a (Disconnect p) = omega arith
 note-entered k f a (Create p i) = omega arith
 note-entered k f a (Destroy p i) = omega arith
 note-entered k f a (Release p i) = omega (arith, release-entered k (p .0) (i .0) (k .handle (p .0) (i .0)))
 note-entered k f a (Transfer p i q) = omega (arith, transfer-entered k (k .handle (p .0) (i .0)) (q .0) (answeredId a))
-note-entered k f a (Send p z) = omega arith
+note-entered k f a (Send p z) = pick-all (λ (x : Book). x .entered ≤ suc (k .entered)) (eqb (z .nd) 0) _ _ (omega arith) (omega arith)
 note-entered k f a (Receive p room) =
     pick-all (λ (x : Book). x .entered ≤ suc (k .entered)) (answersMessage a) (noteReceive k (p .0) (shownIds a) (k .queue (p .0))) k
     (omega (arith, receive-entered k (p .0) (shownIds a) (k .queue (p .0)))) (omega arith)
 note-entered k f a (Quota p u) = omega arith
 note-entered k f a (Holders p i) = omega arith
+note-entered k f a (ShowSeed p room) = omega (arith, learn-entered k (p .0) (shownIds a) (k .seed (p .0)))
 
 -- Book and bus after some calls, of which more may follow.
 pub record Alike (N : ℕ) (b : State) (k : Book) : Type 0 where
@@ -174,6 +179,7 @@ alike-start N =
                   users = λ p. refl;
                   handles = λ p. handles-none (λ s. N + s);
                   queues = λ p. refl;
+                  seeds = λ p l. refl;
                   sums = λ p u r. refl;
                 };
           };

@@ -75,6 +75,7 @@ sim-send name b a k p is hs payload z r s d h e f =
       known = s .known;
       users = s .users;
       handles = s .handles;
+      seeds = s .seeds;
       queues = λ q. simp (messages-append, map-append) (ap₂ _++_ (s .queues q) (new q));
       sums = λ q u r. rw load-append (omega (arith, s .sums q u r));
     }

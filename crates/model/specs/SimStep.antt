@@ -5,31 +5,32 @@ use mathlib.Core.Path.{_≡_, refl, ap, _∙_}
 use mathlib.Core.Bool.{true, false, not}
 use mathlib.Core.List.{List, [], _∷_, map}
 use native.Mathlib.Omega.{arith}
+use lib.Dec.{eqb}
 use borrow.Author.Tests.{ne-eqb, not-true}
 use Rattle.laws.specs.Tests.{pick, Seen, Seen.is-true, Seen.is-false, look}
-use Rattle.laws.specs.Tables.{upd, upd-all}
+use Rattle.laws.specs.Tables.{upd, upd-all, upd-rel}
 use Rattle.laws.specs.Weights.{All}
 use Rattle.laws.specs.Build.{build-length}
 use Rattle.laws.specs.Search.{first-found}
 use Rattle.frames.specs.declared.Command.{Command}
-use Rattle.frames.specs.declared.Command.the-variants.{Open, Disconnect, Create, Destroy, Release, Transfer, Send, Receive, Quota, Holders}
+use Rattle.frames.specs.declared.Command.the-variants.{Open, Disconnect, Create, Destroy, Release, Transfer, Send, Receive, Quota, Holders, ShowSeed}
 use Rattle.frames.specs.Frame.{sendId, payloadOf}
 use Rattle.frames.specs.Legal.{Legal, payload-length}
-use Rattle.model.specs.Numbers.{slots, invalid}
+use Rattle.model.specs.Numbers.{slots, invalid, peers}
 use Rattle.model.specs.Requests.{destinations, attached}
-use Rattle.model.specs.State.{isLive, Message, Entry, Entry.message, Entry.destroyed, Entry.released, messagesIn, State, slot, freePlace, counts}
-use Rattle.model.specs.Tables.{accept, withGiven, withHandles, withQueues, withCharges}
-use Rattle.model.specs.Changes.{takeOut, withdraw, shown, shownAll, give, giveAll}
+use Rattle.model.specs.State.{isLive, Message, Entry, Entry.message, Entry.destroyed, Entry.released, messagesIn, State, slot, freePlace, counts, Seed, Seed.unset, Seed.kept, seedCarries}
+use Rattle.model.specs.Tables.{accept, withGiven, withHandles, withQueues, withCharges, withSeed}
+use Rattle.model.specs.Changes.{takeOut, withdraw, shown, shownAll, give, giveAll, deliver, reseed}
 use Rattle.model.specs.Effects.{receives, effect}
-use Rattle.model.specs.Book.{Book, answeredId, answersMessage, shownIds, note, noteReceive}
+use Rattle.model.specs.Book.{Book, answeredId, answersMessage, shownIds, note, noteReceive, noteSend, noteSeed, nodesOf}
 use Rattle.model.specs.Tested.{Tested}
 use Rattle.model.specs.Notices.{Carried, Unnamed}
-use Rattle.model.specs.Sim.{told, Sim}
+use Rattle.model.specs.Sim.{told, Sim, called}
 use Rattle.model.specs.SimQueues.{sim-received}
 use Rattle.model.specs.SimGive.{Ids, enough, sim-give, shown-valid, sim-gives}
 use Rattle.model.specs.SimRelease.{sim-accept, sim-release, sim-destroy, sim-open, sim-disconnect}
 use Rattle.model.specs.SimCreate.{sim-create}
-use Rattle.model.specs.SimSend.{held-at-slot, noted-at-slot, sim-send}
+use Rattle.model.specs.SimSend.{held-at-slot, noted-at-slot, sim-send, nodes-of-slots}
 
 -- What the answer a of an accepted command shows of the bus b before it: a transfer the ID at the destination, a receive its message's IDs, or that it is no message.
 abbrev pub ReceiveShows : State → ℕ → List Entry → List ℕ → Type 0
@@ -49,12 +50,14 @@ Shows b (Send p z) a = Unit {0}
 Shows b (Receive p room) a = ReceiveShows b (p .0) (b .queue (p .0)) a
 Shows b (Quota p u) a = Unit {0}
 Shows b (Holders p i) a = Unit {0}
+Shows b (ShowSeed p room) a = shownIds a ≡ shownAll b (p .0) (seedCarries (b .seed (p .0)))
 
 -- What the relation needs to know of the bus: its IDs; that few have been given; that a message carries few slots; that a slot which does not count is named by nothing.
 pub record Ready (b : State) : Type 0 where
   pub ids : Ids b
   pub few : (p : ℕ) → b .given p + 8 < enough
   pub carried : (p : ℕ) → All (λ m. Carried (m .carried)) (messagesIn (b .queue p))
+  pub seeds : (p : ℕ) → Carried (seedCarries (b .seed p))
   pub free : (s : ℕ) → counts b s ≡ false → Unnamed b s
 
 -- Book and bus, for some names.
@@ -74,6 +77,7 @@ renamed name b k (Send p z) = name
 renamed name b k (Receive p room) = name
 renamed name b k (Quota p u) = name
 renamed name b k (Holders p i) = name
+renamed name b k (ShowSeed p room) = name
 
 -- The number of accepted commands shows in nothing that a peer is given.
 give-accept : (b : State) (p s : ℕ) → give (accept b) p s ≡ accept (give b p s)
@@ -113,6 +117,7 @@ sim-notice {name = name} {k = k} b p q r e =
     record {
       apart = r .apart;
       known = r .known;
+      seeds = r .seeds;
       users = r .users;
       sums = r .sums;
       handles = r .handles;
@@ -129,6 +134,20 @@ sim-receives name b k p (destroyed n t ∷ q) a r ready e s =
 sim-receives name b k p (released n t ∷ q) a r ready e s =
     rw (s, out-accept b p [] q) (sim-accept _ (sim-notice b p q r (rw e)))
 
+-- A seed set, or dropped.
+sim-seed : {N : ℕ} (name : ℕ → ℕ) (b : State) (k : Book) (p : ℕ) (x : Seed) → Sim N name b k → Sim N name (withSeed b p x) (noteSeed k p (map (called name) (seedCarries x)))
+unfolding withSeed noteSeed
+sim-seed name b k p x r =
+    record {
+      apart = r .apart;
+      known = r .known;
+      users = r .users;
+      sums = r .sums;
+      queues = r .queues;
+      handles = r .handles;
+      seeds = upd-rel (λ q y z. q < peers → y ≡ map (called name) (seedCarries z)) (k .seed) (b .seed) p _ x (r .seeds) (λ l. refl);
+    }
+
 -- Create takes a slot that does not count.
 place-free : (b : State) (p : ℕ) → freePlace b p < slots → counts b (p * slots + freePlace b p) ≡ false
 unfolding freePlace
@@ -136,7 +155,7 @@ place-free b p l = not-true _ (first-found (λ k. not (counts b (p * slots + k))
 
 unnamed-accept : (b : State) (s : ℕ) → Unnamed b s → Unnamed (accept b) s
 unfolding accept
-unnamed-accept b s u = record { dead = u .dead; unheld = u .unheld; unqueued = u .unqueued }
+unnamed-accept b s u = record { dead = u .dead; unheld = u .unheld; unqueued = u .unqueued; unseeded = u .unseeded }
 
 -- The slot that create takes is named by nothing.
 pub taken-unnamed : (b : State) (p : ℕ) → Ready b → freePlace b p < slots → (freePlace (accept b) p < slots) × Unnamed (accept b) (p * slots + freePlace (accept b) p)
@@ -149,7 +168,8 @@ pub sim-command : {N : ℕ} (name : ℕ → ℕ) (b : State) (f : List ℕ) (c :
     Sim N (renamed name b k c) (effect b f c) (note k f a c)
 unfolding effect note
 sim-command name b f (Open p u) k a w ready legal tested shows more = sim-open name (accept b) k (p .0) (u .0) (sim-accept b w)
-sim-command name b f (Disconnect p) k a w ready legal tested shows more = sim-disconnect name (accept b) k (p .0) (sim-accept b w)
+sim-command name b f (Disconnect p) k a w ready legal tested shows more =
+    sim-seed name _ _ (p .0) unset (sim-disconnect name (accept b) k (p .0) (sim-accept b w))
 sim-command name b f (Create p i) k a w ready legal tested shows more =
     let x = taken-unnamed b (p .0) ready (tested .free) in
     sim-create name (accept b) k (p .0) (i .0) (sim-accept b w) (omega (arith, legal .0, x .0)) (x .0) (x .1) (unfold accept in tested .unheld) more
@@ -163,9 +183,26 @@ sim-command name b f (Transfer p i q) k a w ready legal tested shows more =
     let v : shown b (q .0) s ≡ invalid → ⊥ = shown-valid name b k (q .0) s w (ready .ids) (tested .holds) (omega (arith, ready .few (q .0))) (tested .lives) in
     let g = sim-give name b k (q .0) s w (ready .ids) (tested .holds) (omega (arith, ready .few (q .0))) in
     rw (y .1, shows, give-accept b (q .0) s) (sim-accept (give b (q .0) s) (rw (ne-eqb (shown b (q .0) s) invalid v) at g))
-sim-command name b f (Send p z) k a w ready legal tested shows more =
-    sim-send name b (accept b) k (p .0) (destinations f z) (attached f z) (payloadOf f) z w (sim-accept b w) (tested .holds) (tested .holds-attached)
-    (payload-length f z (legal .1)) (build-length (λ j. sendId f (z .nd + j) .0) (z .nh))
+sim-command {N} name b f (Send p z) k a w ready legal tested shows more = seeded-or (look (eqb (z .nd) 0))
+  where
+    hs : List ℕ
+    hs = map (slot b (p .0)) (attached f z)
+
+    sent : Sim N name (deliver (accept b) (b .user (p .0)) (map (slot b (p .0)) (destinations f z)) hs (payloadOf f)) (noteSend k (p .0) (destinations f z) (attached f z) z)
+    sent =
+        sim-send name b (accept b) k (p .0) (destinations f z) (attached f z) (payloadOf f) z w (sim-accept b w) (tested .holds) (tested .holds-attached)
+        (payload-length f z (legal .1)) (build-length (λ j. sendId f (z .nd + j) .0) (z .nh))
+
+    seeded-or : Seen (eqb (z .nd) 0) → Sim N name (reseed (deliver (accept b) (b .user (p .0)) (map (slot b (p .0)) (destinations f z)) hs (payloadOf f)) (eqb (z .nd) 0) (p .0) (kept (payloadOf f) hs))
+        (pick (eqb (z .nd) 0) (noteSeed (noteSend k (p .0) (destinations f z) (attached f z) z) (p .0) (nodesOf k (p .0) (attached f z))) (noteSend k (p .0) (destinations f z) (attached f z) z))
+    seeded-or (is-false e) = rw e sent
+    seeded-or (is-true e) =
+        rw (e, nodes-of-slots name b k w (p .0) (attached f z) (tested .holds-attached)) (sim-seed name _ _ (p .0) (kept (payloadOf f) hs) sent)
 sim-command name b f (Receive p room) k a w ready legal tested shows more = sim-receives name b k (p .0) (b .queue (p .0)) a w ready refl shows
 sim-command name b f (Quota p u) k a w ready legal tested shows more = w
 sim-command name b f (Holders p i) k a w ready legal tested shows more = w
+sim-command name b f (ShowSeed p room) k a w ready legal tested shows more =
+    let ss = seedCarries (b .seed (p .0)) in
+    let c = ready .seeds (p .0) in
+    let g = sim-gives name b k (p .0) ss w (ready .ids) (c .1) (omega (arith, ready .few (p .0), c .0)) in
+    rw (gives-accept b (p .0) ss, shows, w .seeds (p .0) (omega (arith, legal))) (sim-accept _ g)

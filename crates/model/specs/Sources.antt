@@ -17,7 +17,7 @@ use Rattle.laws.specs.Build.{build-length}
 use Rattle.ids.specs.declared.Peer.{Peer}
 use Rattle.frames.specs.declared.Sizes.{Sizes}
 use Rattle.frames.specs.declared.Command.{Command}
-use Rattle.frames.specs.declared.Command.the-variants.{Open, Disconnect, Create, Destroy, Release, Transfer, Send, Receive, Quota, Holders}
+use Rattle.frames.specs.declared.Command.the-variants.{Open, Disconnect, Create, Destroy, Release, Transfer, Send, Receive, Quota, Holders, ShowSeed}
 use Rattle.frames.specs.Frame.{sendId, payloadOf}
 use Rattle.frames.specs.Fields.{fields-command}
 use Rattle.model.specs.Numbers.{slots, nodes}
@@ -131,6 +131,7 @@ agrees name b k f (Send q z) r t p = agrees-same name (b .queue p)
 agrees name b k f (Receive q room) r t p = agrees-same name (b .queue p)
 agrees name b k f (Quota q u) r t p = agrees-same name (b .queue p)
 agrees name b k f (Holders q i) r t p = agrees-same name (b .queue p)
+agrees name b k f (ShowSeed q room) r t p = agrees-same name (b .queue p)
 
 -- What an accepted call queues.
 either-right : (a b : mathlib.Core.Bool.Bool) → b ≡ true → either a b ≡ true
@@ -187,6 +188,7 @@ sent-new cs c name (Send q z) s a =
 sent-new cs c name (Receive q room) s a = tt
 sent-new cs c name (Quota q u) s a = tt
 sent-new cs c name (Holders q i) s a = tt
+sent-new cs c name (ShowSeed q room) s a = tt
 
 -- Book, ledger, bus and sources after some calls, of which more may follow; all for the same names.
 pub record Story (N : ℕ) (cs : List Call) : Type 0 where
@@ -270,6 +272,7 @@ story-start N =
             users = λ p. refl;
             handles = λ p. handles-none (λ s. N + s);
             queues = λ p. refl;
+            seeds = λ p l. refl;
             sums = λ p u r. refl;
           };
       ids = λ p s i c e. some-none (sym e);
@@ -280,6 +283,7 @@ story-start N =
             handles = record { same = λ p s. refl; fresh = λ p n l. refl; placed = λ p n e. clash (sym e) };
             lives = record { same = λ s. refl; fresh = λ n l. refl; placed = λ n e. clash (sym e); makers = λ s l. absurd (omega arith) };
             queues = λ p. refl;
+            seeds = λ p l. refl;
           };
       sources = λ p. tt;
       entered = omega arith;

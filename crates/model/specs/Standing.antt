@@ -9,12 +9,12 @@ use borrow.Author.Tests.{eq-eqb, ne-eqb}
 use Rattle.laws.specs.Tests.{pick, pick-all, Same, Same.same, Same.other, same?}
 use Rattle.laws.specs.Tables.{upd, upd-same, upd-other}
 use Rattle.frames.specs.declared.Command.{Command}
-use Rattle.frames.specs.declared.Command.the-variants.{Open, Disconnect, Create, Destroy, Release, Transfer, Send, Receive, Quota, Holders}
+use Rattle.frames.specs.declared.Command.the-variants.{Open, Disconnect, Create, Destroy, Release, Transfer, Send, Receive, Quota, Holders, ShowSeed}
 use Rattle.frames.specs.Frame.{opcode}
 use Rattle.model.specs.Lists.{both}
-use Rattle.model.specs.State.{Status, Status.unopened, Status.opened, Status.disconnected, Handle, Handle.none, Handle.some, handleOf, Entry, Entry.message, Entry.destroyed, Entry.released, State, start, slot}
-use Rattle.model.specs.Tables.{accept, withStatus, withUser, withHandles, withHandle, withQueues, withCharges, withLives}
-use Rattle.model.specs.Changes.{pushAll, takeOut, withdraw, give, forget, notifyAll, destroyAll, deliver}
+use Rattle.model.specs.State.{Status, Status.unopened, Status.opened, Status.disconnected, Handle, Handle.none, Handle.some, handleOf, Entry, Entry.message, Entry.destroyed, Entry.released, State, start, slot, seedCarries}
+use Rattle.model.specs.Tables.{accept, withStatus, withUser, withHandles, withHandle, withQueues, withCharges, withLives, withSeed}
+use Rattle.model.specs.Changes.{pushAll, takeOut, withdraw, give, forget, notifyAll, destroyAll, deliver, giveAll}
 use Rattle.model.specs.Effects.{opens, creates, destroys, releases, releasesHandle, disconnects, receives, effect}
 use Rattle.model.specs.Step.{Call, step, runFrom, run}
 use Rattle.model.specs.Book.{Fed, actingPeer}
@@ -65,17 +65,22 @@ stood-effect : (b : State) (f : List ℕ) (k : Command) (p : ℕ) → effect b f
 unfolding effect
 stood-effect b f (Open q u) p = unfold opens withUser withStatus accept in stood-at (b .status) (q .0) p opened
 stood-effect b f (Disconnect q) p =
-    unfold disconnects notifyAll pushAll withQueues withStatus withHandles takeOut withCharges destroyAll withLives withdraw accept in stood-at (b .status) (q .0) p disconnected
+    unfold withSeed disconnects notifyAll pushAll withQueues withStatus withHandles takeOut withCharges destroyAll withLives withdraw accept in stood-at (b .status) (q .0) p disconnected
 stood-effect b f (Create q i) p = unfold creates withHandles withLives accept in refl
 stood-effect b f (Destroy q i) p = unfold destroys destroyAll pushAll withQueues withLives withdraw accept in refl
 stood-effect b f (Release q i) p = ap (λ (g : ℕ → Status). g p) (release-status b (q .0) (slot b (q .0) (i .0)) (b .handle (q .0) (slot b (q .0) (i .0))))
 stood-effect b f (Transfer q i t) p =
     let e : give (accept b) (t .0) (slot b (q .0) (i .0)) .status ≡ b .status = unfold accept in quiet-give (accept b) (t .0) (slot b (q .0) (i .0)) .status in
     ap (λ (g : ℕ → Status). g p) e
-stood-effect b f (Send q z) p = unfold deliver withCharges pushAll withQueues accept in refl
+stood-effect b f (Send q z) p =
+    pick-all (λ (y : State). y .status p ≡ b .status p) (eqb (z .nd) 0) _ _ (unfold withSeed deliver withCharges pushAll withQueues accept in refl)
+    (unfold deliver withCharges pushAll withQueues accept in refl)
 stood-effect b f (Receive q room) p = ap (λ (g : ℕ → Status). g p) (receive-status b (q .0) (b .queue (q .0)))
 stood-effect b f (Quota q u) p = refl
 stood-effect b f (Holders q i) p = refl
+stood-effect b f (ShowSeed q room) p =
+    let e : giveAll (accept b) (q .0) (seedCarries (b .seed (q .0))) .status ≡ b .status = unfold accept in quiet-giveAll (accept b) (q .0) (seedCarries (b .seed (q .0))) .status in
+    ap (λ (g : ℕ → Status). g p) e
 
 stood-call : (b : State) (c : Call) (p : ℕ) → step b c .state .status p ≡ standsAfter (b .status p) (fed c (step b c)) p
 stood-call b c p = go (came b c)

@@ -73,7 +73,16 @@ messagesIn (message n m ∷ q) = m ∷ messagesIn q
 messagesIn (destroyed n s ∷ q) = messagesIn q
 messagesIn (released n s ∷ q) = messagesIn q
 
--- Of each peer its status, its user, how many IDs the bus has given it, its handle to each slot, its queue, oldest first, and the users' charges;
+-- A peer's seed (02 No. 1): none was set, or its payload bytes and the slots of its attached handles.
+pub data Seed : Type 0 where
+  unset : Seed
+  kept : List ℕ → List ℕ → Seed
+
+abbrev pub seedCarries : Seed → List ℕ
+seedCarries unset = []
+seedCarries (kept payload carried) = carried
+
+-- Of each peer its status, its user, how many IDs the bus has given it, its handle to each slot, its queue, oldest first, the users' charges, and its seed;
 -- of each slot whether its node lives; and how many commands were accepted.
 pub record State : Type 0 where
   pub status : ℕ → Status
@@ -82,6 +91,7 @@ pub record State : Type 0 where
   pub handle : ℕ → ℕ → Handle
   pub queue : ℕ → List Entry
   pub charges : ℕ → Charges
+  pub seed : ℕ → Seed
   pub life : ℕ → Life
   pub accepted : ℕ
 
@@ -99,6 +109,7 @@ start =
       handle = λ p s. none;
       queue = λ p. [];
       charges = λ p. freshCharges;
+      seed = λ p. unset;
       life = λ s. dead 0;
       accepted = 0;
     }
@@ -129,9 +140,13 @@ names s m = either (eqb s (m .to)) (any (eqb s) (m .carried))
 unfoldable pub named : (ℕ → List Entry) → ℕ → Bool
 named queue s = anyBelow (λ q. any (names s) (messagesIn (queue q))) peers
 
+-- "A node named by a seed counts against its owner as if by a queued message".
+unfoldable pub seeded : (ℕ → Seed) → ℕ → Bool
+seeded seed s = anyBelow (λ q. any (eqb s) (seedCarries (seed q))) peers
+
 -- "A node counts against its owner while it lives, while any peer holds a handle to it, or while a queued message names it; after that its room is used again."
 unfoldable pub counts : State → ℕ → Bool
-counts b s = either (isLive (b .life s)) (either (heldByAny (b .handle) s) (named (b .queue) s))
+counts b s = either (isLive (b .life s)) (either (heldByAny (b .handle) s) (either (named (b .queue) s) (seeded (b .seed) s)))
 
 -- The first place among the peer's 16 whose node does not count; slots where there is none.
 unfoldable pub freePlace : State → ℕ → ℕ

@@ -8,14 +8,14 @@ use lib.ListN.{length}
 use lib.Dec.{eqb, ltb}
 use Rattle.laws.specs.Tests.{Seen, Seen.is-true, Seen.is-false, look}
 use Rattle.frames.specs.declared.Command.{Command}
-use Rattle.frames.specs.declared.Command.the-variants.{Open, Disconnect, Create, Destroy, Release, Transfer, Send, Receive, Quota, Holders}
+use Rattle.frames.specs.declared.Command.the-variants.{Open, Disconnect, Create, Destroy, Release, Transfer, Send, Receive, Quota, Holders, ShowSeed}
 use Rattle.frames.specs.declared.Parsed.{Parsed}
 use Rattle.frames.specs.declared.Parsed.the-variants.{Read, Refused}
 use Rattle.frames.specs.Frame.{parse}
 use Rattle.answers.specs.Answer.{answerSize, numberOf, contentsOf, answerBytes, answerAfter, outcomeOf}
-use Rattle.model.specs.State.{State, Entry, Entry.message, Entry.destroyed, Entry.released}
+use Rattle.model.specs.State.{Seed, Seed.unset, Seed.kept, State, Entry, Entry.message, Entry.destroyed, Entry.released}
 use Rattle.model.specs.Refusals.{refusal}
-use Rattle.model.specs.Replies.{reply, shows, showsMessage}
+use Rattle.model.specs.Replies.{showsSeed, reply, shows, showsMessage}
 use Rattle.model.specs.Step.{Call, judge, carryOut, finish, step, answerOf}
 
 -- A reply is no refusal.
@@ -25,6 +25,11 @@ shows-number b p [] = refl
 shows-number b p (message n m ∷ q) = refl
 shows-number b p (destroyed n s ∷ q) = refl
 shows-number b p (released n s ∷ q) = refl
+
+seed-number : (b : State) (p : ℕ) (x : Seed) → numberOf (showsSeed b p x .answer) ≡ 0
+unfolding showsSeed
+seed-number b p unset = refl
+seed-number b p (kept payload carried) = refl
 
 pub reply-number : (b : State) (f : List ℕ) (c : Command) → numberOf (reply b f c .answer) ≡ 0
 unfolding reply
@@ -38,6 +43,7 @@ reply-number b f (Send p z) = refl
 reply-number b f (Receive p room) = shows-number b (p .0) (b .queue (p .0))
 reply-number b f (Quota p u) = refl
 reply-number b f (Holders p i) = refl
+reply-number b f (ShowSeed p room) = seed-number b (p .0) (b .seed (p .0))
 
 -- A command that is refused writes its one byte and nothing after it, where the answer buffer is long enough.
 pub refused-byte : (b : State) (c : Call) → ltb (length (c .buffer)) answerSize ≡ false → (step b c .outcome .number ≡ 0 → ⊥) →

@@ -8,13 +8,13 @@ use mathlib.Core.List.{List, [], _∷_}
 use native.Mathlib.Omega.{arith}
 use lib.Dec.{eqb}
 use borrow.Author.Tests.{ne-eqb}
-use Rattle.laws.specs.Tests.{pick}
+use Rattle.laws.specs.Tests.{pick, pick-all}
 use Rattle.frames.specs.declared.Command.{Command}
-use Rattle.frames.specs.declared.Command.the-variants.{Open, Disconnect, Create, Destroy, Release, Transfer, Send, Receive, Quota, Holders}
+use Rattle.frames.specs.declared.Command.the-variants.{Open, Disconnect, Create, Destroy, Release, Transfer, Send, Receive, Quota, Holders, ShowSeed}
 use Rattle.frames.specs.Frame.{opcode}
 use Rattle.model.specs.Lists.{both, either}
-use Rattle.model.specs.State.{State, start, slot}
-use Rattle.model.specs.Tables.{accept, withStatus, withUser, withHandles, withQueues, withCharges, withLives}
+use Rattle.model.specs.State.{State, start, slot, seedCarries}
+use Rattle.model.specs.Tables.{accept, withStatus, withUser, withHandles, withQueues, withCharges, withLives, withSeed}
 use Rattle.model.specs.Changes.{pushAll, takeOut, withdraw, notifyAll, destroyAll, deliver}
 use Rattle.model.specs.Effects.{opens, creates, destroys, disconnects, effect}
 use Rattle.model.specs.Step.{Call, step, runFrom, run}
@@ -22,9 +22,9 @@ use Rattle.model.specs.Book.{Fed}
 use Rattle.model.specs.Claim.{fed, historyFrom}
 use Rattle.model.specs.Accepted.{Came, Came.left, Came.done, came}
 use Rattle.model.specs.Coded.{code, coded}
-use Rattle.model.specs.Unchanged.{give-accepted, release-count, receive-count}
+use Rattle.model.specs.Unchanged.{give-accepted, release-count, receive-count, gives-accepted}
 
--- A command that came back with 0 and is no question.
+-- A command that came back with 0 and is no question: 09 and 0a are; 0c changes counts and is none.
 abbrev pub isCounted : Fed → Bool
 isCounted x = both (eqb (x .number) 0) (not (either (eqb (opcode (x .frame)) 9) (eqb (opcode (x .frame)) 10)))
 
@@ -38,15 +38,18 @@ asks n = either (eqb n 9) (eqb n 10)
 counted-effect : (b : State) (f : List ℕ) (k : Command) → effect b f k .accepted ≡ pick (not (asks (code k))) (suc (b .accepted)) (b .accepted)
 unfolding effect
 counted-effect b f (Open p u) = unfold opens withUser withStatus accept in refl
-counted-effect b f (Disconnect p) = unfold disconnects notifyAll pushAll withQueues withStatus withHandles takeOut withCharges destroyAll withLives withdraw accept in refl
+counted-effect b f (Disconnect p) = unfold withSeed disconnects notifyAll pushAll withQueues withStatus withHandles takeOut withCharges destroyAll withLives withdraw accept in refl
 counted-effect b f (Create p i) = unfold creates withHandles withLives accept in refl
 counted-effect b f (Destroy p i) = unfold destroys destroyAll pushAll withQueues withLives withdraw accept in refl
 counted-effect b f (Release p i) = release-count b (p .0) (slot b (p .0) (i .0)) (b .handle (p .0) (slot b (p .0) (i .0)))
 counted-effect b f (Transfer p i q) = unfold accept in give-accepted (accept b) (q .0) (slot b (p .0) (i .0))
-counted-effect b f (Send p z) = unfold deliver withCharges pushAll withQueues accept in refl
+counted-effect b f (Send p z) =
+    pick-all (λ (y : State). y .accepted ≡ suc (b .accepted)) (eqb (z .nd) 0) _ _ (unfold withSeed deliver withCharges pushAll withQueues accept in refl)
+    (unfold deliver withCharges pushAll withQueues accept in refl)
 counted-effect b f (Receive p room) = receive-count b (p .0) (b .queue (p .0))
 counted-effect b f (Quota p u) = refl
 counted-effect b f (Holders p i) = refl
+counted-effect b f (ShowSeed p room) = unfold accept in gives-accepted (accept b) (p .0) (seedCarries (b .seed (p .0)))
 
 counted-call : (b : State) (c : Call) → step b c .state .accepted ≡ pick (isCounted (fed c (step b c))) (suc (b .accepted)) (b .accepted)
 counted-call b c = go (came b c)

@@ -12,13 +12,13 @@ use Rattle.ids.specs.Refusals.{EDQUOT, EEXIST, EHOSTUNREACH, ENOSPC, ENXIO, EOV
 use Rattle.laws.specs.Tests.{pick, pick-then, pick-else, clash}
 use Rattle.laws.specs.Weights.{All}
 use Rattle.frames.specs.declared.Command.{Command}
-use Rattle.frames.specs.declared.Command.the-variants.{Open, Disconnect, Create, Destroy, Release, Transfer, Send, Receive, Quota, Holders}
+use Rattle.frames.specs.declared.Command.the-variants.{Open, Disconnect, Create, Destroy, Release, Transfer, Send, Receive, Quota, Holders, ShowSeed}
 use Rattle.frames.specs.Frame.{payloadOf}
 use Rattle.model.specs.Numbers.{slots, nodes, owner, mostCommands}
 use Rattle.model.specs.Lists.{every}
 use Rattle.model.specs.State.{Status, Status.unopened, Status.opened, Status.disconnected, isLive, State, slot, freePlace}
 use Rattle.model.specs.Requests.{destinations, attached}
-use Rattle.model.specs.Refusals.{countable, present, openable, holding, living, pinned, fits, takeable, refusesOpen, refusesDisconnect, refusesCreate, refusesDestroy, refusesRelease, refusesTransfer, refusesSend, refusesReceive, refusesQuota, refusesHolders, refusal}
+use Rattle.model.specs.Refusals.{countable, present, openable, holding, living, pinned, fits, takeable, showable, refusesOpen, refusesDisconnect, refusesCreate, refusesDestroy, refusesRelease, refusesTransfer, refusesSend, refusesReceive, refusesSeed, refusesQuota, refusesHolders, refusal}
 
 -- The peer acts: it is open, and the bus may accept one more command.
 pub record Acting (b : State) (p : ℕ) : Type 0 where
@@ -69,6 +69,10 @@ pub record TestedReceive (b : State) (p room : ℕ) : Type 0 where
   pub acting : Acting b p
   pub next : takeable room (b .queue p) ≡ 0
 
+pub record TestedSeed (b : State) (p room : ℕ) : Type 0 where
+  pub acting : Acting b p
+  pub next : showable room (b .seed p) ≡ 0
+
 pub record TestedHolders (b : State) (p i : ℕ) : Type 0 where
   pub is-open : b .status p ≡ opened
   pub holds : Holds b p i
@@ -85,6 +89,7 @@ Tested b f (Send p z) = TestedSend b (p .0) (destinations f z) (attached f z) (l
 Tested b f (Receive p room) = TestedReceive b (p .0) room
 Tested b f (Quota p u) = b .status (p .0) ≡ opened
 Tested b f (Holders p i) = TestedHolders b (p .0) (i .0)
+Tested b f (ShowSeed p room) = TestedSeed b (p .0) room
 
 -- A list of which every element passes.
 pub every-all : {A : Type 0} (t : A → Bool) (xs : List A) → every t xs ≡ true → All (λ x. t x ≡ true) xs
@@ -199,6 +204,10 @@ tested-receive : (b : State) (p room : ℕ) → refusesReceive b p room ≡ 0 �
 unfolding refusesReceive
 tested-receive b p room e = let x = acting-in b p _ e in record { acting = x .0; next = x .1 }
 
+tested-seed : (b : State) (p room : ℕ) → refusesSeed b p room ≡ 0 → TestedSeed b p room
+unfolding refusesSeed
+tested-seed b p room e = let x = acting-in b p _ e in record { acting = x .0; next = x .1 }
+
 tested-quota : (b : State) (p : ℕ) → refusesQuota b p ≡ 0 → b .status p ≡ opened
 unfolding refusesQuota
 tested-quota b p e = present-in (b .status p) 0 e .0
@@ -223,3 +232,4 @@ tested b f (Send p z) e = tested-send b (p .0) (destinations f z) (attached f z)
 tested b f (Receive p room) e = tested-receive b (p .0) room e
 tested b f (Quota p u) e = tested-quota b (p .0) e
 tested b f (Holders p i) e = tested-holders b (p .0) (i .0) e
+tested b f (ShowSeed p room) e = tested-seed b (p .0) room e

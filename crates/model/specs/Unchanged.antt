@@ -1,15 +1,17 @@
 -- What the small changes leave alone, and how many commands are accepted after each command.
 -- Assumes nothing.
+use Rattle.frames.specs.Frame.{payloadOf}
+use Rattle.model.specs.Requests.{destinations, attached}
 use Prim.Native.Nat.{ℕ, suc, _-_}
 use mathlib.Core.Path.{_≡_, refl, _∙_}
-use mathlib.Core.List.{List, [], _∷_}
+use mathlib.Core.List.{List, [], _∷_, map}
 use lib.Dec.{eqb}
 use Rattle.laws.specs.Tests.{pick, pick-all, Seen, Seen.is-true, Seen.is-false, look}
 use Rattle.frames.specs.declared.Command.{Command}
-use Rattle.frames.specs.declared.Command.the-variants.{Open, Disconnect, Create, Destroy, Release, Transfer, Send, Receive, Quota, Holders}
+use Rattle.frames.specs.declared.Command.the-variants.{Open, Disconnect, Create, Destroy, Release, Transfer, Send, Receive, Quota, Holders, ShowSeed}
 use Rattle.model.specs.Numbers.{owner}
-use Rattle.model.specs.State.{isLive, Handle, Handle.none, Handle.some, handleOf, Entry, Entry.message, Entry.destroyed, Entry.released, State, slot}
-use Rattle.model.specs.Tables.{accept, withStatus, withUser, withGiven, withHandles, withHandle, withQueues, withCharges, withLives}
+use Rattle.model.specs.State.{isLive, Handle, Handle.none, Handle.some, handleOf, Entry, Entry.message, Entry.destroyed, Entry.released, State, slot, seedCarries, Seed.kept}
+use Rattle.model.specs.Tables.{accept, withStatus, withUser, withGiven, withHandles, withHandle, withQueues, withCharges, withLives, withSeed}
 use Rattle.model.specs.Changes.{push, pushAll, takeOut, withdraw, give, giveAll, forget, fell, notify, notifyAll, destroyAll, deliver}
 use Rattle.model.specs.Effects.{opens, creates, destroys, releases, releasesHandle, disconnects, receives, effect}
 
@@ -22,7 +24,7 @@ give-accepted x p s = go (look (isLive (x .life s)))
     go (is-true e) = rw e refl
     go (is-false e) = rw e refl
 
-gives-accepted : (x : State) (p : ℕ) (ss : List ℕ) → giveAll x p ss .accepted ≡ x .accepted
+pub gives-accepted : (x : State) (p : ℕ) (ss : List ℕ) → giveAll x p ss .accepted ≡ x .accepted
 gives-accepted x p [] = refl
 gives-accepted x p (s ∷ ss) = gives-accepted (give x p s) p ss ∙ give-accepted x p s
 
@@ -63,12 +65,16 @@ pub effect-count : (b : State) (f : List ℕ) (k : Command) → Count b (effect 
 unfolding effect
 effect-count b f (Open p u) = one-more (unfold opens withUser withStatus accept in refl)
 effect-count b f (Disconnect p) =
-    one-more (unfold disconnects notifyAll pushAll withQueues withStatus withHandles takeOut withCharges destroyAll withLives withdraw accept in refl)
+    one-more (unfold withSeed disconnects notifyAll pushAll withQueues withStatus withHandles takeOut withCharges destroyAll withLives withdraw accept in refl)
 effect-count b f (Create p i) = one-more (unfold creates withHandles withLives accept in refl)
 effect-count b f (Destroy p i) = one-more (unfold destroys destroyAll pushAll withQueues withLives withdraw accept in refl)
 effect-count b f (Release p i) = one-more (release-count b (p .0) (slot b (p .0) (i .0)) (b .handle (p .0) (slot b (p .0) (i .0))))
 effect-count b f (Transfer p i q) = one-more (unfold accept in give-accepted (accept b) (q .0) (slot b (p .0) (i .0)))
-effect-count b f (Send p z) = one-more (unfold deliver withCharges pushAll withQueues accept in refl)
+effect-count b f (Send p z) =
+    one-more (pick-all (λ y. y .accepted ≡ suc (b .accepted)) (eqb (z .nd) 0)
+    (withSeed (deliver (accept b) (b .user (p .0)) (map (slot b (p .0)) (destinations f z)) (map (slot b (p .0)) (attached f z)) (payloadOf f)) (p .0) (kept (payloadOf f) (map (slot b (p .0)) (attached f z)))) (deliver (accept b) (b .user (p .0)) (map (slot b (p .0)) (destinations f z)) (map (slot b (p .0)) (attached f z)) (payloadOf f))
+    (unfold withSeed deliver withCharges pushAll withQueues accept in refl) (unfold deliver withCharges pushAll withQueues accept in refl))
 effect-count b f (Receive p room) = one-more (receive-count b (p .0) (b .queue (p .0)))
 effect-count b f (Quota p u) = nothing refl
 effect-count b f (Holders p i) = nothing refl
+effect-count b f (ShowSeed p room) = one-more (unfold accept in gives-accepted (accept b) (p .0) (seedCarries (b .seed (p .0))))

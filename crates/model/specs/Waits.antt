@@ -22,6 +22,7 @@ use Rattle.model.specs.Rows.{ledgerOf}
 use Rattle.model.specs.Happened.{Happened}
 
 -- An accepted receive of p: the number 0 for a frame with the command byte 08 and the acting peer p.
+-- 0c is none: 02 No. 1, "0c is no receive in the rules of order".
 abbrev pub receivesAt : ℕ → Fed → Bool
 receivesAt p x = both (eqb (x .number) 0) (both (eqb (opcode (x .frame)) 8) (eqb (actingPeer (x .frame)) p))
 

@@ -2,7 +2,7 @@
 -- Assumes nothing.
 use Prim.Native.Nat.{ℕ, suc, _<_}
 use mathlib.Core.Path.{_≡_, refl, sym, ap, _∙_}
-use mathlib.Core.Bool.{Bool, true}
+use mathlib.Core.Bool.{Bool, true, false}
 use mathlib.Core.List.{List, [], _∷_, _++_, map, append-assoc}
 use lib.Dec.{eqb, ltb}
 use borrow.Author.Tests.{eqb-true, eq-eqb, ltb-true, lt-ltb}
@@ -13,10 +13,10 @@ use Rattle.frames.specs.declared.Command.the-variants.{Disconnect}
 use Rattle.frames.specs.Frame.{payloadOf}
 use Rattle.model.specs.Numbers.{peers, owner}
 use Rattle.model.specs.Lists.{both}
-use Rattle.model.specs.State.{isLive, Handle, Handle.none, Handle.some, held, idOr, Entry, Entry.message, Entry.destroyed, Entry.released, messagesIn, State, Status.disconnected, ownerId, total, slot, byOwnerId}
+use Rattle.model.specs.State.{isLive, Handle, Handle.none, Handle.some, held, idOr, Entry, Entry.message, Entry.destroyed, Entry.released, messagesIn, State, Status.disconnected, ownerId, total, slot, byOwnerId, Seed, Seed.unset}
 use Rattle.model.specs.Requests.{destinations, attached}
-use Rattle.model.specs.Tables.{accept, withStatus, withHandles, withQueues, withCharges, withLives}
-use Rattle.model.specs.Changes.{pushAll, takeOut, withdraw, fell, releaseNotices, notifyAll, destroyNotices, destroyAll, arriving, deliver}
+use Rattle.model.specs.Tables.{accept, withStatus, withHandles, withQueues, withCharges, withLives, withSeed}
+use Rattle.model.specs.Changes.{pushAll, takeOut, withdraw, fell, releaseNotices, notifyAll, destroyNotices, destroyAll, arriving, deliver, reseed}
 use Rattle.model.specs.Effects.{disconnects, effect}
 use Rattle.model.specs.Step.{run}
 use Rattle.model.specs.Tested.{Lives}
@@ -38,11 +38,17 @@ send-order-at b u ds hs bytes q =
     ap (λ (l : List Entry). b .queue q ++ l)
     (sym (keep-map (λ d. message (suc (b .accepted)) (record { to = d; user = u; payload = bytes; carried = hs })) (isAt q) (λ d. eqb (owner d) q) ds (λ d. refl)))
 
+-- A seed queues nothing.
+seed-queue : (a : State) (t : Bool) (p : ℕ) (x : Seed) (q : ℕ) → reseed a t p x .queue q ≡ a .queue q
+unfolding withSeed
+seed-queue a true p x q = refl
+seed-queue a false p x q = refl
+
 pub send-order : SendOrder
 unfolding effect
 send-order cs c p z a q =
     rw (a .after)
-    (send-order-at (run cs) (run cs .user (p .0)) (map (slot (run cs) (p .0)) (destinations (c .frame) z)) (map (slot (run cs) (p .0)) (attached (c .frame) z))
+    (seed-queue _ (eqb (z .nd) 0) (p .0) _ q ∙ send-order-at (run cs) (run cs .user (p .0)) (map (slot (run cs) (p .0)) (destinations (c .frame) z)) (map (slot (run cs) (p .0)) (attached (c .frame) z))
     (payloadOf (c .frame)) q)
 
 -- Two live nodes of one owner have two owner IDs.
@@ -121,16 +127,27 @@ at-disconnect b p q v w l n =
     out : (s : ℕ) → ReleaseNoticed b a q s → (falls s ≡ true) × (owner s ≡ q)
     out s z = (rw (z .1, lt-ltb 1 (total (b .handle) s) (z .2), eq-eqb (total (a .handle) s) 1 (z .3)) refl, z .0)
 
+dropped-seed : (b : State) (p q : ℕ) → AtDisconnect b (disconnects (accept b) p) p q → AtDisconnect b (withSeed (disconnects (accept b) p) p unset) p q
+unfolding withSeed
+dropped-seed b p q x =
+    record {
+      destroyed-slots = x .destroyed-slots;
+      released-slots = x .released-slots;
+      queue = x .queue;
+      destroyed-by-id = x .destroyed-by-id;
+      released-by-id = x .released-by-id;
+    }
+
 pub disconnect-order : DisconnectOrder
 unfolding effect
 disconnect-order cs c p a q l n =
     let v = holding cs in
-    let w : Holding (effect (run cs) (c .frame) (Disconnect p)) =
-    record {
+    let w : Holding (disconnects (accept (run cs)) (p .0)) =
+    unfold withSeed in record {
       handles = ids-kept (run cs) (c .frame) (Disconnect p) v (noted cs) (a .legal) (a .unrefused);
       owned = noted-kept (run cs) (c .frame) (Disconnect p) (noted cs) (a .legal) (a .unrefused) .owned;
     } in
-    rw (a .after) (at-disconnect (run cs) (p .0) q v w l n)
+    rw (a .after) (dropped-seed (run cs) (p .0) q (at-disconnect (run cs) (p .0) q v w l n))
 
 -- At the peer itself: none of its nodes lives, so no release notice is queued.
 none-left : (xs : List ℕ) → All (λ s. ⊥) xs → xs ≡ []
@@ -157,4 +174,4 @@ empties b p =
 
 pub disconnect-empties : DisconnectEmpties
 unfolding effect
-disconnect-empties cs c p a = rw (a .after) (empties (run cs) (p .0))
+disconnect-empties cs c p a = rw (a .after) (unfold withSeed in empties (run cs) (p .0))

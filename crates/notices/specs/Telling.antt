@@ -21,8 +21,7 @@ use Rattle.rings.specs.Matches.{bit-one}
 use Rattle.pool.specs.Pool.{bytesIn}
 use Rattle.tables.specs.declared.Found.{Found as Spot}
 use Rattle.tables.specs.declared.Found.the-variants.{At, Nothing}
-use Rattle.tables.specs.PeersView.{statusV, userV, givenV, acceptedV}
-use Rattle.tables.specs.ChargesView.{chargesV}
+use Rattle.tables.specs.PeersView.{acceptedV}
 use Rattle.tables.specs.Nodes.{setDead}
 use Rattle.tables.specs.NodesView.{lifeV, life-dead, live-is, dead-length}
 use Rattle.tables.specs.Handles.{handlesSize, idAt, countAt, totalAt, clearPeer}
@@ -544,17 +543,7 @@ module _ (b : Bus) (p set n : ℕ) (test : ℕ → Bool) (shape : Shape b) (lp :
   unfolding destroyedSet destroyAll pushAll withQueues withLives withdraw destroyNotices
   destroyed-view e own =
       ap₂
-      (λ (x : ℕ → List Entry) (y : ℕ → Life).
-      record {
-        status = statusV (b .peers);
-        user = userV (b .peers);
-        given = givenV (b .peers);
-        handle = handleV (b .handles);
-        queue = x;
-        charges = chargesV (b .charges);
-        life = y;
-        accepted = acceptedV (b .peers);
-      })
+      (λ (x : ℕ → List Entry) (y : ℕ → Life). withLives (withQueues (stateOf b) x) y)
       queues lives
     where
       qs : ℕ → List Entry

@@ -23,8 +23,8 @@ use Rattle.lines.specs.declared.LineRead.the-variants.{Frame, Bad, Piece}
 use Rattle.answers.specs.declared.Outcome.{Outcome}
 use Rattle.answers.specs.Answer.{answerSize}
 use Rattle.view.specs.View.{Bus}
-use Rattle.bus.specs.Command.{Done, doneOf, sizedOk, commandOf, freshBus, freshOf, freshNumber}
-use Rattle.bus.specs.Apart.{any-buffer}
+use Rattle.bus_model.specs.Command.{Done, doneOf, sizedOk, commandOf, freshBus, freshOf, freshNumber}
+use Rattle.bus_model.specs.Apart.{any-buffer}
 use Rattle.recovery.specs.declared.Step.{Step}
 use Rattle.recovery.specs.declared.Step.the-variants as step
 use Rattle.journal_model.specs.declared.Recovered.{Recovered}
@@ -334,9 +334,9 @@ invariant-halts {s = s} {most = most} {b = b} {n = n} {at = at} i h {x = x} {b�
 pub sized-same : (b d : Bus) → length (d .peers) ≡ length (b .peers) → length (d .nodes) ≡ length (b .nodes) → length (d .handles) ≡ length (b .handles) →
     length (d .charges) ≡ length (b .charges) → length (d .rings .ends) ≡ length (b .rings .ends) → length (d .rings .rows .entries) ≡ length (b .rings .rows .entries) →
     length (d .rings .rows .carried) ≡ length (b .rings .rows .carried) → length (d .rings .rows .numbers) ≡ length (b .rings .rows .numbers) → length (d .pool) ≡ length (b .pool) →
-    sizedOk b ≡ true → sizedOk d ≡ true
+    length (d .seeds) ≡ length (b .seeds) → sizedOk b ≡ true → sizedOk d ≡ true
 unfolding sizedOk
-sized-same b d e0 e1 e2 e3 e4 e5 e6 e7 e8 h = rw (e0, e1, e2, e3, e4, e5, e6, e7, e8) h
+sized-same b d e0 e1 e2 e3 e4 e5 e6 e7 e8 e9 h = rw (e0, e1, e2, e3, e4, e5, e6, e7, e8, e9) h
 
 -- A fresh bus is sized, where it was made.
 pub made-sized : (b : Bus) {n : ℕ} {b₁ : Bus} → (n ≡ freshNumber b) × (b₁ ≡ freshOf b) → n ≡ 0 → sizedOk b ≡ true

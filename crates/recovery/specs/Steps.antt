@@ -10,7 +10,7 @@ use Rattle.lines.specs.declared.Written.the-variants.{Next}
 use Rattle.lines.specs.declared.LineRead.{LineRead}
 use Rattle.lines.specs.declared.LineRead.the-variants.{Frame, Bad, Piece}
 use Rattle.view.specs.View.{Bus}
-use Rattle.bus.specs.Command.{commandOf}
+use Rattle.bus_model.specs.Command.{commandOf}
 use Rattle.journal_model.specs.declared.Recovered.{Recovered}
 use Rattle.journal_model.specs.declared.Recovered.the-variants as found
 use Rattle.journal_model.specs.Journal.{counted, spare, Recovery, recoveryFrom}

@@ -41,16 +41,30 @@ fn replay_frame(
     carried: &mut [u8],
     numbers: &mut [u64],
     pool: &mut [u8],
+    seeds: &mut [u8],
     f: &[u8],
     out: &mut [u8],
 ) -> bool
     requires { ⌜ length (now out) ≡ answerSize ⌝ }
-    ensures { λ r. ⌜ triedOf r (busOf (now (ps .exit)) (now (ns .exit)) (now (hs .exit)) (now (cs .exit)) (now (ends .exit)) (now (es .exit)) (now (carried .exit)) (now (numbers .exit)) (now (pool .exit))) ≡ tried (busOf (now (ps .entry)) (now (ns .entry)) (now (hs .entry)) (now (cs .entry)) (now (ends .entry)) (now (es .entry)) (now (carried .entry)) (now (numbers .entry)) (now (pool .entry))) (now (f .entry)) ⌝ }
+    ensures { λ r. ⌜ triedOf r (busOf (now (ps .exit)) (now (ns .exit)) (now (hs .exit)) (now (cs .exit)) (now (ends .exit)) (now (es .exit)) (now (carried .exit)) (now (numbers .exit)) (now (pool .exit)) (now (seeds .exit))) ≡ tried (busOf (now (ps .entry)) (now (ns .entry)) (now (hs .entry)) (now (cs .entry)) (now (ends .entry)) (now (es .entry)) (now (carried .entry)) (now (numbers .entry)) (now (pool .entry)) (now (seeds .entry))) (now (f .entry)) ⌝ }
 {
     if is_question(f) {
         return false;
     }
-    let o = bus::command(ps, ns, hs, cs, ends, es, carried, numbers, pool, f, out);
+    let o = bus::command(
+        ps,
+        ns,
+        hs,
+        cs,
+        ends,
+        es,
+        carried,
+        numbers,
+        pool,
+        seeds,
+        f,
+        out,
+    );
     o.number == 0
 }
 
@@ -74,18 +88,32 @@ fn replay_read(
     carried: &mut [u8],
     numbers: &mut [u64],
     pool: &mut [u8],
+    seeds: &mut [u8],
     frame: &[u8],
     read: LineRead,
     out: &mut [u8],
 ) -> Step
     requires { ⌜ (length (now frame) ≡ longestFrame) × (length (now out) ≡ answerSize) ⌝ }
-    ensures { λ r. ⌜ steppedOf r (busOf (now (ps .exit)) (now (ns .exit)) (now (hs .exit)) (now (cs .exit)) (now (ends .exit)) (now (es .exit)) (now (carried .exit)) (now (numbers .exit)) (now (pool .exit))) ≡ readStep (busOf (now (ps .entry)) (now (ns .entry)) (now (hs .entry)) (now (cs .entry)) (now (ends .entry)) (now (es .entry)) (now (carried .entry)) (now (numbers .entry)) (now (pool .entry))) (now (frame .entry)) read ⌝ }
+    ensures { λ r. ⌜ steppedOf r (busOf (now (ps .exit)) (now (ns .exit)) (now (hs .exit)) (now (cs .exit)) (now (ends .exit)) (now (es .exit)) (now (carried .exit)) (now (numbers .exit)) (now (pool .exit)) (now (seeds .exit))) ≡ readStep (busOf (now (ps .entry)) (now (ns .entry)) (now (hs .entry)) (now (cs .entry)) (now (ends .entry)) (now (es .entry)) (now (carried .entry)) (now (numbers .entry)) (now (pool .entry)) (now (seeds .entry))) (now (frame .entry)) read ⌝ }
 {
     match read {
         LineRead::Frame(m, next) => {
             let n = copies::least(m, FRAME_SIZE);
             let part = &frame[..n];
-            if !replay_frame(ps, ns, hs, cs, ends, es, carried, numbers, pool, part, out) {
+            if !replay_frame(
+                ps,
+                ns,
+                hs,
+                cs,
+                ends,
+                es,
+                carried,
+                numbers,
+                pool,
+                seeds,
+                part,
+                out,
+            ) {
                 return Step::Refused;
             }
             Step::Next(next)
@@ -106,12 +134,13 @@ fn replay_line(
     carried: &mut [u8],
     numbers: &mut [u64],
     pool: &mut [u8],
+    seeds: &mut [u8],
     s: &[u8],
     frame: &mut [u8; FRAME_SIZE],
     out: &mut [u8],
 ) -> Step
     requires { ⌜ length (now out) ≡ answerSize ⌝ }
-    ensures { λ r. ⌜ steppedOf r (busOf (now (ps .exit)) (now (ns .exit)) (now (hs .exit)) (now (cs .exit)) (now (ends .exit)) (now (es .exit)) (now (carried .exit)) (now (numbers .exit)) (now (pool .exit))) ≡ lineStep (busOf (now (ps .entry)) (now (ns .entry)) (now (hs .entry)) (now (cs .entry)) (now (ends .entry)) (now (es .entry)) (now (carried .entry)) (now (numbers .entry)) (now (pool .entry))) (now (s .entry)) ⌝ }
+    ensures { λ r. ⌜ steppedOf r (busOf (now (ps .exit)) (now (ns .exit)) (now (hs .exit)) (now (cs .exit)) (now (ends .exit)) (now (es .exit)) (now (carried .exit)) (now (numbers .exit)) (now (pool .exit)) (now (seeds .exit))) ≡ lineStep (busOf (now (ps .entry)) (now (ns .entry)) (now (hs .entry)) (now (cs .entry)) (now (ends .entry)) (now (es .entry)) (now (carried .entry)) (now (numbers .entry)) (now (pool .entry)) (now (seeds .entry))) (now (s .entry)) ⌝ }
 {
     let read = lines::read_line(s, frame);
     replay_read(
@@ -124,6 +153,7 @@ fn replay_line(
         carried,
         numbers,
         pool,
+        seeds,
         frame,
         read,
         out,
@@ -153,13 +183,14 @@ fn replay_lines(
     carried: &mut [u8],
     numbers: &mut [u64],
     pool: &mut [u8],
+    seeds: &mut [u8],
     kept: &[u8],
     frame: &mut [u8; FRAME_SIZE],
     out: &mut [u8],
     most: usize,
 ) -> Recovered
     requires { ⌜ length (now out) ≡ answerSize ⌝ }
-    ensures { λ r. ⌜ recoveryFrom r (busOf (now (ps .exit)) (now (ns .exit)) (now (hs .exit)) (now (cs .exit)) (now (ends .exit)) (now (es .exit)) (now (carried .exit)) (now (numbers .exit)) (now (pool .exit))) ≡ replayFrom most 0 0 (busOf (now (ps .entry)) (now (ns .entry)) (now (hs .entry)) (now (cs .entry)) (now (ends .entry)) (now (es .entry)) (now (carried .entry)) (now (numbers .entry)) (now (pool .entry))) (now (kept .entry)) ⌝ }
+    ensures { λ r. ⌜ recoveryFrom r (busOf (now (ps .exit)) (now (ns .exit)) (now (hs .exit)) (now (cs .exit)) (now (ends .exit)) (now (es .exit)) (now (carried .exit)) (now (numbers .exit)) (now (pool .exit)) (now (seeds .exit))) ≡ replayFrom most 0 0 (busOf (now (ps .entry)) (now (ns .entry)) (now (hs .entry)) (now (cs .entry)) (now (ends .entry)) (now (es .entry)) (now (carried .entry)) (now (numbers .entry)) (now (pool .entry)) (now (seeds .entry))) (now (kept .entry)) ⌝ }
 {
     let mut n = 0;
     let mut at = 0;
@@ -174,6 +205,7 @@ fn replay_lines(
             carried,
             numbers,
             pool,
+            seeds,
             &kept[at..],
             frame,
             out,
@@ -198,10 +230,11 @@ pub fn replay(
     carried: &mut [u8],
     numbers: &mut [u64],
     pool: &mut [u8],
+    seeds: &mut [u8],
     kept: &[u8],
     most: usize,
 ) -> Recovered
-    ensures { λ r. ⌜ recoveryFrom r (busOf (now (ps .exit)) (now (ns .exit)) (now (hs .exit)) (now (cs .exit)) (now (ends .exit)) (now (es .exit)) (now (carried .exit)) (now (numbers .exit)) (now (pool .exit))) ≡ replayFrom most 0 0 (busOf (now (ps .entry)) (now (ns .entry)) (now (hs .entry)) (now (cs .entry)) (now (ends .entry)) (now (es .entry)) (now (carried .entry)) (now (numbers .entry)) (now (pool .entry))) (now (kept .entry)) ⌝ }
+    ensures { λ r. ⌜ recoveryFrom r (busOf (now (ps .exit)) (now (ns .exit)) (now (hs .exit)) (now (cs .exit)) (now (ends .exit)) (now (es .exit)) (now (carried .exit)) (now (numbers .exit)) (now (pool .exit)) (now (seeds .exit))) ≡ replayFrom most 0 0 (busOf (now (ps .entry)) (now (ns .entry)) (now (hs .entry)) (now (cs .entry)) (now (ends .entry)) (now (es .entry)) (now (carried .entry)) (now (numbers .entry)) (now (pool .entry)) (now (seeds .entry))) (now (kept .entry)) ⌝ }
 {
     let mut frame = [0u8; FRAME_SIZE];
     let mut out = [0u8; ANSWER_SIZE];
@@ -215,6 +248,7 @@ pub fn replay(
         carried,
         numbers,
         pool,
+        seeds,
         kept,
         &mut frame,
         &mut out,
@@ -243,11 +277,12 @@ pub fn recover(
     carried: &mut [u8],
     numbers: &mut [u64],
     pool: &mut [u8],
+    seeds: &mut [u8],
     kept: &[u8],
 ) -> Recovered
-    ensures { λ r. ⌜ recoveryFrom r (busOf (now (ps .exit)) (now (ns .exit)) (now (hs .exit)) (now (cs .exit)) (now (ends .exit)) (now (es .exit)) (now (carried .exit)) (now (numbers .exit)) (now (pool .exit))) ≡ recovered (busOf (now (ps .entry)) (now (ns .entry)) (now (hs .entry)) (now (cs .entry)) (now (ends .entry)) (now (es .entry)) (now (carried .entry)) (now (numbers .entry)) (now (pool .entry))) (now (kept .entry)) ⌝ }
+    ensures { λ r. ⌜ recoveryFrom r (busOf (now (ps .exit)) (now (ns .exit)) (now (hs .exit)) (now (cs .exit)) (now (ends .exit)) (now (es .exit)) (now (carried .exit)) (now (numbers .exit)) (now (pool .exit)) (now (seeds .exit))) ≡ recovered (busOf (now (ps .entry)) (now (ns .entry)) (now (hs .entry)) (now (cs .entry)) (now (ends .entry)) (now (es .entry)) (now (carried .entry)) (now (numbers .entry)) (now (pool .entry)) (now (seeds .entry))) (now (kept .entry)) ⌝ }
 {
-    if bus::fresh(ps, ns, hs, cs, ends, es, carried, numbers, pool) != 0 {
+    if bus::fresh(ps, ns, hs, cs, ends, es, carried, numbers, pool, seeds) != 0 {
         return Recovered::WrongLength;
     }
     let r = replay(
@@ -260,12 +295,13 @@ pub fn recover(
         carried,
         numbers,
         pool,
+        seeds,
         kept,
         kept.len(),
     );
     if is_whole(r) {
         return r;
     }
-    bus::fresh(ps, ns, hs, cs, ends, es, carried, numbers, pool);
+    bus::fresh(ps, ns, hs, cs, ends, es, carried, numbers, pool, seeds);
     r
 }

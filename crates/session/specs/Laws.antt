@@ -19,7 +19,7 @@ use Rattle.lines.specs.LineLaws.{Fits, read-fits, digits-length}
 use Rattle.lines.specs.declared.LineRead.{LineRead}
 use Rattle.lines.specs.declared.LineRead.the-variants.{Frame, Bad, Piece}
 use Rattle.view.specs.View.{Bus}
-use Rattle.bus.specs.Command.{doneOf, commandOf, freshBus}
+use Rattle.bus_model.specs.Command.{doneOf, commandOf, freshBus}
 use Rattle.answers.specs.declared.Outcome.{Outcome}
 use Rattle.answers.specs.Answer.{answerSize, bit}
 use Rattle.session.specs.Replies.{reply-of}

@@ -23,8 +23,8 @@ use Rattle.judges.specs.declared.Order.{Order}
 use Rattle.judges.specs.declared.Order.the-variants as order
 use Rattle.judges.specs.declared.Places.{Places}
 use Rattle.judges.specs.Orders.{sight, rulingOf}
-use Rattle.effects.specs.Effects.{received, receivedMessage, noticeTaken}
-use Rattle.bus.specs.Command.{Done, doneOf, soundOk, carried, carriedOut, refusedBy, obeyed, commandOf}
+use Rattle.effects.specs.Effects.{received, receivedMessage, noticeTaken, shows}
+use Rattle.bus_model.specs.Command.{Done, doneOf, soundOk, carried, carriedOut, refusedBy, obeyed, commandOf}
 use Rattle.lines.specs.Chunks.{Found.frame}
 use Rattle.session.specs.Session.{shown, replyTo}
 
@@ -46,7 +46,7 @@ writes-answer a is bs b = record {
 }
 
 writes-carried : (b : Bus) (f : List ℕ) (o : Order) (w : Places) → Writes (λ out. carried b f out o w)
-unfolding received receivedMessage noticeTaken
+unfolding received receivedMessage noticeTaken shows
 writes-carried b f (order.Refuse n) w = writes-answer _ [] [] b
 writes-carried b f (order.Open p u) w = writes-answer _ [] [] _
 writes-carried b f (order.Disconnect p) w = writes-answer _ [] [] _
@@ -60,6 +60,7 @@ writes-carried b f (order.Receive p) w = go (look (isMessage (firstOf (b .rings)
     go : Seen (isMessage (firstOf (b .rings) (p .0))) → Writes (λ out. carried b f out (order.Receive p) w)
     go (is-true z) = rw z (writes-answer _ _ _ _)
     go (is-false z) = rw z (writes-answer _ _ _ _)
+writes-carried b f (order.ShowSeed p) w = writes-answer _ _ _ _
 writes-carried b f (order.Quota p u) w = writes-answer _ [] [] b
 writes-carried b f (order.Holders s) w = writes-answer _ [] [] b
 
@@ -67,7 +68,7 @@ writes-obeyed : (b : Bus) (f : List ℕ) (x : Parsed) → Writes (λ out. obeyed
 unfolding carriedOut
 writes-obeyed b f (Refused n) = writes-answer _ [] [] b
 writes-obeyed b f (Read c) =
-    let r = rulingOf (sight (b .peers) (b .nodes) (b .handles) (b .charges) (b .rings)) f c in
+    let r = rulingOf (sight (b .peers) (b .nodes) (b .handles) (b .charges) (b .rings) (b .seeds)) f c in
     writes-carried b f (r .order) (r .places)
 
 -- with a long answer buffer the command is the frame's, or the refusal of a bus that is not sound

@@ -17,7 +17,7 @@ use Rattle.lines.specs.Chunks.{split, Found, Found.frame, Found.bad, found, fou
 use Rattle.lines.specs.declared.LineRead.{LineRead}
 use Rattle.lines.specs.declared.LineRead.the-variants.{Frame, Bad, Piece}
 use Rattle.view.specs.View.{Bus}
-use Rattle.bus.specs.Command.{Done, commandOf, freshBus}
+use Rattle.bus_model.specs.Command.{Done, commandOf, freshBus}
 
 -- What a line comes to: the bus afterwards, and the bytes of the answer.
 pub record Reply : Type 0 where

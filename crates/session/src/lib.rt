@@ -44,13 +44,14 @@ fn answer_frame(
     carried: &mut [u8],
     numbers: &mut [u64],
     pool: &mut [u8],
+    seeds: &mut [u8],
     f: &[u8],
     out: &mut [u8],
     text: &mut [u8],
     at: usize,
 ) -> usize
     requires { ⌜ (length (now out) ≡ answerSize) × (at + longest ≤ length (now text)) ⌝ }
-    ensures { λ r. ⌜ Put (busOf (now (peers .entry)) (now (nodes .entry)) (now (handles .entry)) (now (charges .entry)) (now (ends .entry)) (now (entries .entry)) (now (carried .entry)) (now (numbers .entry)) (now (pool .entry))) (frame (now (f .entry))) (now (text .entry)) at (busOf (now (peers .exit)) (now (nodes .exit)) (now (handles .exit)) (now (charges .exit)) (now (ends .exit)) (now (entries .exit)) (now (carried .exit)) (now (numbers .exit)) (now (pool .exit))) (now (text .exit)) r ⌝ }
+    ensures { λ r. ⌜ Put (busOf (now (peers .entry)) (now (nodes .entry)) (now (handles .entry)) (now (charges .entry)) (now (ends .entry)) (now (entries .entry)) (now (carried .entry)) (now (numbers .entry)) (now (pool .entry)) (now (seeds .entry))) (frame (now (f .entry))) (now (text .entry)) at (busOf (now (peers .exit)) (now (nodes .exit)) (now (handles .exit)) (now (charges .exit)) (now (ends .exit)) (now (entries .exit)) (now (carried .exit)) (now (numbers .exit)) (now (pool .exit)) (now (seeds .exit))) (now (text .exit)) r ⌝ }
 {
     let o = bus::command(
         peers,
@@ -62,6 +63,7 @@ fn answer_frame(
         carried,
         numbers,
         pool,
+        seeds,
         f,
         out,
     );
@@ -88,6 +90,7 @@ fn answer_read(
     carried: &mut [u8],
     numbers: &mut [u64],
     pool: &mut [u8],
+    seeds: &mut [u8],
     f: &[u8],
     read: LineRead,
     out: &mut [u8],
@@ -95,7 +98,7 @@ fn answer_read(
     at: usize,
 ) -> usize
     requires { ⌜ (length (now out) ≡ answerSize) × (at + longest ≤ length (now text)) × (length (now f) ≡ longestFrame) × Holds read ⌝ }
-    ensures { λ r. ⌜ PutRead (busOf (now (peers .entry)) (now (nodes .entry)) (now (handles .entry)) (now (charges .entry)) (now (ends .entry)) (now (entries .entry)) (now (carried .entry)) (now (numbers .entry)) (now (pool .entry))) (now (f .entry)) read (now (text .entry)) at (busOf (now (peers .exit)) (now (nodes .exit)) (now (handles .exit)) (now (charges .exit)) (now (ends .exit)) (now (entries .exit)) (now (carried .exit)) (now (numbers .exit)) (now (pool .exit))) (now (text .exit)) r ⌝ }
+    ensures { λ r. ⌜ PutRead (busOf (now (peers .entry)) (now (nodes .entry)) (now (handles .entry)) (now (charges .entry)) (now (ends .entry)) (now (entries .entry)) (now (carried .entry)) (now (numbers .entry)) (now (pool .entry)) (now (seeds .entry))) (now (f .entry)) read (now (text .entry)) at (busOf (now (peers .exit)) (now (nodes .exit)) (now (handles .exit)) (now (charges .exit)) (now (ends .exit)) (now (entries .exit)) (now (carried .exit)) (now (numbers .exit)) (now (pool .exit)) (now (seeds .exit))) (now (text .exit)) r ⌝ }
 {
     match read {
         LineRead::Frame(m, _) => answer_frame(
@@ -108,6 +111,7 @@ fn answer_read(
             carried,
             numbers,
             pool,
+            seeds,
             &f[..m],
             out,
             text,
@@ -153,6 +157,7 @@ fn answer_line(
     carried: &mut [u8],
     numbers: &mut [u64],
     pool: &mut [u8],
+    seeds: &mut [u8],
     s: &[u8],
     f: &mut [u8; FRAME_SIZE],
     out: &mut [u8],
@@ -160,7 +165,7 @@ fn answer_line(
     t: Turn,
 ) -> Turn
     requires { ⌜ (t .from ≤ length (now s)) × (length (now out) ≡ answerSize) × (t .at + longest ≤ length (now text)) ⌝ }
-    ensures { λ r. ⌜ Turned (busOf (now (peers .entry)) (now (nodes .entry)) (now (handles .entry)) (now (charges .entry)) (now (ends .entry)) (now (entries .entry)) (now (carried .entry)) (now (numbers .entry)) (now (pool .entry))) (now (s .entry)) (t .from) (t .at) (now (text .entry)) (busOf (now (peers .exit)) (now (nodes .exit)) (now (handles .exit)) (now (charges .exit)) (now (ends .exit)) (now (entries .exit)) (now (carried .exit)) (now (numbers .exit)) (now (pool .exit))) (now (text .exit)) (r .from) (r .used) (r .at) ⌝ }
+    ensures { λ r. ⌜ Turned (busOf (now (peers .entry)) (now (nodes .entry)) (now (handles .entry)) (now (charges .entry)) (now (ends .entry)) (now (entries .entry)) (now (carried .entry)) (now (numbers .entry)) (now (pool .entry)) (now (seeds .entry))) (now (s .entry)) (t .from) (t .at) (now (text .entry)) (busOf (now (peers .exit)) (now (nodes .exit)) (now (handles .exit)) (now (charges .exit)) (now (ends .exit)) (now (entries .exit)) (now (carried .exit)) (now (numbers .exit)) (now (pool .exit)) (now (seeds .exit))) (now (text .exit)) (r .from) (r .used) (r .at) ⌝ }
 {
     let from = t.from;
     let read = lines::read_line(&s[from..], f);
@@ -174,6 +179,7 @@ fn answer_line(
         carried,
         numbers,
         pool,
+        seeds,
         f,
         read,
         out,
@@ -225,12 +231,13 @@ pub fn answer_lines(
     carried: &mut [u8],
     numbers: &mut [u64],
     pool: &mut [u8],
+    seeds: &mut [u8],
     s: &[u8],
     from: usize,
     text: &mut [u8],
 ) -> Progress
     requires { ⌜ from ≤ length (now s) ⌝ }
-    ensures { λ r. ⌜ Served (busOf (now (peers .entry)) (now (nodes .entry)) (now (handles .entry)) (now (charges .entry)) (now (ends .entry)) (now (entries .entry)) (now (carried .entry)) (now (numbers .entry)) (now (pool .entry))) (now (s .entry)) from 0 (now (text .entry)) (busOf (now (peers .exit)) (now (nodes .exit)) (now (handles .exit)) (now (charges .exit)) (now (ends .exit)) (now (entries .exit)) (now (carried .exit)) (now (numbers .exit)) (now (pool .exit))) (now (text .exit)) (r .from) (r .at) × Stopped (now (s .entry)) (now (text .entry)) (r .from) (r .at) (r .more) ⌝ }
+    ensures { λ r. ⌜ Served (busOf (now (peers .entry)) (now (nodes .entry)) (now (handles .entry)) (now (charges .entry)) (now (ends .entry)) (now (entries .entry)) (now (carried .entry)) (now (numbers .entry)) (now (pool .entry)) (now (seeds .entry))) (now (s .entry)) from 0 (now (text .entry)) (busOf (now (peers .exit)) (now (nodes .exit)) (now (handles .exit)) (now (charges .exit)) (now (ends .exit)) (now (entries .exit)) (now (carried .exit)) (now (numbers .exit)) (now (pool .exit)) (now (seeds .exit))) (now (text .exit)) (r .from) (r .at) × Stopped (now (s .entry)) (now (text .entry)) (r .from) (r .at) (r .more) ⌝ }
 {
     let mut f = [0u8; FRAME_SIZE];
     let mut out = [0u8; ANSWER_SIZE];
@@ -246,6 +253,7 @@ pub fn answer_lines(
             carried,
             numbers,
             pool,
+            seeds,
             s,
             &mut f,
             &mut out,

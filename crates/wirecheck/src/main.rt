@@ -5,10 +5,12 @@
 //   04           the destroy notice of its ID
 //   05           the release notice of its ID
 //   06           00 and its ID
-//   07           charged to the user with its peer's number modulo 4: 7a, or its message, with the first ID as destination
+//   07           charged to the user with its peer's number modulo 4: 7a, or its message, with the first ID as destination;
+//                with nd 0 its seed, not charged
 //   08           takes a message of as many bytes as its room says off the charge of that user: 00
 //   09           the balance of its user
 //   0a           the last byte of its ID as holder byte
+//   0c           00
 ghost use mathlib.Core.Path.{_≡_};
 ghost use Prim.Native.Nat.{_+_, _≤_};
 ghost use lib.ListN.{length};
@@ -73,6 +75,31 @@ fn kept(answer: Answer, charges: Charges) -> Answered {
     Answered { answer, charges }
 }
 
+fn seed(p: Peer, nh: usize, nb: usize) -> Answer {
+    let h = Header {
+        to: HandleId(18446744073709551615),
+        user: user_of(p),
+        flag: false,
+        nb,
+        nh,
+    };
+    Answer::Received(Received::Seed(h))
+}
+
+fn send_or_seed(
+    p: Peer,
+    frame: &[u8],
+    nd: usize,
+    nh: usize,
+    nb: usize,
+    charges: Charges,
+) -> Answered {
+    if nd == 0 {
+        return kept(seed(p, nh, nb), charges);
+    }
+    send(p, frame, nd, nh, nb, charges)
+}
+
 fn carry_out(c: Command, frame: &[u8], charges: Charges) -> Answered {
     match c {
         Command::Open(_, _) => kept(Answer::Done, charges),
@@ -81,7 +108,7 @@ fn carry_out(c: Command, frame: &[u8], charges: Charges) -> Answered {
         Command::Destroy(_, i) => kept(Answer::Received(Received::Destroyed(i)), charges),
         Command::Release(_, i) => kept(Answer::Received(Received::Released(i)), charges),
         Command::Transfer(_, i, _) => kept(Answer::Transferred(i), charges),
-        Command::Send(p, z) => send(p, frame, z.nd, z.nh, z.nb, charges),
+        Command::Send(p, z) => send_or_seed(p, frame, z.nd, z.nh, z.nb, charges),
         Command::Receive(p, room) => {
             kept(
                 Answer::Done,
@@ -90,6 +117,7 @@ fn carry_out(c: Command, frame: &[u8], charges: Charges) -> Answered {
         }
         Command::Quota(_, u) => kept(Answer::Quota(charges.balance(u)), charges),
         Command::Holders(_, i) => kept(Answer::Holders((i.0 % 256) as u8), charges),
+        Command::ShowSeed(_, _) => kept(Answer::Done, charges),
     }
 }
 
@@ -125,10 +153,11 @@ fn ids_shown(answer: Answer) -> usize
     let Answer::Received(r) = answer else {
         return 0;
     };
-    let Received::Message(h) = r else {
-        return 0;
-    };
-    copies::least(h.nh, 8)
+    match r {
+        Received::Message(h) => copies::least(h.nh, 8),
+        Received::Seed(h) => copies::least(h.nh, 8),
+        _ => 0,
+    }
 }
 
 fn say(bytes: &[u8]) {

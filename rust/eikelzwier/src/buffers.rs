@@ -15,7 +15,7 @@
 ///         0 $(+ $len * std::mem::size_of::<$element>())*
 ///     };
 /// }
-/// assert_eq!(eikelzwier::bus_buffers!(bytes), 174_632);
+/// assert_eq!(eikelzwier::bus_buffers!(bytes), 178_824);
 /// ```
 #[macro_export]
 macro_rules! bus_buffers {
@@ -31,6 +31,7 @@ macro_rules! bus_buffers {
                 carried: [u8; 32768], CARRIED_LEN;
                 numbers: [u64; 4096], NUMBERS_LEN;
                 pool: [u8; 32768], POOL_LEN;
+                seeds: [u8; 4192], SEEDS_LEN;
             ]
             $($($more)*)?
         }

@@ -17,13 +17,13 @@ pub enum Refusal {
     NoHandle = 6,
     /// EBADF: a peer never opened.
     NeverOpened = 9,
-    /// EAGAIN: receive, nothing queued.
+    /// EAGAIN: receive, nothing queued; or no seed set.
     NothingQueued = 11,
     /// EEXIST: open of an open peer, or create with an ID that the peer holds.
     Exists = 17,
     /// EINVAL: an answer buffer under 591 bytes, an empty frame, a wrong
-    /// length, a peer over 7, a user over 3, a send without destination, or
-    /// create with ID bit 0 or 1 set.
+    /// length, a peer over 7, a user over 3, or create with ID bit 0 or 1 set;
+    /// of [`send`](crate::Commands::send) also no destination.
     Invalid = 22,
     /// ENOTTY: command byte unknown.
     UnknownCommand = 25,
@@ -32,11 +32,11 @@ pub enum Refusal {
     JournalFull = 27,
     /// ENOSPC: create with 16 nodes counted.
     NoRoom = 28,
-    /// ERANGE: the next message is over the room of the receive.
+    /// ERANGE: the next message is over the room of the receive, or the seed.
     OverRoom = 34,
     /// EOVERFLOW: 2^40 - 1 commands accepted already.
     Overflow = 75,
-    /// EMSGSIZE: send with over 8 destinations, 8 handles or 512 bytes.
+    /// EMSGSIZE: send or seed with over 8 destinations, 8 handles or 512 bytes.
     TooLarge = 90,
     /// ESHUTDOWN: a peer that has disconnected.
     Disconnected = 108,

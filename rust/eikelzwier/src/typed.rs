@@ -34,7 +34,7 @@ pub const MAX_DESTINATIONS: usize = 8;
 pub const MAX_HANDLES: usize = 8;
 /// The most bytes of payload of a send.
 pub const MAX_PAYLOAD: usize = 512;
-/// A receive with this room takes out every message.
+/// A receive with this room takes out every message, and every seed is shown.
 pub const MAX_ROOM: u16 = 576;
 
 /// What a receive took out. It stands in the answer buffer.
@@ -63,7 +63,18 @@ pub struct Message<'a> {
     pub payload: &'a [u8],
 }
 
-/// The attached handles of a message, in order.
+/// The message that a peer keeps for itself. It stands in the answer buffer.
+#[derive(Clone, Copy, PartialEq, Eq, Debug)]
+pub struct Seed<'a> {
+    /// The peer's own user.
+    pub user: User,
+    /// The attached handles, by the peer's IDs of now.
+    pub handles: Handles<'a>,
+    /// The payload.
+    pub payload: &'a [u8],
+}
+
+/// The attached handles of a message or a seed, in order.
 #[derive(Clone, Copy, PartialEq, Eq, Debug)]
 pub struct Handles<'a>(&'a [u8]);
 
@@ -128,6 +139,7 @@ const SEND: u8 = 0x07;
 const RECEIVE: u8 = 0x08;
 const QUOTA: u8 = 0x09;
 const HOLDERS: u8 = 0x0a;
+const SHOW_SEED: u8 = 0x0c;
 
 fn short(bytes: &[u8]) -> u16 {
     u16::from_be_bytes([bytes[0], bytes[1]])
@@ -138,7 +150,7 @@ fn with_id(command: u8, peer: Peer, id: HandleId) -> [u8; 10] {
     [command, peer.0, a, b, c, d, e, f, g, h]
 }
 
-/// The frame of a send in the buffer, and its length; `None` where a list or the
+/// The frame of a send, or without destination of a seed, in the buffer, and its length; `None` where a list or the
 /// payload is over its limit.
 fn build_send(
     frame: &mut [u8; MAX_FRAME],
@@ -162,17 +174,23 @@ fn build_send(
     Some(at + payload.len())
 }
 
+/// Handles and payload of an answer with a message's fields, behind its first byte.
+fn read_contents(answer: &[u8]) -> (Handles<'_>, &[u8]) {
+    let (handles, payload) = answer[14..].split_at(8 * usize::from(answer[13]));
+    (Handles(handles), payload)
+}
+
 /// An answer to a receive, behind its first byte.
 fn read_received(answer: &[u8]) -> Received<'_> {
     let id = HandleId::read(&answer[1..9]);
     match answer[0] {
         1 => {
-            let (handles, payload) = answer[14..].split_at(8 * usize::from(answer[13]));
+            let (handles, payload) = read_contents(answer);
             Received::Message(Message {
                 to: id,
                 user: User(answer[9]),
                 more: answer[10] == 1,
-                handles: Handles(handles),
+                handles,
                 payload,
             })
         }
@@ -195,7 +213,7 @@ fn run<B: Commands + ?Sized>(
     }
 }
 
-/// The ten commands as methods. [`Bus`](crate::Bus), [`InlineBus`](crate::InlineBus)
+/// The eleven commands as methods, and the send that sets a seed as one of its own. [`Bus`](crate::Bus), [`InlineBus`](crate::InlineBus)
 /// and a bus [with a journal](crate::Kept) have them.
 ///
 /// Peers, users and handle IDs are three types, so that none stands in the place
@@ -235,8 +253,8 @@ pub trait Commands {
         run(self, &[OPEN, peer.0, user.0], &mut [0; ANSWER_LEN]).map(|_| ())
     }
 
-    /// Disconnects a peer for good: its queue is dropped, its nodes are
-    /// destroyed, its handles released.
+    /// Disconnects a peer for good: its queue and its seed are dropped, its nodes
+    /// are destroyed, its handles released.
     fn disconnect(&mut self, peer: Peer) -> Result<(), Refusal> {
         run(self, &[DISCONNECT, peer.0], &mut [0; ANSWER_LEN]).map(|_| ())
     }
@@ -265,8 +283,10 @@ pub trait Commands {
         run(self, &frame, &mut answer).map(|_| HandleId::read(&answer[1..]))
     }
 
-    /// Sends a message to each destination, or to none. A list or a payload over
-    /// its limit is refused here, before the bus tests anything.
+    /// Sends a message to each destination, or to none if one of them refuses it.
+    /// An empty list of destinations is refused here with 22, since its frame
+    /// would set the seed; a list or a payload over its limit with 90; both before
+    /// the bus tests anything.
     ///
     /// ```
     /// use eikelzwier::{Bus, Commands, HandleId, Peer, Refusal, MAX_PAYLOAD};
@@ -274,6 +294,7 @@ pub trait Commands {
     /// let mut bus = Bus::new();
     /// let long = [0; MAX_PAYLOAD + 1];
     /// assert_eq!(bus.send(Peer(0), &[HandleId(8)], &[], &long), Err(Refusal::TooLarge));
+    /// assert_eq!(bus.send(Peer(0), &[], &[], &[]), Err(Refusal::Invalid));
     /// ```
     fn send(
         &mut self,
@@ -282,9 +303,75 @@ pub trait Commands {
         handles: &[HandleId],
         payload: &[u8],
     ) -> Result<(), Refusal> {
+        if to.is_empty() {
+            return Err(Refusal::Invalid);
+        }
         let mut frame = [0; MAX_FRAME];
         let len = build_send(&mut frame, peer, to, handles, payload).ok_or(Refusal::TooLarge)?;
         run(self, &frame[..len], &mut [0; ANSWER_LEN]).map(|_| ())
+    }
+
+    /// Replaces the peer's seed: a message that it keeps for itself, charged to
+    /// nobody. It stays until it is replaced or the peer disconnects. The sizes
+    /// are tested as in a send.
+    ///
+    /// ```
+    /// use eikelzwier::{Bus, Commands, HandleId, Peer, User, ANSWER_LEN};
+    ///
+    /// let (lamp, mut answer) = (Peer(3), [0; ANSWER_LEN]);
+    /// let mut bus = Bus::new();
+    /// bus.open(lamp, User(1))?;
+    /// bus.create(lamp, HandleId(8))?;
+    /// bus.set_seed(lamp, &[HandleId(8)], b"oil")?;
+    ///
+    /// let seed = bus.show_seed(lamp, &mut answer)?.expect("it was set");
+    /// assert_eq!((seed.user, seed.payload), (User(1), &b"oil"[..]));
+    /// assert!(seed.handles.iter().eq([HandleId(8)]));
+    /// # Ok::<(), eikelzwier::Refusal>(())
+    /// ```
+    fn set_seed(
+        &mut self,
+        peer: Peer,
+        handles: &[HandleId],
+        payload: &[u8],
+    ) -> Result<(), Refusal> {
+        let mut frame = [0; MAX_FRAME];
+        let len = build_send(&mut frame, peer, &[], handles, payload).ok_or(Refusal::TooLarge)?;
+        run(self, &frame[..len], &mut [0; ANSWER_LEN]).map(|_| ())
+    }
+
+    /// Shows the peer's seed and leaves it where it is; `None` if none is set. Each
+    /// time it adds a reference for each handle shown, as a receive does. It
+    /// stands in the answer buffer, of at least [`ANSWER_LEN`] bytes.
+    fn show_seed<'a>(
+        &mut self,
+        peer: Peer,
+        answer: &'a mut [u8],
+    ) -> Result<Option<Seed<'a>>, Refusal> {
+        self.show_seed_within(peer, MAX_ROOM, answer)
+    }
+
+    /// As [`show_seed`](Commands::show_seed), but a seed whose payload and
+    /// handles, of 8 bytes each, are over the room is refused.
+    fn show_seed_within<'a>(
+        &mut self,
+        peer: Peer,
+        room: u16,
+        answer: &'a mut [u8],
+    ) -> Result<Option<Seed<'a>>, Refusal> {
+        let [high, low] = room.to_be_bytes();
+        match run(self, &[SHOW_SEED, peer.0, high, low], answer) {
+            Ok(len) => {
+                let (handles, payload) = read_contents(&answer[1..len]);
+                Ok(Some(Seed {
+                    user: User(answer[10]),
+                    handles,
+                    payload,
+                }))
+            }
+            Err(Refusal::NothingQueued) => Ok(None),
+            Err(refusal) => Err(refusal),
+        }
     }
 
     /// Takes the oldest entry out of the peer's queue; `None` if there is none.

@@ -236,16 +236,17 @@ fn line_of(frame: &[u8]) -> Vec<u8> {
 const OPEN: [u8; 3] = [0x01, 0, 0];
 const EIO: BusOutcome = BusOutcome { number: 5, len: 1 };
 
-/// A bus in use: two open peers, a node that both hold, a queued message.
+/// A bus in use: two open peers, a node that both hold, a queued message, a seed.
 fn in_use() -> Tables {
     let mut tables = Tables::new(LENGTHS, u64::MAX, &mut Random::new(1));
     assert_eq!(tables.fresh(), 0);
-    let frames: [&[u8]; 5] = [
+    let frames: [&[u8]; 6] = [
         &OPEN,
         &[0x01, 1, 1],
         &[0x03, 0, 0, 0, 0, 0, 0, 0, 0, 8],
         &[0x06, 0, 0, 0, 0, 0, 0, 0, 0, 8, 1],
         &[0x07, 1, 1, 0, 0, 1, 0, 0, 0, 0, 0, 0, 0, 7, 0x33],
+        &[0x07, 1, 0, 1, 0, 1, 0, 0, 0, 0, 0, 0, 0, 7, 0x5a],
     ];
     for frame in frames {
         assert_eq!(tables.command(frame, ANSWER_LEN).0.number, 0);
@@ -385,7 +386,27 @@ fn last_command() {
     assert_eq!(tables.command(&[0x01, 2, 2], ANSWER_LEN).0.number, 0);
     assert_eq!(tables.command(&[0x01, 3, 2], ANSWER_LEN).0.number, 75);
     assert_eq!(tables.command(&[0x08, 0, 0, 1], ANSWER_LEN).0.number, 75);
+    assert_eq!(tables.command(&[0x0c, 1, 0, 9], ANSWER_LEN).0.number, 75);
     assert_eq!(tables.command(&[0x09, 0, 1], ANSWER_LEN).0.number, 0);
+}
+
+/// Any contents of the seeds have a meaning (docs/BUFFERS.md): more than 8 slots
+/// are 8, more than 512 bytes are 512, a slot counts modulo 128, 1 alone is a seed.
+#[test]
+fn seeds_of_any_contents() {
+    let (mut tables, show) = (in_use(), [0x0c, 1, 0xff, 0xff]);
+    let seeds = tables.seeds.get();
+    seeds[12..24].copy_from_slice(&[1, 255, 255, 255, 128, 128, 128, 128, 128, 128, 128, 128]);
+    seeds[96 + 512..96 + 1024].fill(0x5a);
+    let (outcome, answer) = tables.command(&show, ANSWER_LEN);
+    assert_eq!((outcome.number, outcome.len), (0, ANSWER_LEN));
+    let seven = [0, 0, 0, 0, 0, 0, 0, 7].repeat(8);
+    let head = [&[0, 4][..], &[0xff; 8], &[1, 0, 2, 0, 8]].concat();
+    assert_eq!(answer, [head, seven, vec![0x5a; 512]].concat());
+    for set in [0, 2, 255] {
+        tables.seeds.get()[12] = set;
+        assert_eq!(tables.command(&show, ANSWER_LEN).0.number, 11);
+    }
 }
 
 /// Random contents and random frames: every call returns, and writes only
@@ -445,7 +466,7 @@ fn random_frame(random: &mut Random, tables: &mut Tables) -> Vec<u8> {
         return (0..len).map(|_| random.draw() as u8).collect();
     }
     let peer = random.below(8);
-    let mut frame = vec![1 + random.below(10) as u8, peer as u8];
+    let mut frame = vec![1 + random.below(12) as u8, peer as u8];
     let mut id = |random: &mut Random| {
         let row = 128 * peer + random.below(128);
         tables.handles.get()[2 * row].to_be_bytes()
@@ -458,14 +479,14 @@ fn random_frame(random: &mut Random, tables: &mut Tables) -> Vec<u8> {
             frame.push(random.below(8) as u8);
         }
         0x07 => {
-            let (nd, nh, nb) = (1 + random.below(8), random.below(9), random.below(513));
+            let (nd, nh, nb) = (random.below(9), random.below(9), random.below(513));
             frame.extend([nd as u8, nh as u8, (nb >> 8) as u8, nb as u8]);
             for _ in 0..nd + nh {
                 frame.extend(id(random));
             }
             frame.extend((0..nb).map(|_| random.draw() as u8));
         }
-        0x08 => frame.extend((random.draw() as u16).to_be_bytes()),
+        0x08 | 0x0c => frame.extend((random.draw() as u16).to_be_bytes()),
         _ => frame.extend(id(random)),
     }
     frame

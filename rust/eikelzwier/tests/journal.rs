@@ -92,7 +92,7 @@ impl Pair {
         outcome.number
     }
 
-    /// Every question, and then everything that is queued.
+    /// Every question, every seed, and then everything that is queued.
     fn look(mut self) {
         for peer in Peer::all() {
             for user in 0..4 {
@@ -105,6 +105,7 @@ impl Pair {
             }
         }
         for peer in Peer::all() {
+            self.ask(&[0x0c, peer.number(), 0xff, 0xff]);
             while self.ask(&[0x08, peer.number(), 0xff, 0xff]) == 0 {}
         }
     }

@@ -6,7 +6,7 @@ use std::path::Path;
 
 use eikelzwier::{
     archive_version, Bus, Commands, HandleId, Holders, InlineBus, Journal, Journalled, Message,
-    Peer, Received, Refusal, User, ANSWER_LEN, MAX_PAYLOAD, VERSION,
+    Peer, Received, Refusal, Seed, User, ANSWER_LEN, MAX_PAYLOAD, VERSION,
 };
 
 /// One that notes the frames that the methods build, and answers as it is told.
@@ -51,6 +51,12 @@ fn frames() {
     assert_eq!(bus.receive(Peer(7), &mut answer), Err(Refusal::Quota));
     assert_eq!(bus.quota(Peer(4), User(2)), Err(Refusal::Quota));
     assert_eq!(bus.holders(Peer(7), HandleId(12)), Err(Refusal::Quota));
+    let set = bus.set_seed(Peer(1), &[HandleId(8)], b"3!");
+    assert_eq!(set, Err(Refusal::Quota));
+    assert_eq!(bus.set_seed(Peer(7), &[], b""), Err(Refusal::Quota));
+    let shown = bus.show_seed_within(Peer(2), 0x0102, &mut answer);
+    assert_eq!(shown, Err(Refusal::Quota));
+    assert_eq!(bus.show_seed(Peer(3), &mut answer), Err(Refusal::Quota));
     let hex: Vec<String> = bus.frames.iter().map(|frame| to_hex(frame)).collect();
     let wanted = [
         "010503",
@@ -64,6 +70,10 @@ fn frames() {
         "08070240",
         "090402",
         "0a07000000000000000c",
+        "070100010002 0000000000000008 3321",
+        "070700000000",
+        "0c020102",
+        "0c030240",
     ];
     assert_eq!(hex, wanted.map(|frame| frame.replace(' ', "")));
 }
@@ -101,7 +111,27 @@ fn answers() {
     assert_eq!(taken, Ok(Some(Received::Released(HandleId(7)))));
     bus.answer = vec![11];
     assert_eq!(bus.receive(Peer(0), &mut answer), Ok(None));
+    assert_eq!(bus.show_seed(Peer(0), &mut answer), Ok(None));
     message(&mut bus, &mut answer);
+    seed(&mut bus, &mut answer);
+}
+
+fn seed(bus: &mut Noted, answer: &mut [u8]) {
+    bus.answer = [&[0, 4][..], &[0xff; 8], &[2, 0, 0, 3, 2]].concat();
+    bus.answer.extend([0, 0, 0, 0, 0, 0, 0, 11]);
+    bus.answer.extend([0xff; 8]);
+    bus.answer.extend(b"38!");
+    let Ok(Some(Seed {
+        user,
+        handles,
+        payload,
+    })) = bus.show_seed(Peer(0), answer)
+    else {
+        panic!("a seed")
+    };
+    assert_eq!((user, payload), (User(2), &b"38!"[..]));
+    let handles: Vec<HandleId> = handles.iter().collect();
+    assert_eq!(handles, [HandleId(11), HandleId::INVALID]);
 }
 
 fn message(bus: &mut Noted, answer: &mut [u8]) {
@@ -137,11 +167,47 @@ fn limits() {
         let sent = bus.send(Peer(0), &ids[..nd], &ids[..nh], &long[..nb]);
         (sent, bus.frames.len())
     };
+    assert_eq!(send(0, 0, 0), (Err(Refusal::Invalid), 0));
     assert_eq!(send(9, 0, 0), (Err(Refusal::TooLarge), 0));
     assert_eq!(send(1, 9, 0), (Err(Refusal::TooLarge), 0));
     assert_eq!(send(1, 0, 513), (Err(Refusal::TooLarge), 0));
     assert_eq!(send(8, 8, 512), (Ok(()), 1));
     assert_eq!(bus.frames[0].len(), 646);
+    let mut set = |nh: usize, nb: usize| {
+        let set = bus.set_seed(Peer(0), &ids[..nh], &long[..nb]);
+        (set, bus.frames.len())
+    };
+    assert_eq!(set(9, 0), (Err(Refusal::TooLarge), 1));
+    assert_eq!(set(0, 513), (Err(Refusal::TooLarge), 1));
+    assert_eq!(set(8, 512), (Ok(()), 2));
+    assert_eq!(bus.frames[1].len(), 582);
+}
+
+/// A seed is shown each time, and each time its handles count once more.
+#[test]
+fn seeds() {
+    let (lamp, one, two) = (Peer(3), HandleId(8), HandleId(12));
+    let mut bus = Bus::new();
+    let mut answer = [0; ANSWER_LEN];
+    assert_eq!(bus.open(lamp, User(1)), Ok(()));
+    assert_eq!(bus.show_seed(lamp, &mut answer), Ok(None));
+    assert_eq!(bus.create(lamp, one), Ok(()));
+    assert_eq!(bus.create(lamp, two), Ok(()));
+    assert_eq!(bus.set_seed(lamp, &[one, two], b"oil"), Ok(()));
+    assert_eq!(bus.destroy(lamp, two), Ok(()));
+    let narrow = bus.show_seed_within(lamp, 18, &mut answer);
+    assert_eq!(narrow, Err(Refusal::OverRoom));
+    for _ in 0..2 {
+        let shown = bus.show_seed_within(lamp, 19, &mut answer);
+        let seed = shown.expect("there is room").expect("it was set");
+        assert_eq!((seed.user, seed.payload), (User(1), &b"oil"[..]));
+        assert!(seed.handles.iter().eq([one, HandleId::INVALID]));
+    }
+    for expected in [Ok(()), Ok(()), Err(Refusal::NotPermitted)] {
+        assert_eq!(bus.release(lamp, one), expected);
+    }
+    let quota = bus.quota(lamp, User(1)).expect("answered");
+    assert_eq!((quota.messages, quota.bytes_left), (0, 2048));
 }
 
 /// The lines of a script that are frames.
@@ -164,7 +230,12 @@ fn script(name: &str) -> Vec<Vec<u8>> {
 #[test]
 fn inline() {
     assert_eq!(archive_version(), VERSION);
-    for name in ["rules/S.in", "random/churn-904.in", "random/bytes-901.in"] {
+    for name in [
+        "rules/S.in",
+        "random/churn-904.in",
+        "random/bytes-901.in",
+        "random/seed-5039.in",
+    ] {
         let (mut heap, mut inline, mut kept) = (
             Bus::new(),
             Box::new(InlineBus::new()),

@@ -1,4 +1,4 @@
-//! The bus: nodes, handles, queues, and the ten commands.
+//! The bus: nodes, handles, queues, seeds, and the eleven commands.
 
 use crate::frame::{Command, Send, MAX_ATTACHED, MAX_DESTINATIONS, MAX_PAYLOAD};
 use crate::handles::HandleTable;
@@ -75,7 +75,7 @@ struct Node {
     holders: u8,
     /// The sum of counts over all peers.
     sum: u64,
-    /// How often queued messages name it, as destination or attached.
+    /// How often queued messages, as destination or attached, and seeds name it.
     named: u32,
     /// How many queued messages are for it.
     messages: u32,
@@ -117,6 +117,14 @@ enum State {
     Disconnected,
 }
 
+/// The message a peer keeps for itself (document 02, No. 1).
+#[derive(Clone)]
+struct Seed {
+    /// The nodes of the attached handles.
+    attached: Vec<NodeIndex>,
+    payload: Vec<u8>,
+}
+
 #[derive(Clone)]
 struct PeerState {
     state: State,
@@ -127,6 +135,7 @@ struct PeerState {
     handles: HandleTable,
     queue: Queue,
     charges: Charges,
+    seed: Option<Seed>,
 }
 
 /// A message bus of eight peers.
@@ -193,6 +202,7 @@ impl Bus {
                     handles: HandleTable::new(),
                     queue: Queue::new(user),
                     charges: Charges::default(),
+                    seed: None,
                 })
                 .collect(),
             nodes,
@@ -234,6 +244,11 @@ impl Bus {
     /// The user of an open peer.
     pub fn user(&self, peer: Peer) -> Option<User> {
         self.open_peer(peer).ok()
+    }
+
+    /// Whether a peer has set a seed.
+    pub fn has_seed(&self, peer: Peer) -> bool {
+        self.peer(peer).seed.is_some()
     }
 
     /// The handles a peer holds, by ascending ID.
@@ -312,6 +327,7 @@ impl Bus {
             return Err(Refusal::Overflow);
         }
         let len = match command {
+            Command::Send(send) if send.destinations.count() == 0 => self.set_seed(send, buffer)?,
             Command::Send(send) => self.send(send, buffer)?,
             Command::Receive { peer, room } => self.receive(peer, room, buffer)?,
             Command::Open { peer, user } => self.open(peer, user, buffer)?,
@@ -320,6 +336,7 @@ impl Bus {
             Command::Destroy { peer, id } => self.destroy(peer, id, buffer)?,
             Command::Release { peer, id } => self.release(peer, id, buffer)?,
             Command::Transfer { peer, id, to } => self.transfer(peer, id, to, buffer)?,
+            Command::ShowSeed { peer, room } => self.show_seed(peer, room, buffer)?,
             Command::Quota { .. } | Command::Holders { .. } => unreachable!("answered above"),
         };
         self.accepted += 1;
@@ -364,6 +381,7 @@ impl Bus {
             let count = self.node(node).handles[peer.index()].count;
             self.drop_references(node, peer, count);
         }
+        self.replace_seed(peer, None);
         self.peer_mut(peer).state = State::Disconnected;
         Ok(Answer::accepted(buffer).len)
     }
@@ -497,6 +515,59 @@ impl Bus {
         Ok(Answer::accepted(buffer).len)
     }
 
+    /// A send with no destinations. Nothing is queued, so there is no dead
+    /// destination and no quota to test.
+    fn set_seed(&mut self, send: Send, buffer: &mut [u8; ANSWER_LEN]) -> Result<usize, Refusal> {
+        self.open_peer(send.peer)?;
+        let attached = send.attached.iter().map(|id| self.find(send.peer, id));
+        let seed = Seed {
+            attached: attached.collect::<Result<_, _>>()?,
+            payload: send.payload.to_vec(),
+        };
+        self.replace_seed(send.peer, Some(seed));
+        Ok(Answer::accepted(buffer).len)
+    }
+
+    /// Sets or drops a peer's seed: the nodes of the new one are named by it,
+    /// those of the old one no longer.
+    fn replace_seed(&mut self, peer: Peer, seed: Option<Seed>) {
+        for node in seed.iter().flat_map(|seed| &seed.attached) {
+            self.nodes[node.index()].named += 1;
+        }
+        let old = std::mem::replace(&mut self.peer_mut(peer).seed, seed);
+        for node in old.iter().flat_map(|seed| &seed.attached) {
+            self.nodes[node.index()].named -= 1;
+        }
+    }
+
+    /// Shows the peer's seed as a message that stays: its attached handles
+    /// follow the receive rule each time.
+    fn show_seed(
+        &mut self,
+        peer: Peer,
+        room: u16,
+        buffer: &mut [u8; ANSWER_LEN],
+    ) -> Result<usize, Refusal> {
+        let user = self.open_peer(peer)?;
+        let seed = self.peer(peer).seed.clone();
+        let seed = seed.ok_or(Refusal::NothingQueued)?;
+        if seed.payload.len() + 8 * seed.attached.len() > usize::from(room) {
+            return Err(Refusal::OverRoom);
+        }
+        let mut answer = Answer::accepted(buffer);
+        answer.byte(4);
+        answer.id(HandleId::INVALID);
+        answer.byte(user.number());
+        answer.byte(0);
+        answer.bytes(&(seed.payload.len() as u16).to_be_bytes());
+        answer.byte(seed.attached.len() as u8);
+        for node in seed.attached {
+            answer.id(self.show_attached(node, peer));
+        }
+        answer.bytes(&seed.payload);
+        Ok(answer.len)
+    }
+
     #[inline]
     fn receive(
         &mut self,
@@ -557,12 +628,7 @@ impl Bus {
             attached.copy_from_slice(message.attached());
             for &mut node in attached {
                 self.node_mut(node).named -= 1;
-                let shown = if self.node(node).live {
-                    self.add_reference(node, peer)
-                } else {
-                    HandleId::INVALID
-                };
-                answer.id(shown);
+                answer.id(self.show_attached(node, peer));
             }
             answer.bytes(self.peer(peer).queue.message(index).payload());
         }
@@ -604,6 +670,17 @@ impl Bus {
         answer.byte(node.holders);
         answer.byte(node.holders.count_ones() as u8);
         Ok(answer.len)
+    }
+
+    /// Shows an attached handle to its receiver: the invalid ID if its node is
+    /// destroyed by then, else one more reference.
+    #[inline]
+    fn show_attached(&mut self, index: NodeIndex, peer: Peer) -> HandleId {
+        if self.node(index).live {
+            self.add_reference(index, peer)
+        } else {
+            HandleId::INVALID
+        }
     }
 
     /// Adds one reference to a live node for a peer and returns its ID there.
@@ -710,7 +787,11 @@ impl Bus {
                 }
             }
             assert_eq!(state.charges, charges);
+            for node in state.seed.iter().flat_map(|seed| &seed.attached) {
+                named[node.index()] += 1;
+            }
             if state.state != State::Open {
+                assert!(state.seed.is_none());
                 assert!(state.queue.front().is_none());
                 assert!(state.handles.iter().next().is_none());
             }

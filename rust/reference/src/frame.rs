@@ -27,7 +27,7 @@ pub(crate) enum Command<'a> {
     Release { peer: Peer, id: HandleId },
     /// 06: give a handle to another peer.
     Transfer { peer: Peer, id: HandleId, to: Peer },
-    /// 07: send one message to each destination.
+    /// 07: send one message to each destination; with none, set the seed.
     Send(Send<'a>),
     /// 08: receive, with room for so many bytes.
     Receive { peer: Peer, room: u16 },
@@ -35,6 +35,8 @@ pub(crate) enum Command<'a> {
     Quota { peer: Peer, user: User },
     /// 0a: the holders question.
     Holders { peer: Peer, id: HandleId },
+    /// 0c: show the seed, with room for so many bytes.
+    ShowSeed { peer: Peer, room: u16 },
 }
 
 /// The operands of a send.
@@ -42,7 +44,7 @@ pub(crate) enum Command<'a> {
 pub(crate) struct Send<'a> {
     /// The sender.
     pub(crate) peer: Peer,
-    /// 1 to 8 destinations, as the sender's IDs.
+    /// 0 to 8 destinations, as the sender's IDs; 0 in a seed.
     pub(crate) destinations: Ids<'a>,
     /// 0 to 8 attached handles, as the sender's IDs.
     pub(crate) attached: Ids<'a>,
@@ -77,6 +79,11 @@ fn peer(number: u8) -> Result<Peer, Refusal> {
 
 fn user(number: u8) -> Result<User, Refusal> {
     User::new(number).ok_or(Refusal::Invalid)
+}
+
+fn peer_and_room(rest: &[u8]) -> Result<(Peer, u16), Refusal> {
+    let [acting, room @ ..] = fields::<3>(rest)?;
+    Ok((peer(*acting)?, u16::from_be_bytes(*room)))
 }
 
 fn peer_and_id(rest: &[u8]) -> Result<(Peer, HandleId), Refusal> {
@@ -129,11 +136,8 @@ impl<'a> Command<'a> {
             }
             0x07 => Command::Send(Send::parse(rest)?),
             0x08 => {
-                let [acting, room @ ..] = fields::<3>(rest)?;
-                Command::Receive {
-                    peer: peer(*acting)?,
-                    room: u16::from_be_bytes(*room),
-                }
+                let (peer, room) = peer_and_room(rest)?;
+                Command::Receive { peer, room }
             }
             0x09 => {
                 let [acting, of_user] = fields::<2>(rest)?;
@@ -146,14 +150,18 @@ impl<'a> Command<'a> {
                 let (peer, id) = peer_and_id(rest)?;
                 Command::Holders { peer, id }
             }
+            0x0c => {
+                let (peer, room) = peer_and_room(rest)?;
+                Command::ShowSeed { peer, room }
+            }
             _ => return Err(Refusal::UnknownCommand),
         })
     }
 }
 
 impl<'a> Send<'a> {
-    /// Reads what follows the command byte. Order: under 6 bytes, peer, nd 0,
-    /// sizes, length.
+    /// Reads what follows the command byte. Order: under 6 bytes, peer, sizes,
+    /// length. nd 0 is a seed (document 02, No. 1), of the same sizes.
     #[inline]
     fn parse(rest: &'a [u8]) -> Result<Send<'a>, Refusal> {
         let ([acting, nd, nh, nb @ ..], body) =
@@ -161,9 +169,6 @@ impl<'a> Send<'a> {
         let peer = peer(*acting)?;
         let (nd, nh) = (usize::from(*nd), usize::from(*nh));
         let nb = usize::from(u16::from_be_bytes(*nb));
-        if nd == 0 {
-            return Err(Refusal::Invalid);
-        }
         if nd > MAX_DESTINATIONS || nh > MAX_ATTACHED || nb > MAX_PAYLOAD {
             return Err(Refusal::TooLarge);
         }

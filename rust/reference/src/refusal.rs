@@ -10,7 +10,7 @@ pub enum Refusal {
     NoHandle = 6,
     /// EBADF: a peer never opened.
     NeverOpened = 9,
-    /// EAGAIN: nothing queued.
+    /// EAGAIN: nothing queued, or no seed set.
     NothingQueued = 11,
     /// EEXIST: open of an open peer, or create with an ID the peer holds.
     Exists = 17,
@@ -20,7 +20,7 @@ pub enum Refusal {
     UnknownCommand = 25,
     /// ENOSPC: create with 16 nodes counted.
     NoRoom = 28,
-    /// ERANGE: the next message is over the room offered.
+    /// ERANGE: the next message, or the seed, is over the room offered.
     OverRoom = 34,
     /// EOVERFLOW: 2^40 - 1 commands accepted already.
     Overflow = 75,

@@ -94,6 +94,8 @@ struct Phase {
     send: usize,
     receive: usize,
     question: usize,
+    /// Seeds, half of them set and half shown.
+    seed: usize,
     /// How often a send goes to the peer in focus, in percent.
     focus: usize,
     /// How often a send has attached handles, in percent.
@@ -110,6 +112,7 @@ const MIXED: Phase = Phase {
     send: 25,
     receive: 25,
     question: 4,
+    seed: 4,
     focus: 30,
     attach: 40,
     large: 10,
@@ -136,7 +139,7 @@ const GIVEN_BACK: Phase = Phase {
 };
 
 /// The phases of the legal profile, taken at random.
-const PHASES: [Phase; 7] = [
+const PHASES: [Phase; 8] = [
     MIXED,
     // Queues fill.
     Phase {
@@ -185,6 +188,17 @@ const PHASES: [Phase; 7] = [
     },
     // Handles are given back: release notices.
     GIVEN_BACK,
+    // Seeds are set and shown, and their nodes go.
+    Phase {
+        create: 20,
+        destroy: 10,
+        release: 60,
+        send: 8,
+        receive: 8,
+        seed: 60,
+        attach: 85,
+        ..MIXED
+    },
 ];
 
 const QUOTA: Phase = Phase {
@@ -195,6 +209,7 @@ const QUOTA: Phase = Phase {
     send: 70,
     receive: 16,
     question: 12,
+    seed: 3,
     focus: 85,
     attach: 50,
     large: 30,
@@ -208,6 +223,7 @@ const CHURN: Phase = Phase {
     send: 18,
     receive: 12,
     question: 4,
+    seed: 12,
     focus: 30,
     attach: 85,
     large: 3,
@@ -396,9 +412,12 @@ impl Generator {
             send,
             receive,
             question,
+            seed,
             ..
         } = self.phase;
-        let weights = [create, destroy, release, transfer, send, receive, question];
+        let weights = [
+            create, destroy, release, transfer, send, receive, seed, question,
+        ];
         let mut at = self.random.below(weights.iter().sum());
         let command = weights
             .iter()
@@ -439,6 +458,7 @@ impl Generator {
             }
             4 => self.draft_send(peer),
             5 => self.draft_receive(),
+            6 => self.draft_seed(peer),
             _ => self.draft_question(peer),
         }
     }
@@ -503,6 +523,25 @@ impl Generator {
         } else {
             1 + self.random.below(MAX_DESTINATIONS)
         };
+        let (nh, nb) = self.sizes(attach, large);
+        let reaches_focus = self
+            .bus
+            .handles(peer)
+            .iter()
+            .any(|view| view.live && view.owner == focus);
+        self.start(0x07, peer);
+        self.frame.extend([nd as u8, nh as u8]);
+        self.frame.extend((nb as u16).to_be_bytes());
+        for _ in 0..nd {
+            let to_focus = reaches_focus && self.random.chance(focused);
+            let id = self.held(peer, |view| view.live && (view.owner == focus || !to_focus));
+            self.frame.extend(id.to_bytes());
+        }
+        self.draft_contents(peer, nh, nb);
+    }
+
+    /// How many attached handles and payload bytes.
+    fn sizes(&mut self, attach: usize, large: usize) -> (usize, usize) {
         let nh = if self.random.chance(attach) {
             1 + self.random.below(MAX_ATTACHED)
         } else {
@@ -517,19 +556,11 @@ impl Generator {
         } else {
             self.random.below(12)
         };
-        let reaches_focus = self
-            .bus
-            .handles(peer)
-            .iter()
-            .any(|view| view.live && view.owner == focus);
-        self.start(0x07, peer);
-        self.frame.extend([nd as u8, nh as u8]);
-        self.frame.extend((nb as u16).to_be_bytes());
-        for _ in 0..nd {
-            let to_focus = reaches_focus && self.random.chance(focused);
-            let id = self.held(peer, |view| view.live && (view.owner == focus || !to_focus));
-            self.frame.extend(id.to_bytes());
-        }
+        (nh, nb)
+    }
+
+    /// The attached handles, of live and of destroyed nodes, and the payload.
+    fn draft_contents(&mut self, peer: Peer, nh: usize, nb: usize) {
         for _ in 0..nh {
             let id = self.held(peer, |_| true);
             self.frame.extend(id.to_bytes());
@@ -540,6 +571,36 @@ impl Generator {
         }
     }
 
+    /// A seed that is set, or one that is shown, mostly where there is one.
+    fn draft_seed(&mut self, peer: Peer) {
+        if self.random.chance(50) {
+            let Phase { attach, large, .. } = self.phase;
+            let (nh, nb) = self.sizes(attach, large);
+            self.start(0x07, peer);
+            self.frame.extend([0, nh as u8]);
+            self.frame.extend((nb as u16).to_be_bytes());
+            return self.draft_contents(peer, nh, nb);
+        }
+        let seeded: Vec<Peer> = Peer::all().filter(|p| self.bus.has_seed(*p)).collect();
+        let peer = match self.random.pick(&seeded) {
+            Some(peer) if !self.random.chance(3) => peer,
+            _ => peer,
+        };
+        let room = self.room();
+        self.start(0x0c, peer);
+        self.frame.extend(room.to_be_bytes());
+    }
+
+    /// A receiver's room: mostly more than enough.
+    fn room(&mut self) -> u16 {
+        let room = match self.random.below(10) {
+            0 => self.random.below(100),
+            1 => self.random.below(MAX_PAYLOAD + 8 * MAX_ATTACHED + 1),
+            _ => 0xffff,
+        };
+        room as u16
+    }
+
     fn draft_receive(&mut self) {
         let waiting: Vec<Peer> = Peer::all()
             .filter(|peer| self.bus.queued(*peer) > 0)
@@ -548,13 +609,9 @@ impl Generator {
             Some(peer) if !self.random.chance(2) => peer,
             _ => self.peer(),
         };
-        let room = match self.random.below(10) {
-            0 => self.random.below(100),
-            1 => self.random.below(MAX_PAYLOAD + 8 * MAX_ATTACHED + 1),
-            _ => 0xffff,
-        };
+        let room = self.room();
         self.start(0x08, peer);
-        self.frame.extend((room as u16).to_be_bytes());
+        self.frame.extend(room.to_be_bytes());
     }
 
     fn draft_question(&mut self, peer: Peer) {
@@ -614,15 +671,20 @@ impl Generator {
             7 => self.frame[len - 1] = random.below(10) as u8,
             8 => {
                 // Another command over the same operands.
-                self.frame[0] = 1 + random.below(10) as u8;
-                let right = [3, 2, 10, 10, 10, 11, 6, 4, 3, 10][usize::from(self.frame[0]) - 1];
-                self.frame.resize(right, 0);
+                let lengths = [3, 2, 10, 10, 10, 11, 6, 4, 3, 10, 6, 4];
+                let command = random.below(lengths.len());
+                self.frame[0] = 1 + command as u8;
+                self.frame.resize(lengths[command], 0);
             }
             9 | 10 => {
-                // A send with a number at or over its limit, sometimes of
-                // the length it asks for.
+                // A send or a seed with a number at or over its limit,
+                // sometimes of the length it asks for.
                 let peer = random.below(10) as u8;
-                let nd = random.below(11) as u8;
+                let nd = if random.chance(30) {
+                    0
+                } else {
+                    random.below(11)
+                } as u8;
                 let nh = random.below(11) as u8;
                 let nb = [0, 1, 511, 512, 513, 0xffff][random.below(6)] as u16;
                 self.frame.clear();

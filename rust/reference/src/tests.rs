@@ -1,4 +1,5 @@
-//! Tests for the clauses of document 01 that are easy to get wrong.
+//! Tests for the clauses of document 01 and of document 02, No. 1, that are easy to
+//! get wrong.
 //! Frames and answers are in hexadecimal; blanks are for the reader.
 
 use std::cell::RefCell;
@@ -126,11 +127,15 @@ fn order_of_refusals() {
             ("0300 0000000000000004", "09"),
             ("0600 0000000000000004 08", "16"),
             ("0900 04", "16"),
-            // Send: under 6 bytes, peer, nd 0, sizes, length.
+            // Send: under 6 bytes, peer, sizes, length; nd 0 is a seed.
             ("07", "16"),
             ("0700 09 09 ff", "16"),
             ("0708 09 00 0000", "16"),
-            ("0700 00 09 ffff", "16"),
+            ("0700 00 09 ffff", "5a"),
+            ("0700 00 00 0201", "5a"),
+            ("0700 00 01 0000", "16"),
+            ("0700 00 00 0000 00", "16"),
+            ("0700 00 00 0000", "09"),
             ("0700 09 00 0000", "5a"),
             ("0700 01 09 0000", "5a"),
             ("0700 01 00 0201", "5a"),
@@ -141,6 +146,12 @@ fn order_of_refusals() {
             ("0800 0000", "09"),
             ("0900 00", "09"),
             ("0a00 0000000000000004", "09"),
+            // Laid out as 08.
+            ("0c", "16"),
+            ("0c00 00", "16"),
+            ("0c00 000000", "16"),
+            ("0c08 0000", "16"),
+            ("0c00 0000", "09"),
         ],
     );
     bus.accept(&["010000", "010101", "010202", "0202"]);
@@ -158,6 +169,11 @@ fn order_of_refusals() {
             ("010004", "16"),
             ("0202", "6c"),
             ("0902 00", "6c"),
+            ("0702 00 01 0000 0000000000000004", "6c"),
+            ("0c02 0000", "6c"),
+            // The seed: every attached ID, then nothing more to test.
+            ("0700 00 01 0000 0000000000000004", "06"),
+            ("0c00 0000", "0b"),
         ],
     );
     bus.accept(&["0300 0000000000000004", "0300 0000000000000008"]);
@@ -638,6 +654,169 @@ fn room_not_used_again_while_named() {
     );
 }
 
+/// Document 02, No. 1: a seed is set, shown twice, replaced, dropped.
+#[test]
+fn seed_is_shown_and_stays() {
+    let mut bus = four_users();
+    bus.accept(&["0300 000000000000000c"]);
+    bus.accept(&["0700 00 02 0001 000000000000000c 0000000000000007 33"]);
+    let shown = "00 04 ffffffffffffffff 00 00 0001 02 000000000000000c 0000000000000007 33";
+    check(
+        &mut bus,
+        &[
+            // Nothing is queued, and nobody is charged.
+            ("0800 ffff", "0b"),
+            ("0900 00", "00 0000 0000 0000 0020 0800 0020"),
+            ("0c00 0010", "22"),
+            ("0c00 0011", shown),
+            ("0c00 ffff", shown),
+            // Each showing raised the counts: c is at 3.
+            ("0500 000000000000000c", "00"),
+            ("0500 000000000000000c", "00"),
+            ("0800 ffff", "00 03 000000000000000c"),
+            ("0500 000000000000000c", "01"),
+            // 7 is at 3, then gone; the seed brings it back under a new ID.
+            ("0500 0000000000000007", "00"),
+            ("0500 0000000000000007", "00"),
+            ("0500 0000000000000007", "00"),
+            (
+                "0c00 ffff",
+                "00 04 ffffffffffffffff 00 00 0001 02 000000000000000c 000000000000000b 33",
+            ),
+        ],
+    );
+}
+
+#[test]
+fn seed_replaced_or_kept() {
+    let mut bus = four_users();
+    bus.accept(&["0702 00 00 0002 0102", "0702 00 01 0000 0000000000000007"]);
+    check(
+        &mut bus,
+        &[
+            // A refused replacement keeps the old one; the user is the peer's own.
+            ("0702 00 02 0000 0000000000000007 0000000000000008", "06"),
+            ("0702 00 09 0000", "5a"),
+            (
+                "0c02 0008",
+                "00 04 ffffffffffffffff 02 00 0000 01 0000000000000007",
+            ),
+            // The empty seed is a seed.
+            ("0702 00 00 0000", "00"),
+            ("0c02 0000", "00 04 ffffffffffffffff 02 00 0000 00"),
+            ("0c01 0000", "0b"),
+        ],
+    );
+}
+
+#[test]
+fn seed_of_a_full_peer_and_of_a_dead_node() {
+    let mut bus = four_users();
+    for _ in 0..32 {
+        bus.accept(&[&send(0, &[7], &[], &[])]);
+    }
+    check(
+        &mut bus,
+        &[
+            ("0700 01 00 0000 0000000000000007", "7a"),
+            ("0404 0000000000000008", "00"),
+            ("0700 01 00 0000 0000000000000007", "71"),
+            // Neither 122 nor 113: there is no destination.
+            ("0700 00 01 0000 0000000000000007", "00"),
+            (
+                "0c00 ffff",
+                "00 04 ffffffffffffffff 00 00 0000 01 ffffffffffffffff",
+            ),
+            // Nothing was added for it.
+            ("0500 0000000000000007", "00"),
+            ("0500 0000000000000007", "06"),
+        ],
+    );
+}
+
+#[test]
+fn seed_shown_withdraws_a_release_notice() {
+    let mut bus = Bus::new();
+    bus.accept(&["010000", "010101", "0300 0000000000000004"]);
+    check(
+        &mut bus,
+        &[
+            ("0600 0000000000000004 01", "00 0000000000000007"),
+            ("0701 00 02 0000 0000000000000007 0000000000000007", "00"),
+            ("0501 0000000000000007", "00"),
+            // The seed holds no count: the release notice is withdrawn only now.
+            (
+                "0c01 ffff",
+                "00 04 ffffffffffffffff 01 00 0000 02 000000000000000b 000000000000000b",
+            ),
+            ("0800 ffff", "0b"),
+            ("0501 000000000000000b", "00"),
+            ("0501 000000000000000b", "00"),
+            ("0800 ffff", "00 03 0000000000000004"),
+        ],
+    );
+}
+
+#[test]
+fn seed_keeps_the_room() {
+    let mut bus = Bus::new();
+    bus.accept(&["010000", "010101"]);
+    for n in 0..16 {
+        bus.accept(&[&format!("0300{}", id(4 * n))]);
+    }
+    for (node, given) in [(4, 7), (8, 11)] {
+        let frame = format!("0600{}01", id(node));
+        assert_eq!(bus.ask(&frame), format!("00{}", id(given)));
+    }
+    // Peer 1's seed names 4 and 8, peer 0's names 4.
+    bus.accept(&["0701 00 02 0000 0000000000000007 000000000000000b"]);
+    bus.accept(&["0700 00 01 0000 0000000000000004"]);
+    for node in [4, 8] {
+        bus.accept(&[&format!("0400{}", id(node)), &format!("0500{}", id(node))]);
+        bus.accept(&[&format!("0501{}", id(node + 3))]);
+    }
+    check(
+        &mut bus,
+        &[
+            ("0300 0000000000000040", "1c"),
+            ("0701 00 01 0000 0000000000000007", "06"),
+            ("0300 0000000000000040", "1c"),
+            ("0701 00 00 0000", "00"),
+            ("0300 0000000000000008", "00"),
+            ("0300 0000000000000040", "1c"),
+            // An ID chosen again is another node: the seed shows the old one.
+            (
+                "0c00 ffff",
+                "00 04 ffffffffffffffff 00 00 0000 01 ffffffffffffffff",
+            ),
+            ("0700 00 00 0000", "00"),
+            ("0300 0000000000000004", "00"),
+        ],
+    );
+}
+
+#[test]
+fn disconnect_drops_the_seed() {
+    let mut bus = Bus::new();
+    bus.accept(&["010000", "010101"]);
+    for n in 0..16 {
+        bus.accept(&[&format!("0300{}", id(4 * n))]);
+    }
+    bus.ask("0600 0000000000000004 01");
+    bus.accept(&["0701 00 01 0000 0000000000000007"]);
+    bus.accept(&["0400 0000000000000004", "0500 0000000000000004"]);
+    check(
+        &mut bus,
+        &[
+            ("0501 0000000000000007", "00"),
+            ("0300 0000000000000040", "1c"),
+            ("0201", "00"),
+            ("0c01 ffff", "6c"),
+            ("0300 0000000000000040", "00"),
+        ],
+    );
+}
+
 #[test]
 fn overflow() {
     let most = (1 << 40) - 1;
@@ -657,6 +836,8 @@ fn overflow() {
             ("0300 0000000000000006", "16"),
             ("0700 09 00 0000", "5a"),
             ("0b", "19"),
+            ("0700 00 00 0000", "4b"),
+            ("0c00 ffff", "4b"),
             ("0207", "4b"),
             ("0900 04", "16"),
             ("0907 00", "09"),
@@ -693,6 +874,7 @@ fn handle_table_against_a_map() {
 #[test]
 fn random_scripts_keep_the_sums_and_reach_deep_states() {
     let (mut deepest, mut most_handles, mut legal, mut lines) = (0, 0, 0, 0);
+    let mut seeded = 0;
     for profile in Profile::ALL {
         for seed in 0..4 {
             let mut generator = Generator::new(seed, 2000, profile);
@@ -704,6 +886,8 @@ fn random_scripts_keep_the_sums_and_reach_deep_states() {
                     deepest = deepest.max(generator.bus().queued(peer));
                     most_handles = most_handles.max(generator.bus().handles(peer).len());
                 }
+                let seeds = Peer::all().filter(|peer| generator.bus().has_seed(*peer));
+                seeded = seeded.max(seeds.count());
             }
             if profile == Profile::Legal {
                 legal += generator.accepted();
@@ -714,6 +898,7 @@ fn random_scripts_keep_the_sums_and_reach_deep_states() {
     assert!(deepest >= 50, "deepest queue {deepest}");
     assert!(most_handles >= 40, "most handles {most_handles}");
     assert!(legal * 10 >= lines * 9, "{legal} of {lines} accepted");
+    assert!(seeded >= 6, "peers with a seed {seeded}");
 }
 
 #[test]

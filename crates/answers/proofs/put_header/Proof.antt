@@ -47,7 +47,7 @@ same-length : tie.Need-same-length
 same-length c = simp length-set (simp length-set at ((c .before .before .before .put-short) .kept .0) ∙ simp length-set at ((c .before .before .before .before .before .before .before .before .before .before .put-id) .kept .0))
 
 returns : tie.Need-returns
-returns c = (omega (arith, (c .before .before .before .before .before .before .before .before .before .before .put-id) .ensures .0, (c .before .before .before .put-short) .ensures .0), header-stores ((c .before .before .before .before .before .before .before .before .before .before .before .before .before .before .args) .out .now) _ _ _ _ ((c .before .before .before .before .before .before .before .before .before .before .before .before .before .before .args) .h) ((c .before .before .before .before .before .before .before .before .before .before .put-id) .ensures .1) ((c .before .before .before .before .before .before .before .before .before .before .put-id) .ensures .0) ((c .before .before .before .put-short) .ensures .1) ((c .before .before .before .put-short) .ensures .0))
+returns c = (omega (arith, (c .before .before .before .before .before .before .before .before .before .before .put-id) .ensures .0, (c .before .before .before .put-short) .ensures .0), header-stores ((c .before .before .before .before .before .before .before .before .before .before .before .before .before .before .args) .out .now) _ _ _ _ _ ((c .before .before .before .before .before .before .before .before .before .before .before .before .before .before .args) .h) ((c .before .before .before .before .before .before .before .before .before .before .put-id) .ensures .1) ((c .before .before .before .before .before .before .before .before .before .before .put-id) .ensures .0) ((c .before .before .before .put-short) .ensures .1) ((c .before .before .before .put-short) .ensures .0))
 
 pub put-header-spec : {M : Type 1} → statement M
 put-header-spec =

@@ -37,8 +37,8 @@ same-length c = search needs
 
 returns : tie.Need-returns
 returns c = let a = (c .before .before .before .before .before .before .before .before .before .before .before .before .before .before .before .before .before .before .before .args) in (
-  message-end (a .h) (a .ids .now) (a .payload .now) _ _ _ _ _ ((c .before .before .before .before .before .before .before .before .before .before .before .before .before .before .put-header) .ensures .0) ((c .before .before .before .before .before .before .before .before .before .before .before .least) .ensures) ((c .before .before .before .before .before .before .before .before .put-ids) .ensures .0) ((c .before .before .before .before .before .least2) .ensures) refl,
-  message-stores (a .h) (a .ids .now) (a .payload .now) (a .out .now) _ _ _ _ _ _ _ ((c .before .before .before .before .before .before .before .before .before .before .before .before .before .before .put-header) .ensures .1) ((c .before .before .before .before .before .before .before .before .before .before .before .before .before .before .put-header) .ensures .0) ((c .before .before .before .before .before .before .before .before .before .before .before .least) .ensures) ((c .before .before .before .before .before .before .before .before .put-ids) .ensures .1) ((c .before .before .before .before .before .before .before .before .put-ids) .ensures .0) ((c .before .before .before .before .before .least2) .ensures) ((c .before .before .put) .ensures),
+  message-end (a .kind) (a .h) (a .ids .now) (a .payload .now) _ _ _ _ _ ((c .before .before .before .before .before .before .before .before .before .before .before .before .before .before .put-header) .ensures .0) ((c .before .before .before .before .before .before .before .before .before .before .before .least) .ensures) ((c .before .before .before .before .before .before .before .before .put-ids) .ensures .0) ((c .before .before .before .before .before .least2) .ensures) refl,
+  message-stores (a .kind) (a .h) (a .ids .now) (a .payload .now) (a .out .now) _ _ _ _ _ _ _ ((c .before .before .before .before .before .before .before .before .before .before .before .before .before .before .put-header) .ensures .1) ((c .before .before .before .before .before .before .before .before .before .before .before .before .before .before .put-header) .ensures .0) ((c .before .before .before .before .before .before .before .before .before .before .before .least) .ensures) ((c .before .before .before .before .before .before .before .before .put-ids) .ensures .1) ((c .before .before .before .before .before .before .before .before .put-ids) .ensures .0) ((c .before .before .before .before .before .least2) .ensures) ((c .before .before .put) .ensures),
 )
 
 pub put-message-spec : {M : Type 1} → statement M

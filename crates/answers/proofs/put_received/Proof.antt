@@ -24,6 +24,12 @@ enum-known-r-3 c = search needs
 put-notice-requires-2 : tie.Need-put-notice-requires-2
 put-notice-requires-2 c κs = search needs
 
+enum-known-r-4 : tie.Need-enum-known-r-4
+enum-known-r-4 c = search needs
+
+put-message-requires-2 : tie.Need-put-message-requires-2
+put-message-requires-2 c κs = search needs
+
 same-length : tie.Need-same-length
 same-length c = search needs
 
@@ -45,6 +51,13 @@ returns-3 : tie.Need-returns-3
 unfolding receivedBytes
 returns-3 c = rw ((c .before .before .before .before .before .r3) .given .1) (omega (arith, (c .before .before .put-notice2) .ensures .0, notice-length 3 ((c .before .before .before .before .before .r3) .given .0 .0)), (c .before .before .put-notice2) .ensures .1)
 
+same-length-4 : tie.Need-same-length-4
+same-length-4 c = search needs
+
+returns-4 : tie.Need-returns-4
+unfolding receivedBytes
+returns-4 c = rw ((c .before .before .before .before .before .r4) .given .1) ((c .before .before .put-message2) .ensures)
+
 pub put-received-spec : {M : Type 1} → statement M
 put-received-spec =
     tie.close
@@ -55,9 +68,13 @@ put-received-spec =
     put-notice-requires
     enum-known-r-3
     put-notice-requires-2
+    enum-known-r-4
+    put-message-requires-2
     same-length
     returns
     same-length-2
     returns-2
     same-length-3
-    returns-3)
+    returns-3
+    same-length-4
+    returns-4)

@@ -8,7 +8,7 @@ returns : tie.Need-returns
 returns c = no-room _ _ _ ((c .if1) .taken)
 
 obey-requires : tie.Need-obey-requires
-obey-requires c κs = (c .before .before .before .before .before .before .before .before .before .before .if1) .left
+obey-requires c κs = (c .before .before .before .before .before .before .before .before .before .before .before .if1) .left
 
 same-length : tie.Need-same-length
 same-length c = search needs
@@ -40,8 +40,11 @@ same-length-9 c = search needs
 same-length-10 : tie.Need-same-length-10
 same-length-10 c = search needs
 
+same-length-11 : tie.Need-same-length-11
+same-length-11 c = search needs
+
 returns-2 : tie.Need-returns-2
-returns-2 c = (c .before .before .before .before .before .before .before .before .before .before .before .before .before .before .before .before .before .before .before .before .obey) .ensures
+returns-2 c = (c .before .before .before .before .before .before .before .before .before .before .before .before .before .before .before .before .before .before .before .before .before .before .obey) .ensures
 
 pub command-spec : {M : Type 1} → statement M
 command-spec =
@@ -59,4 +62,5 @@ command-spec =
     same-length-8
     same-length-9
     same-length-10
+    same-length-11
     returns-2)

@@ -35,6 +35,9 @@ same-length-8 c = search needs
 same-length-9 : tie.Need-same-length-9
 same-length-9 c = search needs
 
+same-length-10 : tie.Need-same-length-10
+same-length-10 c = search needs
+
 returns : tie.Need-returns
 returns c = fresh-refused _ ((c .before .sized) .ensures) (not-true _ ((c .if1) .taken))
 
@@ -65,8 +68,8 @@ clear-words-requires-4 c κs = search needs
 clear-bytes-requires-2 : tie.Need-clear-bytes-requires-2
 clear-bytes-requires-2 c κs = search needs
 
-same-length-10 : tie.Need-same-length-10
-same-length-10 c = search needs
+clear-bytes-requires-3 : tie.Need-clear-bytes-requires-3
+clear-bytes-requires-3 c κs = search needs
 
 same-length-11 : tie.Need-same-length-11
 same-length-11 c = search needs
@@ -92,8 +95,14 @@ same-length-17 c = search needs
 same-length-18 : tie.Need-same-length-18
 same-length-18 c = search needs
 
+same-length-19 : tie.Need-same-length-19
+same-length-19 c = search needs
+
+same-length-20 : tie.Need-same-length-20
+same-length-20 c = search needs
+
 returns-2 : tie.Need-returns-2
-returns-2 c = fresh-made _ ((c .before .before .before .before .before .before .before .before .before .before .before .before .before .before .before .before .before .before .before .before .before .before .before .before .before .before .before .before .before .before .before .before .before .before .before .before .before .sized) .ensures) (not-false _ ((c .before .before .before .before .before .before .before .before .before .before .before .before .before .before .before .before .before .before .before .before .before .before .before .before .before .before .before .before .before .before .before .before .before .before .before .before .if1) .left)) ((c .before .before .before .before .before .before .before .before .before .before .before .before .before .before .before .before .before .before .before .before .before .before .before .before .before .before .before .before .before .before .before .before .before .before .clear-words) .ensures) ((c .before .before .before .before .before .before .before .before .before .before .before .before .before .before .before .before .before .before .before .before .before .before .before .before .before .before .before .before .before .before .clear-words2) .ensures) ((c .before .before .before .before .before .before .before .before .before .before .before .before .before .before .before .before .before .before .before .before .before .before .before .before .before .before .clear-words3) .ensures) ((c .before .before .before .before .before .before .before .before .before .before .before .before .before .before .before .before .before .before .before .before .before .before .clear-shorts) .ensures) ((c .before .before .before .before .before .before .before .before .before .before .before .before .before .before .before .before .before .before .clear-shorts2) .ensures) ((c .before .before .before .before .before .before .before .before .before .before .before .before .before .before .clear-shorts3) .ensures) ((c .before .before .before .before .before .before .before .before .before .before .clear-bytes) .ensures) ((c .before .before .before .before .before .before .clear-words4) .ensures) ((c .before .before .clear-bytes2) .ensures)
+returns-2 c = fresh-made _ ((c .before .before .before .before .before .before .before .before .before .before .before .before .before .before .before .before .before .before .before .before .before .before .before .before .before .before .before .before .before .before .before .before .before .before .before .before .before .before .before .before .before .sized) .ensures) (not-false _ ((c .before .before .before .before .before .before .before .before .before .before .before .before .before .before .before .before .before .before .before .before .before .before .before .before .before .before .before .before .before .before .before .before .before .before .before .before .before .before .before .before .if1) .left)) ((c .before .before .before .before .before .before .before .before .before .before .before .before .before .before .before .before .before .before .before .before .before .before .before .before .before .before .before .before .before .before .before .before .before .before .before .before .before .before .clear-words) .ensures) ((c .before .before .before .before .before .before .before .before .before .before .before .before .before .before .before .before .before .before .before .before .before .before .before .before .before .before .before .before .before .before .before .before .before .before .clear-words2) .ensures) ((c .before .before .before .before .before .before .before .before .before .before .before .before .before .before .before .before .before .before .before .before .before .before .before .before .before .before .before .before .before .before .clear-words3) .ensures) ((c .before .before .before .before .before .before .before .before .before .before .before .before .before .before .before .before .before .before .before .before .before .before .before .before .before .before .clear-shorts) .ensures) ((c .before .before .before .before .before .before .before .before .before .before .before .before .before .before .before .before .before .before .before .before .before .before .clear-shorts2) .ensures) ((c .before .before .before .before .before .before .before .before .before .before .before .before .before .before .before .before .before .before .clear-shorts3) .ensures) ((c .before .before .before .before .before .before .before .before .before .before .before .before .before .before .clear-bytes) .ensures) ((c .before .before .before .before .before .before .before .before .before .before .clear-words4) .ensures) ((c .before .before .before .before .before .before .clear-bytes2) .ensures) ((c .before .before .clear-bytes3) .ensures)
 
 pub fresh-spec : {M : Type 1} → statement M
 fresh-spec =
@@ -109,6 +118,7 @@ fresh-spec =
     same-length-7
     same-length-8
     same-length-9
+    same-length-10
     returns
     clear-words-requires
     clear-words-requires-2
@@ -119,7 +129,7 @@ fresh-spec =
     clear-bytes-requires
     clear-words-requires-4
     clear-bytes-requires-2
-    same-length-10
+    clear-bytes-requires-3
     same-length-11
     same-length-12
     same-length-13
@@ -128,4 +138,6 @@ fresh-spec =
     same-length-16
     same-length-17
     same-length-18
+    same-length-19
+    same-length-20
     returns-2)

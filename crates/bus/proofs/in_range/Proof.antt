@@ -5,7 +5,7 @@ use Prim.Native.Nat.{_-_, _≤_}
 use mathlib.Core.Path.{_≡_}
 use mathlib.Core.Bool.{true}
 use borrow.Author.Tests.{not-true, not-false}
-use Rattle.bus.specs.Command.{peersOk}
+use Rattle.bus_model.specs.Command.{peersOk}
 use Rattle.bus.specs.Code.{none-yet, one-more, bad-peer, good-peers}
 use borrow.Author.Needs.{needs}
 use Rattle.bus.proofs.in_range.Statement.{statement}

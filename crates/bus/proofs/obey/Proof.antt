@@ -43,8 +43,11 @@ same-length-9 c = search needs
 same-length-10 : tie.Need-same-length-10
 same-length-10 c = search needs
 
+same-length-11 : tie.Need-same-length-11
+same-length-11 c = search needs
+
 returns : tie.Need-returns
-returns c = not-sound _ _ _ ((c .before .before .before .before .before .before .before .before .before .before .before .before .before .before .before .before .before .before .before .before .before .before .before .before .before .before) .pre) ((c .before .before .before .before .before .is-sound) .ensures) (not-true _ ((c .before .before .before .before .if1) .taken)) ((c .before .before .write-refusal) .ensures)
+returns c = not-sound _ _ _ ((c .before .before .before .before .before .before .before .before .before .before .before .before .before .before .before .before .before .before .before .before .before .before .before .before .before .before .before .before) .pre) ((c .before .before .before .before .before .is-sound) .ensures) (not-true _ ((c .before .before .before .before .if1) .taken)) ((c .before .before .write-refusal) .ensures)
 
 parse-requires : tie.Need-parse-requires
 parse-requires c κs = search needs
@@ -59,10 +62,7 @@ enum-known-c : tie.Need-enum-known-c
 enum-known-c c = search needs
 
 execute-requires : tie.Need-execute-requires
-execute-requires c κs = let z = sound-then _ ((c .before .before .before .before .before .before .before .before .before .before .before .before .before .before .before .is-sound) .ensures) (not-false _ ((c .before .before .before .before .before .before .before .before .before .before .before .before .before .before .if1) .left)) in (z .0, z .1, legal-command _ _ (sym ((c .before .before .before .before .before .before .before .before .before .before .before .before .before .parse) .ensures) ∙ (c .before .before .before .before .before .before .before .before .before .before .before .c) .given .1))
-
-same-length-11 : tie.Need-same-length-11
-same-length-11 c = search needs
+execute-requires c κs = let z = sound-then _ ((c .before .before .before .before .before .before .before .before .before .before .before .before .before .before .before .before .is-sound) .ensures) (not-false _ ((c .before .before .before .before .before .before .before .before .before .before .before .before .before .before .before .if1) .left)) in (z .0, z .1, legal-command _ _ (sym ((c .before .before .before .before .before .before .before .before .before .before .before .before .before .before .parse) .ensures) ∙ (c .before .before .before .before .before .before .before .before .before .before .before .before .c) .given .1))
 
 same-length-12 : tie.Need-same-length-12
 same-length-12 c = search needs
@@ -91,14 +91,14 @@ same-length-19 c = search needs
 same-length-20 : tie.Need-same-length-20
 same-length-20 c = search needs
 
-returns-2 : tie.Need-returns-2
-returns-2 c = not-read _ _ _ ((c .before .before .before .before .before .before .before .before .before .before .before .before .before .before .before .before .before .before .before .before .before .before .before .before .before .before .before .before .before .before) .pre) ((c .before .before .before .before .before .before .before .before .before .is-sound) .ensures) (not-false _ ((c .before .before .before .before .before .before .before .before .if1) .left)) ((c .before .before .before .before .before .before .before .parse) .ensures) ((c .before .before .before .before .before .n) .given .1) ((c .before .before .write-refusal2) .ensures)
-
 same-length-21 : tie.Need-same-length-21
 same-length-21 c = search needs
 
 same-length-22 : tie.Need-same-length-22
 same-length-22 c = search needs
+
+returns-2 : tie.Need-returns-2
+returns-2 c = not-read _ _ _ ((c .before .before .before .before .before .before .before .before .before .before .before .before .before .before .before .before .before .before .before .before .before .before .before .before .before .before .before .before .before .before .before .before) .pre) ((c .before .before .before .before .before .before .before .before .before .is-sound) .ensures) (not-false _ ((c .before .before .before .before .before .before .before .before .if1) .left)) ((c .before .before .before .before .before .before .before .parse) .ensures) ((c .before .before .before .before .before .n) .given .1) ((c .before .before .write-refusal2) .ensures)
 
 same-length-23 : tie.Need-same-length-23
 same-length-23 c = search needs
@@ -124,8 +124,17 @@ same-length-29 c = search needs
 same-length-30 : tie.Need-same-length-30
 same-length-30 c = search needs
 
+same-length-31 : tie.Need-same-length-31
+same-length-31 c = search needs
+
+same-length-32 : tie.Need-same-length-32
+same-length-32 c = search needs
+
+same-length-33 : tie.Need-same-length-33
+same-length-33 c = search needs
+
 returns-3 : tie.Need-returns-3
-returns-3 c = was-read _ _ _ ((c .before .before .before .before .before .before .before .before .before .before .before .before .before .before .before .before .before .before .before .before .before .before .before .before .before .before .before .before .before .before .before .before .before .before .before .before .before .before .before .before .before .before .before .before .before .before .before .before .before .before .before .before .before .before .before .before .before) .pre) ((c .before .before .before .before .before .before .before .before .before .before .before .before .before .before .before .before .before .before .before .before .before .before .before .before .before .before .before .before .before .before .before .before .before .before .before .before .is-sound) .ensures) (not-false _ ((c .before .before .before .before .before .before .before .before .before .before .before .before .before .before .before .before .before .before .before .before .before .before .before .before .before .before .before .before .before .before .before .before .before .before .before .if1) .left)) ((c .before .before .before .before .before .before .before .before .before .before .before .before .before .before .before .before .before .before .before .before .before .before .before .before .before .before .before .before .before .before .before .before .before .before .parse) .ensures) ((c .before .before .before .before .before .before .before .before .before .before .before .before .before .before .before .before .before .before .before .before .before .before .before .before .before .before .before .before .before .before .before .before .c) .given .1) ((c .before .before .before .before .before .before .before .before .before .before .before .before .before .before .before .before .before .before .before .before .execute) .ensures)
+returns-3 c = was-read _ _ _ ((c .before .before .before .before .before .before .before .before .before .before .before .before .before .before .before .before .before .before .before .before .before .before .before .before .before .before .before .before .before .before .before .before .before .before .before .before .before .before .before .before .before .before .before .before .before .before .before .before .before .before .before .before .before .before .before .before .before .before .before .before .before .before) .pre) ((c .before .before .before .before .before .before .before .before .before .before .before .before .before .before .before .before .before .before .before .before .before .before .before .before .before .before .before .before .before .before .before .before .before .before .before .before .before .before .before .is-sound) .ensures) (not-false _ ((c .before .before .before .before .before .before .before .before .before .before .before .before .before .before .before .before .before .before .before .before .before .before .before .before .before .before .before .before .before .before .before .before .before .before .before .before .before .before .if1) .left)) ((c .before .before .before .before .before .before .before .before .before .before .before .before .before .before .before .before .before .before .before .before .before .before .before .before .before .before .before .before .before .before .before .before .before .before .before .before .before .parse) .ensures) ((c .before .before .before .before .before .before .before .before .before .before .before .before .before .before .before .before .before .before .before .before .before .before .before .before .before .before .before .before .before .before .before .before .before .before .before .c) .given .1) ((c .before .before .before .before .before .before .before .before .before .before .before .before .before .before .before .before .before .before .before .before .before .before .execute) .ensures)
 
 pub obey-spec : {M : Type 1} → statement M
 obey-spec =
@@ -143,13 +152,13 @@ obey-spec =
     same-length-8
     same-length-9
     same-length-10
+    same-length-11
     returns
     parse-requires
     enum-known-n
     write-refusal-requires-2
     enum-known-c
     execute-requires
-    same-length-11
     same-length-12
     same-length-13
     same-length-14
@@ -159,9 +168,9 @@ obey-spec =
     same-length-18
     same-length-19
     same-length-20
-    returns-2
     same-length-21
     same-length-22
+    returns-2
     same-length-23
     same-length-24
     same-length-25
@@ -170,4 +179,7 @@ obey-spec =
     same-length-28
     same-length-29
     same-length-30
+    same-length-31
+    same-length-32
+    same-length-33
     returns-3)

@@ -1,5 +1,5 @@
 -- `bus::sized` meets its contract: one law for each length that is wrong, and one for the last. Assumes nothing.
-use Rattle.bus.specs.Code.{wrong-peers, wrong-nodes, wrong-handles, wrong-charges, wrong-ends, wrong-entries, wrong-carried, wrong-numbers, all-but-pool}
+use Rattle.bus_model.specs.Sound.{wrong-peers, wrong-nodes, wrong-handles, wrong-charges, wrong-ends, wrong-entries, wrong-carried, wrong-numbers, wrong-pool, all-but-seeds}
 use Rattle.bus.proofs.sized.Statement.{statement}
 use Rattle.bus.proofs.sized.Tie as tie
 
@@ -28,7 +28,10 @@ returns-8 : tie.Need-returns-8
 returns-8 c = wrong-numbers _ (c .before .before .before .before .before .before .before .if1 .left) (c .before .before .before .before .before .before .if2 .left) (c .before .before .before .before .before .if3 .left) (c .before .before .before .before .if4 .left) (c .before .before .before .if5 .left) (c .before .before .if6 .left) (c .before .if7 .left) (c .if8 .taken)
 
 returns-9 : tie.Need-returns-9
-returns-9 c = all-but-pool _ (c .before .before .before .before .before .before .before .if1 .left) (c .before .before .before .before .before .before .if2 .left) (c .before .before .before .before .before .if3 .left) (c .before .before .before .before .if4 .left) (c .before .before .before .if5 .left) (c .before .before .if6 .left) (c .before .if7 .left) (c .if8 .left)
+returns-9 c = wrong-pool _ (c .before .before .before .before .before .before .before .before .if1 .left) (c .before .before .before .before .before .before .before .if2 .left) (c .before .before .before .before .before .before .if3 .left) (c .before .before .before .before .before .if4 .left) (c .before .before .before .before .if5 .left) (c .before .before .before .if6 .left) (c .before .before .if7 .left) (c .before .if8 .left) (c .if9 .taken)
+
+returns-10 : tie.Need-returns-10
+returns-10 c = all-but-seeds _ (c .before .before .before .before .before .before .before .before .if1 .left) (c .before .before .before .before .before .before .before .if2 .left) (c .before .before .before .before .before .before .if3 .left) (c .before .before .before .before .before .if4 .left) (c .before .before .before .before .if5 .left) (c .before .before .before .if6 .left) (c .before .before .if7 .left) (c .before .if8 .left) (c .if9 .left)
 
 pub sized-spec : {M : Type 1} → statement M
 sized-spec =
@@ -42,4 +45,5 @@ sized-spec =
     returns-6
     returns-7
     returns-8
-    returns-9)
+    returns-9
+    returns-10)

@@ -41,7 +41,7 @@ slice-reshare-prefix-answer-chunk : tie.Need-slice-reshare-prefix-answer-chunk
 slice-reshare-prefix-answer-chunk c = search needs
 
 slice-aggregate-answer-chunk : tie.Need-slice-aggregate-answer-chunk
-slice-aggregate-answer-chunk c = sym (length-take-le _ ((c .before .before .before .before .before .before .before .before .before .before .before .before .before .next-chunk) .last .0) (omega (arith, (c .before .before .before .before .before .before .before .before .before .before .before .before .before .next-chunk) .ensures .0, (c .before .before .before .before .before .before .before .before .before .before .before .before .before .next-chunk) .kept .0)))
+slice-aggregate-answer-chunk c = sym (length-take-le _ ((c .before .before .before .before .before .before .before .before .before .before .before .before .before .before .next-chunk) .last .0) (omega (arith, (c .before .before .before .before .before .before .before .before .before .before .before .before .before .before .next-chunk) .ensures .0, (c .before .before .before .before .before .before .before .before .before .before .before .before .before .before .next-chunk) .kept .0)))
 
 answer-chunk-requires : tie.Need-answer-chunk-requires
 answer-chunk-requires c κs = search needs
@@ -77,13 +77,16 @@ same-length-10 : tie.Need-same-length-10
 same-length-10 c = search needs
 
 same-length-11 : tie.Need-same-length-11
-same-length-11 c = omega (arith, (c .before .before .before .before .before .before .before .before .before .before .before .before .before .before .before .before .before .before .before .before .before .before .before .before .before .before .before .before .before .before .before .before .before .before .before .before .before .before .before .next-chunk) .kept .0, (c .before .before .carry) .kept .0)
+same-length-11 c = search needs
 
 same-length-12 : tie.Need-same-length-12
-same-length-12 c = search needs
+same-length-12 c = omega (arith, (c .before .before .before .before .before .before .before .before .before .before .before .before .before .before .before .before .before .before .before .before .before .before .before .before .before .before .before .before .before .before .before .before .before .before .before .before .before .before .before .before .before .before .next-chunk) .kept .0, (c .before .before .carry) .kept .0)
+
+same-length-13 : tie.Need-same-length-13
+same-length-13 c = search needs
 
 returns-2 : tie.Need-returns-2
-returns-2 c = ((c .before .before .carry) .ensures .0, λ z. let k = (c .before .before .carry) .ensures .1 z in goes-on _ _ ((c .before .before .before .before .before .before .before .before .before .before .before .before .before .before .before .before .before .before .before .before .before .before .before .before .before .before .before .before .before .before .before .before .before .before .before .before .before .before .before .before .before .before .before .before .before .before .before .before .before .before .before .before .args) .buf .now) ((c .before .before .before .before .before .before .before .before .before .before .before .before .before .before .before .before .before .before .before .before .before .before .before .before .before .before .before .before .before .before .before .before .before .before .before .before .before .before .before .next-chunk) .last .0) ((c .before .before .carry) .last .0) ((c .before .before .before .before .before .before .before .before .before .before .before .before .before .before .before .before .before .before .before .before .before .before .before .before .before .before .before .before .before .before .before .before .before .before .before .before .before .before .before .before .before .before .before .before .before .before .before .before .before .before .before .before .args) .held) ((c .before .before .before .before .before .before .before .before .before .before .before .before .before .before .before .before .before .before .before .before .before .before .before .before .before .before .before .before .before .before .before .before .before .before .before .before .before .before .before .next-chunk) .result) ((c .before .before .before .before .before .before .before .before .before .before .before .before .before .before .before .before .before .before .before .before .before .before .before .before .answer-chunk) .result .from) ((c .before .before .carry) .result .held) _ ((c .before .before .before .before .before .before .before .before .before .before .before .before .before .before .before .before .before .before .before .before .before .before .before .before .before .before .before .before .before .before .before .before .before .before .before .before .before .before .before .before .before .before .before .before .before .before .before .before .before .before .before .before) .pre .3) ((c .before .before .before .before .before .before .before .before .before .before .before .before .before .before .before .before .before .before .before .before .before .before .before .before .before .before .before .before .before .before .before .before .before .before .before .before .before .before .before .next-chunk) .ensures .1) ((c .before .before .before .before .before .before .before .before .before .before .before .before .before .before .before .before .before .before .before .before .before .before .before .before .answer-chunk) .ensures) (k .0) (k .1) (k .2))
+returns-2 c = ((c .before .before .carry) .ensures .0, λ z. let k = (c .before .before .carry) .ensures .1 z in goes-on _ _ ((c .before .before .before .before .before .before .before .before .before .before .before .before .before .before .before .before .before .before .before .before .before .before .before .before .before .before .before .before .before .before .before .before .before .before .before .before .before .before .before .before .before .before .before .before .before .before .before .before .before .before .before .before .before .before .before .before .args) .buf .now) ((c .before .before .before .before .before .before .before .before .before .before .before .before .before .before .before .before .before .before .before .before .before .before .before .before .before .before .before .before .before .before .before .before .before .before .before .before .before .before .before .before .before .before .next-chunk) .last .0) ((c .before .before .carry) .last .0) ((c .before .before .before .before .before .before .before .before .before .before .before .before .before .before .before .before .before .before .before .before .before .before .before .before .before .before .before .before .before .before .before .before .before .before .before .before .before .before .before .before .before .before .before .before .before .before .before .before .before .before .before .before .before .before .before .before .args) .held) ((c .before .before .before .before .before .before .before .before .before .before .before .before .before .before .before .before .before .before .before .before .before .before .before .before .before .before .before .before .before .before .before .before .before .before .before .before .before .before .before .before .before .before .next-chunk) .result) ((c .before .before .before .before .before .before .before .before .before .before .before .before .before .before .before .before .before .before .before .before .before .before .before .before .before .before .answer-chunk) .result .from) ((c .before .before .carry) .result .held) _ ((c .before .before .before .before .before .before .before .before .before .before .before .before .before .before .before .before .before .before .before .before .before .before .before .before .before .before .before .before .before .before .before .before .before .before .before .before .before .before .before .before .before .before .before .before .before .before .before .before .before .before .before .before .before .before .before .before) .pre .3) ((c .before .before .before .before .before .before .before .before .before .before .before .before .before .before .before .before .before .before .before .before .before .before .before .before .before .before .before .before .before .before .before .before .before .before .before .before .before .before .before .before .before .before .next-chunk) .ensures .1) ((c .before .before .before .before .before .before .before .before .before .before .before .before .before .before .before .before .before .before .before .before .before .before .before .before .before .before .answer-chunk) .ensures) (k .0) (k .1) (k .2))
 
 pub take-turn-spec : {M : Type 1} → statement M
 take-turn-spec =
@@ -109,4 +112,5 @@ take-turn-spec =
     same-length-10
     same-length-11
     same-length-12
+    same-length-13
     returns-2)

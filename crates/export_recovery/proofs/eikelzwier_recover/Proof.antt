@@ -37,8 +37,11 @@ same-length-8 c = search needs
 same-length-9 : tie.Need-same-length-9
 same-length-9 c = search needs
 
+same-length-10 : tie.Need-same-length-10
+same-length-10 c = search needs
+
 returns : tie.Need-returns
-returns c = let q = (c .before .before .before .before .before .before .before .before .before .before .before .before .before .before .before .before .before .before .before .recover) .ensures in told-as (c .told .ensures) q
+returns c = let q = (c .before .before .before .before .before .before .before .before .before .before .before .before .before .before .before .before .before .before .before .before .before .recover) .ensures in told-as ((c .told) .ensures) q
 
 pub eikelzwier-recover-spec : {M : Type 1} → statement M
 eikelzwier-recover-spec =
@@ -55,4 +58,5 @@ eikelzwier-recover-spec =
     same-length-7
     same-length-8
     same-length-9
+    same-length-10
     returns)

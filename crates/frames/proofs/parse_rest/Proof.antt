@@ -50,9 +50,13 @@ shared-slice-read-parse-quota c = omega (arith, sized _ _ 9 ((c .before .before 
 parse-quota-requires : tie.Need-parse-quota-requires
 parse-quota-requires c κs = search needs
 
+short-at-requires-2 : tie.Need-short-at-requires-2
+unfolding frameLength
+short-at-requires-2 c κs = omega (arith, sized _ _ 12 ((c .before .before) .pre) ((c .match) .keys9))
+
 id-at-requires-5 : tie.Need-id-at-requires-5
 unfolding frameLength
-id-at-requires-5 c κs = let r = (c .match) .rest in omega (arith, sized-else _ _ ((c .before .before) .pre) (r .0 .0 .0 .0 .0 .0 .0 .1) (r .0 .0 .0 .0 .0 .0 .1) (r .0 .0 .1) (r .0 .1) (r .1))
+id-at-requires-5 c κs = let r = (c .match) .rest in omega (arith, sized-else _ _ ((c .before .before) .pre) (r .0 .0 .0 .0 .0 .0 .0 .0 .1) (r .0 .0 .0 .0 .0 .0 .0 .1) (r .0 .0 .0 .1) (r .0 .0 .1) (r .0 .1) (r .1))
 
 returns : tie.Need-returns
 unfolding parseRest
@@ -87,7 +91,11 @@ unfolding parseRest
 returns-8 c = rw ((c .before .before .match) .keys8) ((c .parse-quota) .ensures)
 
 returns-9 : tie.Need-returns-9
-returns-9 c = let r = (c .before .match) .rest in rest-else ((c .before .before .before .args) .op) ((c .before .before .before .args) .p) ((c .before .before .before .args) .f .now) (r .0 .0 .0 .0 .0 .0 .0 .1) (r .0 .0 .0 .0 .0 .0 .1) (r .0 .0 .0 .0 .0 .1) (r .0 .0 .0 .0 .1) (r .0 .0 .0 .1) (r .0 .0 .1) (r .0 .1) (r .1) _ ((c .id-at5) .ensures)
+unfolding parseRest
+returns-9 c = rw ((c .before .match) .keys9, ← (c .short-at2) .ensures .0)
+
+returns-10 : tie.Need-returns-10
+returns-10 c = let r = (c .before .match) .rest in rest-else ((c .before .before .before .args) .op) ((c .before .before .before .args) .p) ((c .before .before .before .args) .f .now) (r .0 .0 .0 .0 .0 .0 .0 .0 .1) (r .0 .0 .0 .0 .0 .0 .0 .1) (r .0 .0 .0 .0 .0 .0 .1) (r .0 .0 .0 .0 .0 .1) (r .0 .0 .0 .0 .1) (r .0 .0 .0 .1) (r .0 .0 .1) (r .0 .1) (r .1) _ ((c .id-at5) .ensures)
 
 pub parse-rest-spec : {M : Type 1} → statement M
 parse-rest-spec =
@@ -105,6 +113,7 @@ parse-rest-spec =
     short-at-requires
     shared-slice-read-parse-quota
     parse-quota-requires
+    short-at-requires-2
     id-at-requires-5
     returns
     returns-2
@@ -114,4 +123,5 @@ parse-rest-spec =
     returns-6
     returns-7
     returns-8
-    returns-9)
+    returns-9
+    returns-10)

@@ -16,7 +16,7 @@ use Rattle.journal.proofs.is_change.Statement.{statement}
 use Rattle.journal.proofs.is_change.Tie as tie
 
 abbrev rest : List ℕ
-rest = 1 ∷ 2 ∷ 3 ∷ 4 ∷ 5 ∷ 6 ∷ 7 ∷ 8 ∷ []
+rest = 1 ∷ 2 ∷ 3 ∷ 4 ∷ 5 ∷ 6 ∷ 7 ∷ 8 ∷ 9 ∷ []
 
 others : (x : Order) → OneOf rest (declared.tagOf the.the-type x) → true ≡ changing x
 unfolding changing
@@ -29,8 +29,9 @@ others (order.Release p s) k = refl
 others (order.Transfer q s) k = refl
 others (order.Send p z) k = refl
 others (order.Receive p) k = refl
-others (order.Quota p u) k = absurd (miss rest 9 tt k)
-others (order.Holders s) k = absurd (miss rest 10 tt k)
+others (order.ShowSeed p) k = refl
+others (order.Quota p u) k = absurd (miss rest 10 tt k)
+others (order.Holders s) k = absurd (miss rest 11 tt k)
 
 refuses : {x : Order} {n : ℕ} → x ≡ order.Refuse n → false ≡ changing x
 unfolding changing

@@ -4,6 +4,7 @@ use borrow.Author.Tests.{not-true, not-false}
 use Rattle.frames.specs.Legal.{legal-command}
 use Rattle.bus.specs.Code.{sound-then}
 use Rattle.journal.specs.Code.{over-used, kept-unsound, kept-unread, kept-read}
+use native.Mathlib.Omega.{arith}
 use borrow.Author.Needs.{needs}
 use Rattle.journal.proofs.obey.Statement.{statement}
 use Rattle.journal.proofs.obey.Tie as tie
@@ -18,7 +19,7 @@ same-length : tie.Need-same-length
 same-length c = search needs
 
 returns : tie.Need-returns
-returns c = over-used _ _ _ _ _ ((c .before .before .before .before .before .before .before .before .before .before .before .before .before .before .before .before .before .before) .pre) ((c .before .before .before .before .before .if1) .taken) ((c .before .before .before .write-refusal) .ensures) ((c .with-used) .ensures)
+returns c = over-used _ _ _ _ _ ((c .before .before .before .before .before .before .before .before .before .before .before .before .before .before .before .before .before .before .before) .pre) ((c .before .before .before .before .before .if1) .taken) ((c .before .before .before .write-refusal) .ensures) ((c .with-used) .ensures)
 
 is-sound-requires : tie.Need-is-sound-requires
 is-sound-requires c κs = search needs
@@ -59,8 +60,11 @@ same-length-10 c = search needs
 same-length-11 : tie.Need-same-length-11
 same-length-11 c = search needs
 
+same-length-12 : tie.Need-same-length-12
+same-length-12 c = search needs
+
 returns-2 : tie.Need-returns-2
-returns-2 c = kept-unsound _ _ _ _ _ ((c .before .before .before .before .before .before .before .before .before .before .before .before .before .before .before .before .before .before .before .before .before .before .before .before .before .before .before .before .before) .pre) ((c .before .before .before .before .before .before .before .before .before .before .before .before .before .before .before .before .if1) .left) ((c .before .before .before .before .before .before .is-sound) .ensures) (not-true _ ((c .before .before .before .before .before .if2) .taken)) ((c .before .before .before .write-refusal2) .ensures) ((c .with-used2) .ensures)
+returns-2 c = kept-unsound _ _ _ _ _ ((c .before .before .before .before .before .before .before .before .before .before .before .before .before .before .before .before .before .before .before .before .before .before .before .before .before .before .before .before .before .before .before) .pre) ((c .before .before .before .before .before .before .before .before .before .before .before .before .before .before .before .before .before .if1) .left) ((c .before .before .before .before .before .before .is-sound) .ensures) (not-true _ ((c .before .before .before .before .before .if2) .taken)) ((c .before .before .before .write-refusal2) .ensures) ((c .with-used2) .ensures)
 
 parse-requires : tie.Need-parse-requires
 parse-requires c κs = search needs
@@ -78,10 +82,7 @@ enum-known-c : tie.Need-enum-known-c
 enum-known-c c = search needs
 
 execute-requires : tie.Need-execute-requires
-execute-requires c κs = let z = sound-then _ ((c .before .before .before .before .before .before .before .before .before .before .before .before .before .before .before .before .is-sound) .ensures) (not-false _ ((c .before .before .before .before .before .before .before .before .before .before .before .before .before .before .before .if2) .left)) in (z .0, z .1, legal-command _ _ (sym ((c .before .before .before .before .before .before .before .before .before .before .before .before .before .before .parse) .ensures) ∙ (c .before .before .before .before .before .before .before .before .before .before .before .before .c) .given .1), (c .before .before .before .before .before .before .before .before .before .before .before .before .before .before .before .before .before .before .before .before .before .before .before .before .before .before .before .before .before .before .before .before .before .before .before .before .before .before .before) .pre)
-
-same-length-12 : tie.Need-same-length-12
-same-length-12 c = search needs
+execute-requires c κs = let z = sound-then _ ((c .before .before .before .before .before .before .before .before .before .before .before .before .before .before .before .before .before .is-sound) .ensures) (not-false _ ((c .before .before .before .before .before .before .before .before .before .before .before .before .before .before .before .before .if2) .left)) in (z .0, z .1, legal-command _ _ (sym ((c .before .before .before .before .before .before .before .before .before .before .before .before .before .before .before .parse) .ensures) ∙ (c .before .before .before .before .before .before .before .before .before .before .before .before .before .c) .given .1), (c .before .before .before .before .before .before .before .before .before .before .before .before .before .before .before .before .before .before .before .before .before .before .before .before .before .before .before .before .before .before .before .before .before .before .before .before .before .before .before .before .before .before) .pre)
 
 same-length-13 : tie.Need-same-length-13
 same-length-13 c = search needs
@@ -110,35 +111,35 @@ same-length-20 c = search needs
 same-length-21 : tie.Need-same-length-21
 same-length-21 c = search needs
 
-returns-3 : tie.Need-returns-3
-returns-3 c = kept-unread _ _ _ _ _ ((c .before .before .before .before .before .before .before .before .before .before .before .before .before .before .before .before .before .before .before .before .before .before .before .before .before .before .before .before .before .before .before .before .before) .pre) ((c .before .before .before .before .before .before .before .before .before .before .before .before .before .before .before .before .before .before .before .before .if1) .left) ((c .before .before .before .before .before .before .before .before .before .before .is-sound) .ensures) (not-false _ ((c .before .before .before .before .before .before .before .before .before .if2) .left)) ((c .before .before .before .before .before .before .before .before .parse) .ensures) ((c .before .before .before .before .before .before .n) .given .1) ((c .before .before .before .write-refusal3) .ensures) ((c .with-used3) .ensures)
-
 same-length-22 : tie.Need-same-length-22
 same-length-22 c = search needs
 
 same-length-23 : tie.Need-same-length-23
 same-length-23 c = search needs
 
+returns-3 : tie.Need-returns-3
+returns-3 c = kept-unread _ _ _ _ _ ((c .before .before .before .before .before .before .before .before .before .before .before .before .before .before .before .before .before .before .before .before .before .before .before .before .before .before .before .before .before .before .before .before .before .before .before) .pre) ((c .before .before .before .before .before .before .before .before .before .before .before .before .before .before .before .before .before .before .before .before .before .if1) .left) ((c .before .before .before .before .before .before .before .before .before .before .is-sound) .ensures) (not-false _ ((c .before .before .before .before .before .before .before .before .before .if2) .left)) ((c .before .before .before .before .before .before .before .before .parse) .ensures) ((c .before .before .before .before .before .before .n) .given .1) ((c .before .before .before .write-refusal3) .ensures) ((c .with-used3) .ensures)
+
 same-length-24 : tie.Need-same-length-24
-same-length-24 c = search needs
+same-length-24 c = omega (arith, (c .before .before .before .before .before .before .before .before .before .before .before .before .before .before .before .before .before .before .before .before .before .before .before .before .execute) .kept .0)
 
 same-length-25 : tie.Need-same-length-25
-same-length-25 c = search needs
+same-length-25 c = omega (arith, (c .before .before .before .before .before .before .before .before .before .before .before .before .before .before .before .before .before .before .before .before .before .before .before .before .execute) .kept .1 .0)
 
 same-length-26 : tie.Need-same-length-26
-same-length-26 c = search needs
+same-length-26 c = omega (arith, (c .before .before .before .before .before .before .before .before .before .before .before .before .before .before .before .before .before .before .before .before .before .before .before .before .execute) .kept .1 .1 .0)
 
 same-length-27 : tie.Need-same-length-27
-same-length-27 c = search needs
+same-length-27 c = omega (arith, (c .before .before .before .before .before .before .before .before .before .before .before .before .before .before .before .before .before .before .before .before .before .before .before .before .execute) .kept .1 .1 .1 .0)
 
 same-length-28 : tie.Need-same-length-28
-same-length-28 c = search needs
+same-length-28 c = omega (arith, (c .before .before .before .before .before .before .before .before .before .before .before .before .before .before .before .before .before .before .before .before .before .before .before .before .execute) .kept .1 .1 .1 .1 .0)
 
 same-length-29 : tie.Need-same-length-29
-same-length-29 c = search needs
+same-length-29 c = omega (arith, (c .before .before .before .before .before .before .before .before .before .before .before .before .before .before .before .before .before .before .before .before .before .before .before .before .execute) .kept .1 .1 .1 .1 .1 .0)
 
 same-length-30 : tie.Need-same-length-30
-same-length-30 c = search needs
+same-length-30 c = omega (arith, (c .before .before .before .before .before .before .before .before .before .before .before .before .before .before .before .before .before .before .before .before .before .before .before .before .execute) .kept .1 .1 .1 .1 .1 .1 .0)
 
 same-length-31 : tie.Need-same-length-31
 same-length-31 c = search needs
@@ -146,8 +147,17 @@ same-length-31 c = search needs
 same-length-32 : tie.Need-same-length-32
 same-length-32 c = search needs
 
+same-length-33 : tie.Need-same-length-33
+same-length-33 c = search needs
+
+same-length-34 : tie.Need-same-length-34
+same-length-34 c = search needs
+
+same-length-35 : tie.Need-same-length-35
+same-length-35 c = search needs
+
 returns-4 : tie.Need-returns-4
-returns-4 c = kept-read _ _ _ _ _ ((c .before .before .before .before .before .before .before .before .before .before .before .before .before .before .before .before .before .before .before .before .before .before .before .before .before .before .before .before .before .before .before .before .before .before .before .before .before .before .before .before .before .before .before .before .before .before .before .before .before .before .before .before .before .before .before .before .before .before .before .before .before .before) .pre) ((c .before .before .before .before .before .before .before .before .before .before .before .before .before .before .before .before .before .before .before .before .before .before .before .before .before .before .before .before .before .before .before .before .before .before .before .before .before .before .before .before .before .before .before .before .before .before .before .before .before .if1) .left) ((c .before .before .before .before .before .before .before .before .before .before .before .before .before .before .before .before .before .before .before .before .before .before .before .before .before .before .before .before .before .before .before .before .before .before .before .before .before .before .before .is-sound) .ensures) (not-false _ ((c .before .before .before .before .before .before .before .before .before .before .before .before .before .before .before .before .before .before .before .before .before .before .before .before .before .before .before .before .before .before .before .before .before .before .before .before .before .before .if2) .left)) ((c .before .before .before .before .before .before .before .before .before .before .before .before .before .before .before .before .before .before .before .before .before .before .before .before .before .before .before .before .before .before .before .before .before .before .before .before .before .parse) .ensures) ((c .before .before .before .before .before .before .before .before .before .before .before .before .before .before .before .before .before .before .before .before .before .before .before .before .before .before .before .before .before .before .before .before .before .before .before .c) .given .1) ((c .before .before .before .before .before .before .before .before .before .before .before .before .before .before .before .before .before .before .before .before .before .before .execute) .ensures)
+returns-4 c = kept-read _ _ _ _ _ ((c .before .before .before .before .before .before .before .before .before .before .before .before .before .before .before .before .before .before .before .before .before .before .before .before .before .before .before .before .before .before .before .before .before .before .before .before .before .before .before .before .before .before .before .before .before .before .before .before .before .before .before .before .before .before .before .before .before .before .before .before .before .before .before .before .before .before .before) .pre) ((c .before .before .before .before .before .before .before .before .before .before .before .before .before .before .before .before .before .before .before .before .before .before .before .before .before .before .before .before .before .before .before .before .before .before .before .before .before .before .before .before .before .before .before .before .before .before .before .before .before .before .before .before .before .if1) .left) ((c .before .before .before .before .before .before .before .before .before .before .before .before .before .before .before .before .before .before .before .before .before .before .before .before .before .before .before .before .before .before .before .before .before .before .before .before .before .before .before .before .before .before .is-sound) .ensures) (not-false _ ((c .before .before .before .before .before .before .before .before .before .before .before .before .before .before .before .before .before .before .before .before .before .before .before .before .before .before .before .before .before .before .before .before .before .before .before .before .before .before .before .before .before .if2) .left)) ((c .before .before .before .before .before .before .before .before .before .before .before .before .before .before .before .before .before .before .before .before .before .before .before .before .before .before .before .before .before .before .before .before .before .before .before .before .before .before .before .before .parse) .ensures) ((c .before .before .before .before .before .before .before .before .before .before .before .before .before .before .before .before .before .before .before .before .before .before .before .before .before .before .before .before .before .before .before .before .before .before .before .before .before .before .c) .given .1) ((c .before .before .before .before .before .before .before .before .before .before .before .before .before .before .before .before .before .before .before .before .before .before .before .before .execute) .ensures)
 
 pub obey-spec : {M : Type 1} → statement M
 obey-spec =
@@ -170,6 +180,7 @@ obey-spec =
     same-length-9
     same-length-10
     same-length-11
+    same-length-12
     returns-2
     parse-requires
     enum-known-n
@@ -177,7 +188,6 @@ obey-spec =
     with-used-requires-3
     enum-known-c
     execute-requires
-    same-length-12
     same-length-13
     same-length-14
     same-length-15
@@ -187,9 +197,9 @@ obey-spec =
     same-length-19
     same-length-20
     same-length-21
-    returns-3
     same-length-22
     same-length-23
+    returns-3
     same-length-24
     same-length-25
     same-length-26
@@ -199,4 +209,7 @@ obey-spec =
     same-length-30
     same-length-31
     same-length-32
+    same-length-33
+    same-length-34
+    same-length-35
     returns-4)

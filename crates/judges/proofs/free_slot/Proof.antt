@@ -10,13 +10,13 @@ use Rattle.judges.proofs.free_slot.Tie as tie
 use Rattle.ids.specs.Sizes.{slots}
 
 abbrev Inv-loop : tie.InvT-loop
-Inv-loop nodes handles charges ends entries carried numbers p k₀ k = Taken nodes handles charges (ringsOf ends entries carried numbers) (p .0) k
+Inv-loop nodes handles charges ends entries carried numbers seeds p k₀ k = Taken nodes handles charges (ringsOf ends entries carried numbers) seeds (p .0) k
 
 abbrev μ-loop : tie.MeasureT-loop
-μ-loop nodes handles charges ends entries carried numbers p k₀ k = slots - k
+μ-loop nodes handles charges ends entries carried numbers seeds p k₀ k = slots - k
 
 loop-holds : tie.Need-loop-holds Inv-loop μ-loop
-loop-holds c = taken-start _ _ _ _ _
+loop-holds c = taken-start _ _ _ _ _ _
 
 mul-s : tie.Need-mul-s Inv-loop μ-loop
 mul-s c = search needs
@@ -25,10 +25,10 @@ add-s : tie.Need-add-s Inv-loop μ-loop
 add-s c = search needs
 
 counts-requires : tie.Need-counts-requires Inv-loop μ-loop
-counts-requires c κs = let z = (c .before .before .before .before .before .before .before .before .before .before) .pre in (z .0, z .1, z .2, z .3, z .4, omega (arith, z .5, (c .before .loop-test) .taken))
+counts-requires c κs = let z = (c .before .before .before .before .before .before .before .before .before .before .before) .pre in (z .0, z .1, z .2, z .3, z .4, z .5, omega (arith, z .6, (c .before .loop-test) .taken))
 
 returns : tie.Need-returns Inv-loop μ-loop
-returns c = taken-free ((c .before .before .before .before .before .before .before .before .before .before .before .before .args) .nodes .now) ((c .before .before .before .before .before .before .before .before .before .before .before .before .args) .handles .now) ((c .before .before .before .before .before .before .before .before .before .before .before .before .args) .charges .now) (ringsOf ((c .before .before .before .before .before .before .before .before .before .before .before .before .args) .ends .now) ((c .before .before .before .before .before .before .before .before .before .before .before .before .args) .entries .now) ((c .before .before .before .before .before .before .before .before .before .before .before .before .args) .carried .now) ((c .before .before .before .before .before .before .before .before .before .before .before .before .args) .numbers .now)) ((c .before .before .before .before .before .before .before .before .before .before .before .before .args) .p .0) ((c .before .before .before .before .loop) .k) ((c .before .before .before .before .loop) .inv) ((c .before .before .before .loop-test) .taken) ((c .before .counts) .ensures) (not-true _ ((c .if1) .taken))
+returns c = taken-free ((c .before .before .before .before .before .before .before .before .before .before .before .before .before .args) .nodes .now) ((c .before .before .before .before .before .before .before .before .before .before .before .before .before .args) .handles .now) ((c .before .before .before .before .before .before .before .before .before .before .before .before .before .args) .charges .now) (ringsOf ((c .before .before .before .before .before .before .before .before .before .before .before .before .before .args) .ends .now) ((c .before .before .before .before .before .before .before .before .before .before .before .before .before .args) .entries .now) ((c .before .before .before .before .before .before .before .before .before .before .before .before .before .args) .carried .now) ((c .before .before .before .before .before .before .before .before .before .before .before .before .before .args) .numbers .now)) ((c .before .before .before .before .before .before .before .before .before .before .before .before .before .args) .seeds .now) ((c .before .before .before .before .before .before .before .before .before .before .before .before .before .args) .p .0) ((c .before .before .before .before .loop) .k) ((c .before .before .before .before .loop) .inv) ((c .before .before .before .loop-test) .taken) ((c .before .counts) .ensures) (not-true _ ((c .if1) .taken))
 
 add-k : tie.Need-add-k Inv-loop μ-loop
 add-k c = search needs
@@ -37,10 +37,10 @@ loop-less : tie.Need-loop-less Inv-loop μ-loop
 loop-less c = search needs
 
 loop-again : tie.Need-loop-again Inv-loop μ-loop
-loop-again c = taken-more ((c .before .before .before .before .before .before .before .before .before .before .before .before .args) .nodes .now) ((c .before .before .before .before .before .before .before .before .before .before .before .before .args) .handles .now) ((c .before .before .before .before .before .before .before .before .before .before .before .before .args) .charges .now) (ringsOf ((c .before .before .before .before .before .before .before .before .before .before .before .before .args) .ends .now) ((c .before .before .before .before .before .before .before .before .before .before .before .before .args) .entries .now) ((c .before .before .before .before .before .before .before .before .before .before .before .before .args) .carried .now) ((c .before .before .before .before .before .before .before .before .before .before .before .before .args) .numbers .now)) ((c .before .before .before .before .before .before .before .before .before .before .before .before .args) .p .0) ((c .before .before .before .before .loop) .k) ((c .before .before .before .before .loop) .inv) ((c .before .before .before .loop-test) .taken) ((c .before .counts) .ensures) (not-false _ ((c .if1) .left))
+loop-again c = taken-more ((c .before .before .before .before .before .before .before .before .before .before .before .before .before .args) .nodes .now) ((c .before .before .before .before .before .before .before .before .before .before .before .before .before .args) .handles .now) ((c .before .before .before .before .before .before .before .before .before .before .before .before .before .args) .charges .now) (ringsOf ((c .before .before .before .before .before .before .before .before .before .before .before .before .before .args) .ends .now) ((c .before .before .before .before .before .before .before .before .before .before .before .before .before .args) .entries .now) ((c .before .before .before .before .before .before .before .before .before .before .before .before .before .args) .carried .now) ((c .before .before .before .before .before .before .before .before .before .before .before .before .before .args) .numbers .now)) ((c .before .before .before .before .before .before .before .before .before .before .before .before .before .args) .seeds .now) ((c .before .before .before .before .before .before .before .before .before .before .before .before .before .args) .p .0) ((c .before .before .before .before .loop) .k) ((c .before .before .before .before .loop) .inv) ((c .before .before .before .loop-test) .taken) ((c .before .counts) .ensures) (not-false _ ((c .if1) .left))
 
 returns-2 : tie.Need-returns-2 Inv-loop μ-loop
-returns-2 c = taken-all ((c .before .before .before .before .before .before .before .before .before .args) .nodes .now) ((c .before .before .before .before .before .before .before .before .before .args) .handles .now) ((c .before .before .before .before .before .before .before .before .before .args) .charges .now) (ringsOf ((c .before .before .before .before .before .before .before .before .before .args) .ends .now) ((c .before .before .before .before .before .before .before .before .before .args) .entries .now) ((c .before .before .before .before .before .before .before .before .before .args) .carried .now) ((c .before .before .before .before .before .before .before .before .before .args) .numbers .now)) ((c .before .before .before .before .before .before .before .before .before .args) .p .0) ((c .before .loop) .k) ((c .before .loop) .inv) ((c .loop-test) .left)
+returns-2 c = taken-all ((c .before .before .before .before .before .before .before .before .before .before .args) .nodes .now) ((c .before .before .before .before .before .before .before .before .before .before .args) .handles .now) ((c .before .before .before .before .before .before .before .before .before .before .args) .charges .now) (ringsOf ((c .before .before .before .before .before .before .before .before .before .before .args) .ends .now) ((c .before .before .before .before .before .before .before .before .before .before .args) .entries .now) ((c .before .before .before .before .before .before .before .before .before .before .args) .carried .now) ((c .before .before .before .before .before .before .before .before .before .before .args) .numbers .now)) ((c .before .before .before .before .before .before .before .before .before .before .args) .seeds .now) ((c .before .before .before .before .before .before .before .before .before .before .args) .p .0) ((c .before .loop) .k) ((c .before .loop) .inv) ((c .loop-test) .left)
 
 pub free-slot-spec : {M : Type 1} → statement M
 free-slot-spec =

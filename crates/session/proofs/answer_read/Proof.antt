@@ -11,7 +11,7 @@ enum-known-read : tie.Need-enum-known-read
 enum-known-read c = search needs
 
 slice-aggregate-answer-frame : tie.Need-slice-aggregate-answer-frame
-slice-aggregate-answer-frame c = let h = rw ((c .before .before .before .before .before .before .before .before .before .before .before .read) .given .1) at ((c .before .before .before .before .before .before .before .before .before .before .before .before .before .before .before .before .before .before .before .before .before .before .before .before .before) .pre .3) in sym (length-take-le _ ((c .before .before .before .before .before .before .before .before .before .before .before .before .before .before .before .before .before .before .before .before .before .before .before .before .before .args) .f .now) (omega (arith, h, (c .before .before .before .before .before .before .before .before .before .before .before .before .before .before .before .before .before .before .before .before .before .before .before .before .before) .pre .2)))
+slice-aggregate-answer-frame c = let h = rw ((c .before .before .before .before .before .before .before .before .before .before .before .before .read) .given .1) at ((c .before .before .before .before .before .before .before .before .before .before .before .before .before .before .before .before .before .before .before .before .before .before .before .before .before .before .before) .pre .3) in sym (length-take-le _ ((c .before .before .before .before .before .before .before .before .before .before .before .before .before .before .before .before .before .before .before .before .before .before .before .before .before .before .before .args) .f .now) (omega (arith, h, (c .before .before .before .before .before .before .before .before .before .before .before .before .before .before .before .before .before .before .before .before .before .before .before .before .before .before .before) .pre .2)))
 
 answer-frame-requires : tie.Need-answer-frame-requires
 answer-frame-requires c κs = search needs
@@ -58,11 +58,14 @@ same-length-10 c = search needs
 same-length-11 : tie.Need-same-length-11
 same-length-11 c = search needs
 
-returns : tie.Need-returns
-returns c = put-frame _ _ _ _ _ _ _ _ _ _ ((c .before .before .before .before .before .before .before .before .before .before .before .before .before .before .before .before .before .before .before .before .before .before .before .before .before .before .before .before .before .before .before .before .before .before .before .before .read) .given .1) ((c .before .before .before .before .before .before .before .before .before .before .before .before .before .before .before .before .before .before .before .before .before .before .answer-frame) .ensures)
-
 same-length-12 : tie.Need-same-length-12
 same-length-12 c = search needs
+
+returns : tie.Need-returns
+returns c = put-frame _ _ _ _ _ _ _ _ _ _ ((c .before .before .before .before .before .before .before .before .before .before .before .before .before .before .before .before .before .before .before .before .before .before .before .before .before .before .before .before .before .before .before .before .before .before .before .before .before .before .before .read) .given .1) ((c .before .before .before .before .before .before .before .before .before .before .before .before .before .before .before .before .before .before .before .before .before .before .before .before .answer-frame) .ensures)
+
+same-length-13 : tie.Need-same-length-13
+same-length-13 c = search needs
 
 returns-2 : tie.Need-returns-2
 returns-2 c = put-bad _ _ _ _ _ _ _ _ _ _ ((c .before .before .before .before .enum-told) .given .1) refl ((c .before .before .refuse) .ensures .0) ((c .before .before .refuse) .ensures .1)
@@ -91,7 +94,8 @@ answer-read-spec =
     same-length-9
     same-length-10
     same-length-11
-    returns
     same-length-12
+    returns
+    same-length-13
     returns-2
     returns-3)
