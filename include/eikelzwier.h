@@ -35,8 +35,8 @@ extern "C" {
  * the same version returns: 10,000 times the first part, 100 times the second,
  * and the third. A later version may have other rules, and a journal belongs to
  * the version that wrote it (docs/RECOVERY.md). */
-#define EZ_VERSION "0.5.0"
-#define EZ_VERSION_NUMBER 500
+#define EZ_VERSION "0.6.0"
+#define EZ_VERSION_NUMBER 600
 
 /* The version of the archive. Where it is not EZ_VERSION_NUMBER, this header is
  * not the archive's: its functions may have other parameters, and calling them

@@ -63,7 +63,8 @@ extern "C" {
 #define EZ_MAX_PAYLOAD 512
 #define EZ_MAX_ROOM (EZ_MAX_PAYLOAD + 8 * EZ_MAX_HANDLES) /* every message and seed fits */
 
-/* An attached handle whose node was destroyed. */
+/* An attached handle whose node was destroyed before the message was sent, or
+ * is the receiver's own, destroyed and let go; of a seed, destroyed before now. */
 #define EZ_INVALID_ID UINT64_MAX
 
 /* What a decoder says to bytes that are no such answer; no bus answers it. */

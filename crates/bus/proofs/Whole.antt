@@ -20,11 +20,13 @@ use Rattle.frames.specs.Frame.{opcode, parse}
 use Rattle.answers.specs.declared.Outcome.{Outcome}
 use Rattle.answers.specs.Answer.{answerSize}
 use Rattle.quota.specs.Rule.{left}
+use Rattle.model.specs.Numbers.{peers}
 use Rattle.model.specs.State.{isLive, slot, Status.opened}
 use Rattle.model.specs.Step.{Call}
+use Rattle.model.specs.QueuesLaws.{In}
 use Rattle.model.specs.Notices.{Unnamed}
 use Rattle.model.specs.Book.{Node, Fed, answersMessage, actingPeer}
-use Rattle.model.specs.Ledger.{Item}
+use Rattle.model.specs.Ledger.{Letter, Item, isTold}
 use Rattle.model.specs.Rows.{bookOf, ledgerOf, standsIn}
 use Rattle.model.specs.Tally.{tally}
 use Rattle.model.specs.Happened.{Happened, happened-front}
@@ -43,8 +45,12 @@ use Rattle.model.specs.GivenIn.{givenIn, given-in}
 use Rattle.model.specs.HandlesIn.{HandlesOf, OrderedIn, handles-in, order-in}
 use Rattle.model.specs.OneOrderIn.{Took, took-one-order}
 use Rattle.model.specs.InPlace.{CameOut}
-use Rattle.model.specs.Waits.{receivesIn, takenIn, LostIn}
-use Rattle.model.specs.WaitsPlace.{LostAt, in-time-at}
+use Rattle.model.specs.Waits.{receivesIn, takenIn, LapsedIn, LostIn}
+use Rattle.model.specs.WaitsPlace.{LostAt, Fate, fate-in, in-time-at}
+use Rattle.model.specs.Waiting.{noticesOf, WaitingAt, waiting-in, lapsed-leaves}
+use Rattle.model.specs.ByOrder.{Destruction, ShownByOrder, Told, Got, BeenTold}
+use Rattle.model.specs.ByOrderTold.{nobody-untold, died-by, told-of-it}
+use Rattle.model.specs.ByOrderProof.{shows-by-order, notice-follows, told-once}
 use Rattle.model.specs.LedgerLaws.{Does, idIn, DestroyDoes, ReleaseDoes, SendDoes, DisconnectDoes}
 use Rattle.model.specs.LedgerLawsProof.{destroy-in, release-in, send-in, disconnect-in}
 use Rattle.model.specs.Scripts.{Row, Row.played, Row.ruled, lastOf}
@@ -126,6 +132,11 @@ module _ (hs : List Exchange) (b : Bus) (t : Calls hs b) where
       length ahead < receivesIn p ys → LostAt xs ys p ahead e ⊎ CameOut (LostIn xs ys p) ahead e (takenIn xs ys p)
   in-time-of-calls xs ys e = in-time-at xs ys (cut-at (xs ++ ys) e)
 
+  -- Whatever the calls are, it is lost for one of the reasons (`LapsedIn`), or came out, or still waits.
+  pub fate-of-calls : (xs ys : List Fed) → historyOf hs ≡ xs ++ ys → (p : ℕ) (ahead behind-it : List Item) (e : Item) → ledgerOf xs .queue p ≡ ahead ++ (e ∷ behind-it) →
+      Fate xs ys p ahead e
+  fate-of-calls xs ys e = fate-in xs ys (cut-at (xs ++ ys) e)
+
   -- Document 02, No. 1: an accepted 0c shows the last accepted 07 with nd 0 of its peer, sizes and payload to the byte, and of each attached ID the node that it named then.
   pub shows-last-seed-of-calls : (xs ys : List Fed) (x : Fed) → historyOf hs ≡ xs ++ (x ∷ ys) → x .number ≡ 0 → opcode (x .frame) ≡ 12 →
       LastSeed xs (actingPeer (x .frame)) × ((s : LastSeed xs (actingPeer (x .frame))) → SeedShown xs x (actingPeer (x .frame)) s)
@@ -136,6 +147,40 @@ module _ (hs : List Exchange) (b : Bus) (t : Calls hs b) where
       (x .number ≡ EAGAIN → LastSeed xs (p .0) → ⊥)
       × ((LastSeed xs (p .0) → ⊥) → (x .number ≡ EINVAL → ⊥) → tally xs < 2 ^ 40 - 1 → standsIn xs (p .0) ≡ opened → x .number ≡ EAGAIN)
   none-gives-eleven-of-calls xs ys x e = none-gives-eleven xs ys x (cut-at (xs ++ (x ∷ ys)) e)
+
+  -- Document 02, No. 2, invalid handles by order. S is the accepted send of a message, D the accepted destroy of a node or disconnect of its owner (`Destruction`).
+  -- (a) What a receive answered 01 takes out (`delivers-of-calls`) shows all ones at a place exactly where D came before S, or D came after S and the receiver is the node's owner and its own
+  -- handle is gone; else the ID that the receiver holds for the node, or the next new one. A seed is left out: it shows all ones exactly from D on (`shows-last-seed-of-calls`).
+  pub shows-by-order-of-calls : (xs ys : List Fed) (x : Fed) → historyOf hs ≡ xs ++ (x ∷ ys) → (d : Delivered xs x) → ShownByOrder xs x (actingPeer (x .frame)) d
+  shows-by-order-of-calls xs ys x e = shows-by-order xs ys x (cut-at (xs ++ (x ∷ ys)) e)
+
+  -- (b) The notice of D comes out behind every message that was sent before D; after it none of these comes out there. The number k of a notice that is shown is D's.
+  pub notice-follows-of-calls : (xs ys zs : List Fed) (x z : Fed) → historyOf hs ≡ (xs ++ (x ∷ ys)) ++ (z ∷ zs) → (p k j : ℕ) (n : Node) (m : Letter) →
+      Told xs x p k n → Got (xs ++ (x ∷ ys)) z p j m → k ≤ j
+  notice-follows-of-calls xs ys zs x z e = notice-follows xs ys zs x z (cut-at ((xs ++ (x ∷ ys)) ++ (z ∷ zs)) e)
+
+  pub told-of-it-of-calls : (xs ys : List Fed) (x : Fed) → historyOf hs ≡ xs ++ (x ∷ ys) → (p k : ℕ) (n : Node) → Told xs x p k n → Destruction xs k n
+  told-of-it-of-calls xs ys x e = told-of-it xs ys x (cut-at (xs ++ (x ∷ ys)) e)
+
+  -- (c) Nobody is left untold: of a destroyed node that p holds, or that a message brings which was sent before D and waits for p, exactly one notice waits for p, or p has been shown it.
+  -- The number by which the ledger has the node destroyed is D's.
+  pub nobody-untold-of-calls : (p : ℕ) → p < peers → (N : ℕ) → N < bookOf (historyOf hs) .entered → ledgerOf (historyOf hs) .lives N ≡ false →
+      isTold (ledgerOf (historyOf hs) .handle p) (ledgerOf (historyOf hs) .queue p) (ledgerOf (historyOf hs) .died N) N ≡ true →
+      (noticesOf N (ledgerOf (historyOf hs) .queue p) ≡ 1) ⊎ BeenTold (historyOf hs) p N
+  nobody-untold-of-calls = nobody-untold (historyOf hs) (happened-of-calls hs b t)
+
+  pub died-by-of-calls : (n : Node) → n .number < bookOf (historyOf hs) .entered → ledgerOf (historyOf hs) .maker (n .number) ≡ n .owner → ledgerOf (historyOf hs) .lives (n .number) ≡ false →
+      Destruction (historyOf hs) (ledgerOf (historyOf hs) .died (n .number)) n
+  died-by-of-calls = died-by (historyOf hs) (happened-of-calls hs b t)
+
+  -- (d) Nobody is told for nothing: a notice is shown to a peer that then holds the node, under the ID that it then has (`notices-tell-of-calls`), and at most once for a peer and node. One that
+  -- waits has a handle or an earlier message; and the one that loses both does not wait after that call (`lapsed-leaves-of-calls`), nor does it leave unshown otherwise (`fate-of-calls`).
+  pub told-once-of-calls : (xs ys zs : List Fed) (x z : Fed) → historyOf hs ≡ (xs ++ (x ∷ ys)) ++ (z ∷ zs) → (p k j : ℕ) (n m : Node) →
+      Told xs x p k n → Told (xs ++ (x ∷ ys)) z p j m → n .number ≡ m .number → ⊥
+  told-once-of-calls xs ys zs x z e = told-once xs ys zs x z (cut-at ((xs ++ (x ∷ ys)) ++ (z ∷ zs)) e)
+
+  pub waiting-of-calls : (p : ℕ) → WaitingAt (ledgerOf (historyOf hs)) p
+  waiting-of-calls = waiting-in (historyOf hs) (happened-of-calls hs b t)
 
   -- What one command does to every queue: a destroy's and a release's notices, a send's messages, a disconnect's notices, those and no others.
   module _ (xs ys : List Fed) (x : Fed) (e : historyOf hs ≡ (xs ++ (x ∷ [])) ++ ys) (p : ℕ) where
@@ -153,6 +198,10 @@ module _ (hs : List Exchange) (b : Bus) (t : Calls hs b) where
 
     pub disconnect-of-calls : Does 2 p x → DisconnectDoes (ledgerOf xs) (ledgerOf (xs ++ (x ∷ []))) (suc (tally xs)) p
     disconnect-of-calls = disconnect-in xs x cut-here p
+
+    -- What has a reason to leave the queue of p does not wait after the call.
+    pub lapsed-leaves-of-calls : (i : Item) → In i (ledgerOf xs .queue p) → LapsedIn (ledgerOf xs) (ledgerOf (xs ++ (x ∷ []))) p i → In i (ledgerOf (xs ++ (x ∷ [])) .queue p) → ⊥
+    lapsed-leaves-of-calls = lapsed-leaves xs x cut-here p
 
 -- 5 is never given in a run.
 pub never-five-of-calls : (xs : List Exchange) (b : Bus) → Calls xs b → All (λ x. x .outcome .number ≡ EIO → ⊥) xs

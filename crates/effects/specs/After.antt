@@ -20,7 +20,7 @@ afterCreate b p i s =
 
 abbrev pub afterDestroy : Bus → ℕ → ℕ → Bus
 afterDestroy b p s =
-    let x = destroys (b .peers) (b .nodes) (b .handles) (b .rings) p s in
+    let x = destroys (b .peers) (b .nodes) (b .handles) (b .charges) (b .rings) p s in
     setRings (setNodes (setPeers b (x .peers)) (x .nodes)) (x .rings)
 
 abbrev pub afterRelease : Bus → ℕ → ℕ → Bus

@@ -24,7 +24,7 @@ use Rattle.tables.specs.Charges.{chargesAt}
 use Rattle.queues.specs.Queues.{Queues, queuesOf, usedOf, isMessage, enqueued, settledCharges, settledPool, emptiedCharges, followsIn, setQueued}
 use Rattle.judges.specs.declared.Places.{Places}
 use Rattle.notices.specs.declared.Asked.the-variants.{Living}
-use Rattle.notices.specs.Notices.{setOf, destroyedOf, destroyedSet, toldOwners}
+use Rattle.notices.specs.Notices.{setOf, destroyedOf, destroyedSet, toldOwners, expiredShown}
 use Rattle.grants.specs.Grants.{givesOf, givesTo, idOrInvalid}
 use Rattle.effects.specs.Effects.{countedOf, counted, messageTo, sentTo, sendsOf, sends, disconnectsOf, disconnects, ringsAfter, messageAnswer, shownIds, shownBytes, receivedOf, receivedMessage, noticeTakenOf, noticeTaken, noticeAnswer, received, replaced, seedAnswer, shownOf, shows}
 use Rattle.ids.specs.Sizes.{peers, slots, mostIds}
@@ -78,7 +78,7 @@ module _ (t : List ℕ) (p : ℕ) (z : Sizes) (w : Places) (bytes : List ℕ) {t
 
 -- disconnect
 pub disconnect-done : (ps ns hs cs : List ℕ) (r : Rings) (p : ℕ) {n : ℕ} {ps₁ : List ℕ} → countedOf n ps₁ ≡ counted ps → {set : ℕ} → set ≡ setOf ns hs p Living →
-    {ns′ : List ℕ} {r₁ : Rings} → destroyedOf ns′ r₁ ≡ destroyedSet ns hs r p set n → {cs′ es′ : List ℕ} → cs′ ≡ emptiedCharges cs p → es′ ≡ cleared (r₁ .ends) p →
+    {ns′ : List ℕ} {r₁ : Rings} → destroyedOf ns′ r₁ ≡ destroyedSet ns hs cs r p set n → {cs′ es′ : List ℕ} → cs′ ≡ emptiedCharges cs p → es′ ≡ cleared (r₁ .ends) p →
     {r₂ : Rings} → r₂ ≡ toldOwners ns′ hs p n (ringsAfter r₁ es′) peers → {hs′ : List ℕ} → hs′ ≡ clearPeer hs p → {ps′ : List ℕ} → ps′ ≡ setDisconnected ps₁ p →
     disconnectsOf ps′ ns′ hs′ cs′ r₂ ≡ disconnects ps ns hs cs r p
 unfolding disconnects
@@ -99,14 +99,14 @@ write-done cs pool p to flag e ids out ec ea ex eb ey eh ev ei es z =
 -- receive_message
 pub take-message : (ps ns hs : List ℕ) (q : Queues) (p : ℕ) (e : Entry) (out : List ℕ) {flag : Bool} → flag ≡ followsIn (q .rings) p (e .number) →
     {x : ℕ} → x ≡ e .slot → {to : HandleId} → to ≡ record { 0 = idOrInvalid hs p (x % nodes) } → {es : List ℕ} → es ≡ popped (q .rings .ends) p →
-    {y : ℕ} → y ≡ e .nh → {nh : ℕ} → nh ≡ min y mostIds → {is ps′ hs′ : List ℕ} {r : Rings} → givesOf is ps′ hs′ r ≡ givesTo ns ps hs (ringsAfter (q .rings) es) p (e .carried) nh →
+    {y : ℕ} → y ≡ e .nh → {nh : ℕ} → nh ≡ min y mostIds → {is ps′ hs′ : List ℕ} {r : Rings} → givesOf is ps′ hs′ r ≡ givesTo ns ps hs (ringsAfter (q .rings) es) p (e .number) (e .carried) nh →
     {o : Outcome} {out′ : List ℕ} →
     (o ≡ outcomeOf (messageAnswer (q .charges) p to flag e) (shownIds e is) (shownBytes (q .charges) (q .pool) p e) out)
     × (out′ ≡ answerAfter (messageAnswer (q .charges) p to flag e) (shownIds e is) (shownBytes (q .charges) (q .pool) p e) out) →
     {cs ts : List ℕ} → (cs ≡ settledCharges (q .charges) p e) × (ts ≡ settledPool (q .charges) (q .pool) p e) →
-    receivedOf o out′ ps′ hs′ (record { charges = cs; rings = r; pool = ts }) ≡ receivedMessage ps ns hs q p e out
+    {r′ : Rings} → r′ ≡ expiredShown ns hs′ cs p (e .carried) is r nh → receivedOf o out′ ps′ hs′ (record { charges = cs; rings = r′; pool = ts }) ≡ receivedMessage ps ns hs q p e out
 unfolding receivedMessage
-take-message ps ns hs q p e out ef ex et ep ey eh eg z s = rw (z .0, z .1, s .0, s .1, ← ef, ← ex, ← et, ← ep, ← ey, ← eh, ← eg)
+take-message ps ns hs q p e out ef ex et ep ey eh eg z s er = rw (z .0, z .1, er, s .0, s .1, ← ef, ← ex, ← et, ← ep, ← ey, ← eh, ← eg)
 
 -- receive_notice
 module _ (hs ends : List ℕ) (p : ℕ) (e : Entry) (out : List ℕ) {x : ℕ} (ex : x ≡ e .slot) {id : HandleId} (ei : id ≡ record { 0 = idOrInvalid hs p (x % nodes) })
@@ -145,8 +145,8 @@ unfolding seedAnswer
 write-seed-done sd p u nh ids out eb ei es z = (rw (← eb, ← ei, ← es) (z .0), rw (← eb, ← ei, ← es) (z .1))
 
 -- show_seed
-pub show-done : (ps ns hs : List ℕ) (r : Rings) (sd : List ℕ) (p : ℕ) (out : List ℕ) {ps₁ : List ℕ} → ps₁ ≡ countCommand ps → {u : User} → u ≡ record { 0 = userAt ps₁ p } →
-    {ss : List ℕ} → ss ≡ slotsAt sd p → {nh : ℕ} → nh ≡ carriedAt sd p → {is ps′ hs′ : List ℕ} {r′ : Rings} → givesOf is ps′ hs′ r′ ≡ givesTo ns ps₁ hs r p ss nh →
+pub show-done : (ps ns hs : List ℕ) (r : Rings) (sd : List ℕ) (p : ℕ) (out : List ℕ) {n : ℕ} {ps₁ : List ℕ} → countedOf n ps₁ ≡ counted ps → {u : User} → u ≡ record { 0 = userAt ps₁ p } →
+    {ss : List ℕ} → ss ≡ slotsAt sd p → {nh : ℕ} → nh ≡ carriedAt sd p → {is ps′ hs′ : List ℕ} {r′ : Rings} → givesOf is ps′ hs′ r′ ≡ givesTo ns ps₁ hs r p n ss nh →
     {o : Outcome} {out′ : List ℕ} →
     (o ≡ outcomeOf (seedAnswer (u .0) (bytesAt sd p) nh) (take nh is) (pieceAt sd p (bytesAt sd p)) out)
     × (out′ ≡ answerAfter (seedAnswer (u .0) (bytesAt sd p) nh) (take nh is) (pieceAt sd p (bytesAt sd p)) out) →

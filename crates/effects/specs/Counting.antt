@@ -36,6 +36,10 @@ module _ (b : Bus) (s : Shape b) (g : Good (stateOf b)) where
   unfolding counted
   number-counted = counted-number
 
+  pub number-more : counted (b .peers) .number ≡ suc (stateOf b .accepted)
+  unfolding counted acceptedV
+  number-more = accepted-more
+
   pub peers-counted : counted (b .peers) .peers ≡ countCommand (b .peers)
   unfolding counted
   peers-counted = refl

@@ -21,6 +21,7 @@ use Rattle.tables.specs.HandlesView.{handleV, handle-clear}
 use Rattle.tables.specs.HandlesView.{clear-length as handles-cleared}
 use Rattle.tables.specs.ChargesView.{chargesV, charges-length}
 use Rattle.queues.specs.Queues.{Queues, queuesIn, setQueued, emptied, emptiedCharges}
+use Rattle.queues.specs.Carrying.{Unladen, unladen}
 use Rattle.queues.specs.Entering.{empty-view, empty-charges, all-discharged}
 use Rattle.model.specs.Numbers.{owner}
 use Rattle.model.specs.State.{Status, Status.unopened, Status.opened, Status.disconnected, isLive, Handle.none, held, Entry.released, messagesIn, Seed.unset, State, byOwnerId}
@@ -56,7 +57,7 @@ module _ (b : Bus) (shape : Shape b) (g : Good (stateOf b)) (p : ℕ) (l : p < p
   module _ (set : ℕ) (test : ℕ → Bool) (agree : (k : ℕ) → k < slots → test (p * slots + k) ≡ bitAt set k)
       (alive : (k : ℕ) → k < slots → bitAt set k ≡ true → isLive (lifeV (b .nodes) (p * slots + k)) ≡ true) where
     abbrev after : Destroyed
-    after = destroyedSet (b .nodes) (b .handles) (b .rings) p set (counted (b .peers) .number)
+    after = destroyedSet (b .nodes) (b .handles) (b .charges) (b .rings) p set (counted (b .peers) .number)
 
     holds : (k : ℕ) → k < slots → bitAt set k ≡ true → held (handleV (b .handles) p (p * slots + k)) ≡ true
     holds k i h = owner-holds p k l i (alive k i h)
@@ -67,12 +68,16 @@ module _ (b : Bus) (shape : Shape b) (g : Good (stateOf b)) (p : ℕ) (l : p < p
     fits : (o : ℕ) → o < peers → lengthOf (b .rings .ends) o + slots ≤ ringSize
     fits o m = omega (arith, short o m)
 
+    -- A queue whose charges count no attached handle carries none.
+    bare : (o : ℕ) → o < peers → Unladen (b .charges) (b .rings) (b .pool) o
+    bare o m = unladen (b .charges) (b .rings) (b .pool) o m (g .charged .at o)
+
     set-shape : Shape (withDestroyed (counting b) after)
-    set-shape = destroyed-shape (counting b) p set (counted (b .peers) .number) test (shape-counted b shape) l fits agree holds apart
+    set-shape = destroyed-shape (counting b) p set (counted (b .peers) .number) test (shape-counted b shape) l fits agree holds apart bare
 
     set-lengths : (o : ℕ) → o < peers → lengthOf (after .rings .ends) o ≤ 204
     set-lengths o m =
-        omega (arith, short o m, destroyed-lengths (counting b) p set (counted (b .peers) .number) test (shape-counted b shape) l fits agree holds apart o m)
+        omega (arith, short o m, destroyed-lengths (counting b) p set (counted (b .peers) .number) test (shape-counted b shape) l fits agree holds apart bare o m)
 
     number-is : counted (b .peers) .number ≡ acceptedV (countCommand (b .peers))
     unfolding counted
@@ -80,7 +85,7 @@ module _ (b : Bus) (shape : Shape b) (g : Good (stateOf b)) (p : ℕ) (l : p < p
 
     set-view : stateOf (withDestroyed (counting b) after) ≡ destroyAll (stateOf (counting b)) p test
     set-view =
-        destroyed-view (counting b) p set (counted (b .peers) .number) test (shape-counted b shape) l fits agree holds apart number-is
+        destroyed-view (counting b) p set (counted (b .peers) .number) test (shape-counted b shape) l fits agree holds apart bare number-is
         (own-stands (handleV (b .handles)) (lifeV (b .nodes)) p (queueV (b .rings) (b .pool) p) (g .noted .stands p))
 
 -- Destroy.
@@ -126,7 +131,7 @@ module _ (b : Bus) (shape : Shape b) (g : Good (stateOf b)) (p : ℕ) (l : p < p
   all-alive k i h = agrees k i ∙ h
 
   abbrev died : Destroyed
-  died = destroyedSet (b .nodes) (b .handles) (b .rings) p living (counted (b .peers) .number)
+  died = destroyedSet (b .nodes) (b .handles) (b .charges) (b .rings) p living (counted (b .peers) .number)
 
   -- The buses in between.
   abbrev destroyedBus : Bus
@@ -185,7 +190,7 @@ module _ (b : Bus) (shape : Shape b) (g : Good (stateOf b)) (p : ℕ) (l : p < p
   toldRings = toldOwners (died .nodes) (b .handles) p (counted (b .peers) .number) emptyRings peers
 
   died-nodes : died .nodes ≡ deadAll (b .nodes) p living (counted (b .peers) .number) slots
-  died-nodes = destroyed-nodes (b .nodes) (b .handles) (b .rings) p living (counted (b .peers) .number)
+  died-nodes = destroyed-nodes (b .nodes) (b .handles) (b .charges) (b .rings) p living (counted (b .peers) .number)
 
   none-left : (k : ℕ) → k < slots → isLive (lifeV (died .nodes) (p * slots + k)) ≡ false
   none-left k i = rw died-nodes (none-lives (b .nodes) (b .handles) p (counted (b .peers) .number) (shape .nodes) l k i)

@@ -14,17 +14,17 @@ use Rattle.answers.specs.declared.Received.the-variants.{Message, Destroyed, Re
 use Rattle.answers.specs.declared.Outcome.{Outcome}
 use Rattle.answers.specs.Answer.{answerAfter, outcomeOf}
 use Rattle.rings.specs.declared.Entry.{Entry}
-use Rattle.rings.specs.Rings.{kindMessage, kindDestroyed, kindReleased, releasedBit, noticeBits, allBits, slots, Rings, setEnds, popped, firstOf, cleared, oneSlot}
+use Rattle.rings.specs.Rings.{kindMessage, kindDestroyed, kindReleased, messageBit, releasedBit, allBits, slots, Rings, setEnds, popped, firstOf, cleared, oneSlot}
 use Rattle.pool.specs.Pool.{pieceOf}
 use Rattle.tables.specs.Peers.{acceptedAt, userAt, countCommand, setOpen, setDisconnected}
 use Rattle.tables.specs.Nodes.{liveAt, setLive}
 use Rattle.tables.specs.Handles.{countAt, totalAt, putHandle, reduced, clearPeer}
 use Rattle.tables.specs.Charges.{chargesAt}
 use Rattle.quota.specs.Charges.{users}
-use Rattle.queues.specs.Queues.{Queues, usedOf, isMessage, entered, enqueued, settledCharges, settledPool, removedFrom, emptiedCharges, followsIn, setQueued}
+use Rattle.queues.specs.Queues.{Queues, usedOf, isMessage, attachedOf, entered, enqueued, settledCharges, settledPool, removedFrom, emptiedCharges, followsIn, setQueued}
 use Rattle.judges.specs.declared.Places.{Places}
 use Rattle.notices.specs.declared.Asked.the-variants.{Living}
-use Rattle.notices.specs.Notices.{noticeOf, setOf, destroyedSet, toldOwners}
+use Rattle.notices.specs.Notices.{noticeOf, setOf, destroyedSet, toldOwners, expired, expiredShown, expiredAll}
 use Rattle.grants.specs.Grants.{Given, givenTo, givesTo, idOrInvalid}
 use Rattle.ids.specs.Sizes.{peers, mostIds}
 use Rattle.model.specs.Numbers.{nodes, invalid}
@@ -67,12 +67,12 @@ pub record Destroys : Type 0 where
 abbrev pub destroysOf : List ℕ → List ℕ → Rings → Destroys
 destroysOf ps ns r = record { peers = ps; nodes = ns; rings = r }
 
-unfoldable pub destroys : List ℕ → List ℕ → List ℕ → Rings → ℕ → ℕ → Destroys
-destroys ps ns hs r p s =
-    let d = destroyedSet ns hs r p (oneSlot releasedBit s .mask) (counted ps .number) in
+unfoldable pub destroys : List ℕ → List ℕ → List ℕ → List ℕ → Rings → ℕ → ℕ → Destroys
+destroys ps ns hs cs r p s =
+    let d = destroyedSet ns hs cs r p (oneSlot releasedBit s .mask) (counted ps .number) in
     destroysOf (counted ps .peers) (d .nodes) (d .rings)
 
--- Release: one reference less; at 0 the handle's notices go, and the owner's messages; then the notice at the owner.
+-- Release: one reference less; at 0 the destroy notice goes that nothing keeps, with the owner's handle the messages for the node, and what they alone kept; then the notice at the owner.
 pub record Dropped : Type 0 where
   pub left : ℕ
   pub handles : List ℕ
@@ -83,8 +83,16 @@ droppedOf c hs = record { left = c; handles = hs }
 unfoldable pub dropped : List ℕ → ℕ → ℕ → Dropped
 dropped hs p s = droppedOf (countAt hs p s - 1) (reduced hs p s)
 
-unfoldable pub forgotten : Queues → ℕ → ℕ → Queues
-forgotten q p s = removedFrom q p (oneSlot (pick (eqb (s / slots) p) allBits noticeBits) s)
+-- The owner's handle is gone: in a queue without attached handles every notice about the node goes with the messages for it.
+unfoldable pub forgottenOwn : List ℕ → List ℕ → Queues → ℕ → ℕ → Queues
+forgottenOwn ns hs q p s =
+    let a = removedFrom q p (oneSlot (messageBit + releasedBit) s) in
+    pick (eqb (attachedOf (chargesAt (q .charges) p)) 0)
+    (removedFrom q p (oneSlot allBits s))
+    (setQueued a (expiredAll ns hs (a .charges) p (a .rings)))
+
+unfoldable pub forgotten : List ℕ → List ℕ → Queues → ℕ → ℕ → Queues
+forgotten ns hs q p s = pick (eqb (s / slots) p) (forgottenOwn ns hs q p s) (setQueued q (expired ns hs (q .charges) p (q .rings) s))
 
 unfoldable pub notified : List ℕ → List ℕ → Rings → ℕ → ℕ → Rings
 notified ns hs r s n = pick (liveAt ns s) (pick (eqb (totalAt hs s) 1) (entered r (s / slots) (noticeOf kindReleased s n)) r) r
@@ -98,19 +106,19 @@ abbrev pub releasesOf : List ℕ → List ℕ → Queues → Releases
 releasesOf ps hs q = record { peers = ps; handles = hs; queues = q }
 
 -- The queues after the reference is dropped.
-unfoldable pub leftBehind : List ℕ → Queues → ℕ → ℕ → Queues
-leftBehind hs q p s = pick (eqb (dropped hs p s .left) 0) (forgotten q p s) q
+unfoldable pub leftBehind : List ℕ → List ℕ → Queues → ℕ → ℕ → Queues
+leftBehind ns hs q p s = pick (eqb (dropped hs p s .left) 0) (forgotten ns (dropped hs p s .handles) q p s) q
 
 unfoldable pub releases : List ℕ → List ℕ → List ℕ → Queues → ℕ → ℕ → Releases
 releases ps ns hs q p s =
     let d = dropped hs p s in
-    let a = leftBehind hs q p s in
+    let a = leftBehind ns hs q p s in
     releasesOf (counted ps .peers) (d .handles)
     (setQueued a (notified ns (d .handles) (a .rings) s (counted ps .number)))
 
--- Transfer.
+-- Transfer: as of its own number.
 unfoldable pub transfers : List ℕ → List ℕ → List ℕ → Rings → ℕ → ℕ → Given
-transfers ps ns hs r q s = givenTo ns (countCommand ps) hs r q s
+transfers ps ns hs r q s = givenTo ns (counted ps .peers) hs r q (counted ps .number) s
 
 -- Send: a message for each of the first k destinations.
 unfoldable pub messageTo : ℕ → ℕ → ℕ → ℕ → List ℕ → ℕ → Entry
@@ -153,7 +161,7 @@ ringsAfter r ends = setEnds r ends
 unfoldable pub disconnects : List ℕ → List ℕ → List ℕ → List ℕ → Rings → ℕ → Disconnects
 disconnects ps ns hs cs r p =
     let n = counted ps .number in
-    let d = destroyedSet ns hs r p (setOf ns hs p Living) n in
+    let d = destroyedSet ns hs cs r p (setOf ns hs p Living) n in
     disconnectsOf (setDisconnected (counted ps .peers) p) (d .nodes) (clearPeer hs p) (emptiedCharges cs p)
     (toldOwners (d .nodes) hs p n (ringsAfter (d .rings) (cleared (d .rings .ends) p)) peers)
 
@@ -179,14 +187,16 @@ pub record Taken : Type 0 where
 abbrev pub receivedOf : Outcome → List ℕ → List ℕ → List ℕ → Queues → Taken
 receivedOf o out ps hs q = record { outcome = o; out = out; peers = ps; handles = hs; queues = q }
 
--- A message is taken out, and what it carries is given.
+-- A message is taken out, and what it carries is given as of its own number. Where its owner is shown the invalid ID for a node, the notice goes that nothing keeps then.
 unfoldable pub receivedMessage : List ℕ → List ℕ → List ℕ → Queues → ℕ → Entry → List ℕ → Taken
 receivedMessage ps ns hs q p e out =
-    let g = givesTo ns ps hs (ringsAfter (q .rings) (popped (q .rings .ends) p)) p (e .carried) (min (e .nh) peers) in
+    let nh = min (e .nh) mostIds in
+    let g = givesTo ns ps hs (ringsAfter (q .rings) (popped (q .rings .ends) p)) p (e .number) (e .carried) nh in
     let a = messageAnswer (q .charges) p (record { 0 = idOrInvalid hs p (e .slot % nodes) }) (followsIn (q .rings) p (e .number)) e in
     let bytes = shownBytes (q .charges) (q .pool) p e in
+    let cs = settledCharges (q .charges) p e in
     receivedOf (outcomeOf a (shownIds e (g .ids)) bytes out) (answerAfter a (shownIds e (g .ids)) bytes out) (g .peers) (g .handles)
-    (record { charges = settledCharges (q .charges) p e; rings = g .rings; pool = settledPool (q .charges) (q .pool) p e })
+    (record { charges = cs; rings = expiredShown ns (g .handles) cs p (e .carried) (g .ids) (g .rings) nh; pool = settledPool (q .charges) (q .pool) p e })
 
 -- A notice is taken out.
 pub record NoticeTaken : Type 0 where
@@ -213,7 +223,7 @@ received ps ns hs q p out =
     (receivedMessage (countCommand ps) ns hs q p e out)
     (receivedOf (x .outcome) (x .out) (countCommand ps) hs (setQueued q (ringsAfter (q .rings) (x .ends))))
 
--- Show the seed, which stays: what it carries is given. The answer has no destination, the user u and no flag.
+-- Show the seed, which stays: what it carries is given as of this command. The answer has no destination, the user u and no flag.
 unfoldable pub seedAnswer : ℕ → ℕ → ℕ → Answer
 seedAnswer u nb nh = isReceived (Seed (record { to = record { 0 = invalid }; user = record { 0 = u }; flag = false; nb = nb; nh = nh }))
 
@@ -230,8 +240,8 @@ shownOf o out ps hs r = record { outcome = o; out = out; peers = ps; handles = h
 -- The peer p is shown its seed, with its own user.
 unfoldable pub shows : List ℕ → List ℕ → List ℕ → Rings → List ℕ → ℕ → List ℕ → Shown
 shows ps ns hs r sd p out =
-    let g = givesTo ns (countCommand ps) hs r p (slotsAt sd p) (carriedAt sd p) in
-    let a = seedAnswer (userAt (countCommand ps) p) (bytesAt sd p) (carriedAt sd p) in
+    let g = givesTo ns (counted ps .peers) hs r p (counted ps .number) (slotsAt sd p) (carriedAt sd p) in
+    let a = seedAnswer (userAt (counted ps .peers) p) (bytesAt sd p) (carriedAt sd p) in
     let ids = take (carriedAt sd p) (g .ids) in
     let bytes = pieceAt sd p (bytesAt sd p) in
     shownOf (outcomeOf a ids bytes out) (answerAfter a ids bytes out) (g .peers) (g .handles) (g .rings)

@@ -6,7 +6,8 @@ use lib.ListN.{length}
 use Rattle.model.specs.State.{State}
 use Rattle.model.specs.Step.{Call, run}
 use Rattle.model.specs.Notices.{Noted}
-use Rattle.model.specs.NoticesProof.{noted}
+use Rattle.model.specs.Founded.{Founded}
+use Rattle.model.specs.NoticesProof.{noted, founded}
 use Rattle.model.specs.Charged.{Charged}
 use Rattle.model.specs.ChargedProof.{always-charged}
 use Rattle.model.specs.Bounds.{Bounded}
@@ -19,6 +20,7 @@ use Rattle.model.specs.IdsProof.{sound-ids}
 
 pub record Good (b : State) : Type 0 where
   pub noted : Noted b
+  pub founded : Founded b
   pub charged : Charged b
   pub bounded : Bounded b
   pub ordered : (p : ℕ) → Ordered (b .accepted) (b .queue p)
@@ -29,6 +31,7 @@ pub good : (cs : List Call) → Good (run cs)
 good cs =
     record {
       noted = noted cs;
+      founded = founded cs;
       charged = always-charged cs;
       bounded = bounded cs;
       ordered = order cs;

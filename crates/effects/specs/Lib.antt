@@ -7,7 +7,9 @@ pub mod Counting
 pub mod Seeding
 pub mod Opening
 pub mod Sending
+pub mod Forgetting
 pub mod Releasing
+pub mod Unkept
 pub mod Receiving
 pub mod Showing
 pub mod Ranges

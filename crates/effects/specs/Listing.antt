@@ -17,7 +17,7 @@ use Rattle.model.specs.Occurs.{either-false, any-below}
 use Rattle.tables.specs.PeersView.{given-counted}
 use Rattle.view.specs.View.{Bus, Shape, stateOf}
 use Rattle.grants.specs.Listing.{listed-given}
-use Rattle.effects.specs.Effects.{created, dropped, releases, transfers, disconnects}
+use Rattle.effects.specs.Effects.{counted, created, dropped, releases, transfers, disconnects}
 use Rattle.effects.specs.After.{afterCreate, afterRelease, afterTransfer, afterDisconnect}
 use Rattle.effects.specs.Good.{Good}
 use Rattle.effects.specs.Counting.{counting, shape-counted}
@@ -56,9 +56,9 @@ module _ (b : Bus) (h : Shape b) (g : Good (stateOf b)) (a : AllListed (b .handl
       listed-reduced (b .handles) (h .handles) p s lp ls a (omega (arith, count-is (b .handles) p s lp ls, ap count e, g .ids p .counted s i c e))
 
   pub listed-transfer : (q s : ℕ) → q < peers → s < nodes → AllListed (afterTransfer b q s .handles)
-  unfolding transfers
+  unfolding transfers counted
   listed-transfer q s lq ls =
-      listed-given (counting b) (shape-counted b h) q s lq ls (rw (given-counted (b .peers)) (g .ids q)) (few b q s h g lq ls) a
+      listed-given (counting b) (shape-counted b h) q (counted (b .peers) .number) s lq ls (rw (given-counted (b .peers)) (g .ids q)) (few b q s h g lq ls) a
 
   pub listed-disconnect : (p : ℕ) → p < peers → AllListed (afterDisconnect b p .handles)
   unfolding disconnects

@@ -2,6 +2,7 @@
 -- Assumes nothing.
 use Prim.Native.Nat.{ℕ, zero, suc, _+_, _*_, _-_, _/_, _%_, _^_, _≤_, _<_, min}
 use mathlib.Core.Path.{_≡_, refl, _∙_}
+use mathlib.Core.Bool.{Bool, true}
 use mathlib.Core.List.{List, [], _∷_}
 use native.Mathlib.Omega.{arith}
 use lib.ListN.{length, getD, set, replicate}
@@ -15,25 +16,27 @@ use Rattle.laws.specs.Bits.{bits}
 use Rattle.frames.specs.declared.Sizes.{Sizes}
 use Rattle.rings.specs.declared.Entry.{Entry as Row}
 use Rattle.rings.specs.declared.Match.{Match}
-use Rattle.rings.specs.Rings.{kindDestroyed, kindReleased, releasedBit, noticeBits, allBits, slots, ringSize, endsSize, Rings, headOf, lengthOf, popped, cleared, removed, oneSlot, firstOf}
+use Rattle.rings.specs.Rings.{kindDestroyed, kindReleased, messageBit, destroyedBit, releasedBit, allBits, slots, ringSize, endsSize, Rings, entryAt, rowOf, headOf, lengthOf, popped, cleared, removed, oneSlot, firstOf}
 use Rattle.rings.specs.Laws.{pop-heads, pop-head, clear-heads, remove-heads}
 use Rattle.tables.specs.declared.Found.{Found}
 use Rattle.tables.specs.declared.Found.the-variants.{At, Nothing}
 use Rattle.tables.specs.Peers.{modulus, peerRow, acceptedAt, stateAt, userAt, givenAt, setOpen, setDisconnected, setGiven, nextNumber, countCommand}
 use Rattle.tables.specs.PeersView.{given-is, accepted-is}
-use Rattle.tables.specs.Nodes.{liveAt}
+use Rattle.tables.specs.Nodes.{liveAt, diedAt}
 use Rattle.tables.specs.Handles.{countAt, idAt, totalAt}
-use Rattle.queues.specs.Queues.{Queues, isMessage, entered, enqueued, withdrawn, removedFrom}
+use Rattle.tables.specs.Charges.{chargesAt}
+use Rattle.queues.specs.Queues.{Queues, isMessage, attachedOf, settledCharges, entered, enqueued, withdrawn, removedFrom}
 use Rattle.queues.specs.Entering.{enter-heads}
 use Rattle.queues.specs.Leaving.{afterRemoval}
 use Rattle.model.specs.Numbers.{nodes, mostCommands}
+use Rattle.model.specs.Lists.{either}
 use Rattle.view.specs.View.{Bus, Shape, stateOf}
 use Rattle.view.specs.Rows.{queue-count}
 use Rattle.judges.specs.declared.Places.{Places}
 use Rattle.notices.specs.declared.Asked.the-variants.{Falling, Living}
-use Rattle.notices.specs.Notices.{Destroyed, noticeOf, aboveAt, leastAt, postedTo, addressees, following, told, setOf, releasedIn, destroyedSet, toldOwners}
-use Rattle.grants.specs.Grants.{Given, Numbered, numbered, numberedOf, shownTo, referenced, givenTo, givesTo}
-use Rattle.effects.specs.Effects.{Taken, counted, openedPeers, created, destroys, releases, transfers, sends, disconnects, received, shows, dropped, forgotten, notified, leftBehind, messageTo, sentTo, ringsAfter, receivedMessage, noticeTaken}
+use Rattle.notices.specs.Notices.{Destroyed, noticeOf, aboveAt, leastAt, postedTo, tellsAt, addresseesOf, ownerAlone, following, told, setOf, releasedIn, destroyedSet, toldOwners, expired, expiredAt, ownInvalid, expiredShown, expiredPlace, expiredBelow, expiredAll}
+use Rattle.grants.specs.Grants.{Given, Numbered, numbered, numberedOf, shownTo, referenced, validAt, givenTo, givesTo}
+use Rattle.effects.specs.Effects.{Taken, counted, openedPeers, created, destroys, releases, transfers, sends, disconnects, received, shows, dropped, forgottenOwn, forgotten, notified, leftBehind, messageTo, sentTo, ringsAfter, receivedMessage, noticeTaken}
 use Rattle.effects.specs.After.{queuesIn, afterOpen, afterCreate, afterDestroy, afterRelease, afterTransfer, afterSend, afterReceive, afterDisconnect, afterShow}
 use Rattle.effects.specs.Good.{Good}
 use Rattle.ids.specs.Sizes.{peers, mostIds, acceptedEnd, givenEnd}
@@ -150,22 +153,22 @@ numbered-raw p n ps h f = (raw, go (look (ltb (peerRow p + 2) (length ps))))
     go (is-true e) = rw (getD-set-same ps (peerRow p + 2) (givenAt ps p + 1) 0 (ltb-true (peerRow p + 2) (length ps) e)) (omega (arith, f .1))
     go (is-false e) = rw (set-out ps (peerRow p + 2) (givenAt ps p + 1) (ltb-false (peerRow p + 2) (length ps) e)) (omega (arith, f .1))
 
-given-raw : (ns ps hs : List ℕ) (r : Rings) (p s n : ℕ) → n + 1 < modulus → Fits p n ps → Fits p (n + 1) (givenTo ns ps hs r p s .peers)
+given-raw : (ns ps hs : List ℕ) (r : Rings) (p asOf s n : ℕ) → n + 1 < modulus → Fits p n ps → Fits p (n + 1) (givenTo ns ps hs r p asOf s .peers)
 unfolding givenTo referenced shownTo
-given-raw ns ps hs r p s n h f = pick-all (λ (x : Given). Fits p (n + 1) (x .peers)) (liveAt ns s) _ _ shown (fits-more p n (n + 1) ps (omega arith) f)
+given-raw ns ps hs r p asOf s n h f = pick-all (λ (x : Given). Fits p (n + 1) (x .peers)) (validAt ns hs asOf p s) _ _ shown (fits-more p n (n + 1) ps (omega arith) f)
   where
     shown : Fits p (n + 1) (pick (eqb (countAt hs p s) 0) (numbered ps p) (numberedOf (idAt hs p s) ps) .peers)
     shown =
         pick-all (λ (x : Numbered). Fits p (n + 1) (x .peers)) (eqb (countAt hs p s) 0) (numbered ps p) (numberedOf (idAt hs p s) ps) (numbered-raw p n ps h f)
         (fits-more p n (n + 1) ps (omega arith) f)
 
-gives-raw : (ns ps hs : List ℕ) (r : Rings) (p n : ℕ) (ss : List ℕ) (k : ℕ) → n + k < modulus → Fits p n ps → Fits p (n + k) (givesTo ns ps hs r p ss k .peers)
+gives-raw : (ns ps hs : List ℕ) (r : Rings) (p n asOf : ℕ) (ss : List ℕ) (k : ℕ) → n + k < modulus → Fits p n ps → Fits p (n + k) (givesTo ns ps hs r p asOf ss k .peers)
 unfolding givesTo
-gives-raw ns ps hs r p n ss zero h f = fits-more p n (n + zero) ps (omega arith) f
-gives-raw ns ps hs r p n ss (suc k) h f =
-    let g = givesTo ns ps hs r p ss k in
+gives-raw ns ps hs r p n asOf ss zero h f = fits-more p n (n + zero) ps (omega arith) f
+gives-raw ns ps hs r p n asOf ss (suc k) h f =
+    let g = givesTo ns ps hs r p asOf ss k in
     fits-more p (n + k + 1) (n + suc k) _ (omega arith)
-    (given-raw ns (g .peers) (g .handles) (g .rings) p (getD ss k 0 % nodes) (n + k) (omega arith) (gives-raw ns ps hs r p n ss k (omega arith) f))
+    (given-raw ns (g .peers) (g .handles) (g .rings) p asOf (getD ss k 0 % nodes) (n + k) (omega arith) (gives-raw ns ps hs r p n asOf ss k (omega arith) f))
 
 -- Rings with the heads of others.
 abbrev pub SameHeads : Rings → Rings → Type 0
@@ -200,46 +203,77 @@ posted-heads (suc f) set r e o =
     pick-all (λ (x : Rings). headOf (x .ends) o ≡ headOf (r .ends) o) (eqb set 0) r (postedTo (entered r q e) e (set - 2 ^ q) f) refl
     (posted-heads f (set - 2 ^ q) (entered r q e) e o ∙ enter-heads r q e o)
 
-pub told-heads : (f set : ℕ) (hs : List ℕ) (q kind n : ℕ) (r : Rings) → SameHeads r (told hs q kind n r set f)
+pub told-heads : (f set : ℕ) (hs to : List ℕ) (q kind n : ℕ) (r : Rings) → SameHeads r (told hs to q kind n r set f)
 unfolding told
-told-heads zero set hs q kind n r o = refl
-told-heads (suc f) set hs q kind n r o = go (leastAt hs q set slots) (λ g r. told-heads f g hs q kind n r o)
+told-heads zero set hs to q kind n r o = refl
+told-heads (suc f) set hs to q kind n r o = go (leastAt hs q set slots) (λ g r. told-heads f g hs to q kind n r o)
   where
     more : ℕ → Rings
-    more j = told hs q kind n (postedTo r (noticeOf kind (q * slots + j % slots) n) (addressees hs kind (q * slots + j % slots)) peers) (bits (aboveAt hs q set j) slots) f
+    more j = told hs to q kind n (postedTo r (noticeOf kind (q * slots + j % slots) n) (getD to (j % slots) 0) peers) (bits (aboveAt hs q set j) slots) f
 
-    go : (x : Found) → ((g : ℕ) (r : Rings) → headOf (told hs q kind n r g f .ends) o ≡ headOf (r .ends) o) →
+    go : (x : Found) → ((g : ℕ) (r : Rings) → headOf (told hs to q kind n r g f .ends) o ≡ headOf (r .ends) o) →
         headOf (following x more r .ends) o ≡ headOf (r .ends) o
     go Nothing ih = refl
     go (At j) ih =
-        let s = q * slots + j % slots in
-        ih (bits (aboveAt hs q set j) slots) (postedTo r (noticeOf kind s n) (addressees hs kind s) peers) ∙ posted-heads peers (addressees hs kind s) r (noticeOf kind s n) o
+        let e = noticeOf kind (q * slots + j % slots) n in
+        ih (bits (aboveAt hs q set j) slots) (postedTo r e (getD to (j % slots) 0) peers) ∙ posted-heads peers (getD to (j % slots) 0) r e o
 
-pub destroyed-heads : (ns hs : List ℕ) (r : Rings) (p set n : ℕ) → SameHeads r (destroyedSet ns hs r p set n .rings)
+pub destroyed-heads : (ns hs cs : List ℕ) (r : Rings) (p set n : ℕ) → SameHeads r (destroyedSet ns hs cs r p set n .rings)
 unfolding destroyedSet
-destroyed-heads ns hs r p set n o =
-    told-heads slots set hs p kindDestroyed n (withdrawn r p (releasedIn p set)) o ∙ withdraw-heads r p (releasedIn p set) o
+destroyed-heads ns hs cs r p set n o =
+    told-heads slots set hs (addresseesOf hs cs r p set n) p kindDestroyed n (withdrawn r p (releasedIn p set)) o ∙ withdraw-heads r p (releasedIn p set) o
 
 pub owners-heads : (ns hs : List ℕ) (p n : ℕ) (r : Rings) (q : ℕ) → SameHeads r (toldOwners ns hs p n r q)
 unfolding toldOwners
 owners-heads ns hs p n r zero o = refl
 owners-heads ns hs p n r (suc q) o =
-    told-heads slots (setOf ns hs q (Falling (record { 0 = p }))) hs q kindReleased n (toldOwners ns hs p n r q) o ∙ owners-heads ns hs p n r q o
+    told-heads slots (setOf ns hs q (Falling (record { 0 = p }))) hs (ownerAlone q) q kindReleased n (toldOwners ns hs p n r q) o ∙ owners-heads ns hs p n r q o
 
-pub given-heads : (ns ps hs : List ℕ) (r : Rings) (p s : ℕ) → SameHeads r (givenTo ns ps hs r p s .rings)
+pub expired-heads : (ns hs cs : List ℕ) (p : ℕ) (r : Rings) (s : ℕ) → SameHeads r (expired ns hs cs p r s)
+unfolding expired
+expired-heads ns hs cs p r s o =
+    pick-all (λ (x : Rings). headOf (x .ends) o ≡ headOf (r .ends) o) (either (liveAt ns s) (tellsAt hs cs r s (diedAt ns s) p)) r (withdrawn r p (oneSlot destroyedBit s))
+    refl (withdraw-heads r p (oneSlot destroyedBit s) o)
+
+pub expiredAt-heads : (ns hs cs : List ℕ) (p : ℕ) (t : ℕ → Bool) (f : ℕ → ℕ) (r : Rings) (n : ℕ) → SameHeads r (expiredAt ns hs cs p t f r n)
+unfolding expiredAt
+expiredAt-heads ns hs cs p t f r zero o = refl
+expiredAt-heads ns hs cs p t f r (suc k) o =
+    let before = expiredAt ns hs cs p t f r k in
+    let ih = expiredAt-heads ns hs cs p t f r k o in
+    pick-all (λ (x : Rings). headOf (x .ends) o ≡ headOf (r .ends) o) (t k) (expired ns hs cs p before (f k)) before (expired-heads ns hs cs p before (f k) o ∙ ih) ih
+
+place-heads : (ns hs cs : List ℕ) (p : ℕ) (r : Rings) (i : ℕ) → SameHeads r (expiredPlace ns hs cs p r i)
+unfolding expiredPlace
+place-heads ns hs cs p r i o =
+    let e = entryAt (r .rows) (rowOf p (headOf (r .ends) p) i) in
+    pick-all (λ (x : Rings). headOf (x .ends) o ≡ headOf (r .ends) o) (eqb (e .kind) kindDestroyed) (expired ns hs cs p r (e .slot % nodes)) r
+    (expired-heads ns hs cs p r (e .slot % nodes) o) refl
+
+below-heads : (ns hs cs : List ℕ) (p : ℕ) (r : Rings) (k : ℕ) → SameHeads r (expiredBelow ns hs cs p r k)
+unfolding expiredBelow
+below-heads ns hs cs p r zero o = refl
+below-heads ns hs cs p r (suc k) o = below-heads ns hs cs p (expiredPlace ns hs cs p r k) k o ∙ place-heads ns hs cs p r k o
+
+pub expiredAll-heads : (ns hs cs : List ℕ) (p : ℕ) (r : Rings) → SameHeads r (expiredAll ns hs cs p r)
+expiredAll-heads ns hs cs p r o =
+    pick-all (λ (x : Rings). headOf (x .ends) o ≡ headOf (r .ends) o) (leb (lengthOf (r .ends) p) ringSize) (expiredBelow ns hs cs p r (lengthOf (r .ends) p)) r
+    (below-heads ns hs cs p r (lengthOf (r .ends) p) o) refl
+
+pub given-heads : (ns ps hs : List ℕ) (r : Rings) (p asOf s : ℕ) → SameHeads r (givenTo ns ps hs r p asOf s .rings)
 unfolding givenTo
-given-heads ns ps hs r p s o =
-    pick-all (λ (x : Given). headOf (x .rings .ends) o ≡ headOf (r .ends) o) (liveAt ns s) _ _
+given-heads ns ps hs r p asOf s o =
+    pick-all (λ (x : Given). headOf (x .rings .ends) o ≡ headOf (r .ends) o) (validAt ns hs asOf p s) _ _
     (pick-all (λ (x : Rings). headOf (x .ends) o ≡ headOf (r .ends) o) (eqb (totalAt hs s) 1) (withdrawn r (s / slots) (oneSlot releasedBit s)) r
     (withdraw-heads r (s / slots) (oneSlot releasedBit s) o) refl)
     refl
 
-pub gives-heads : (ns ps hs : List ℕ) (r : Rings) (p : ℕ) (ss : List ℕ) (k : ℕ) → SameHeads r (givesTo ns ps hs r p ss k .rings)
+pub gives-heads : (ns ps hs : List ℕ) (r : Rings) (p asOf : ℕ) (ss : List ℕ) (k : ℕ) → SameHeads r (givesTo ns ps hs r p asOf ss k .rings)
 unfolding givesTo
-gives-heads ns ps hs r p ss zero o = refl
-gives-heads ns ps hs r p ss (suc k) o =
-    let g = givesTo ns ps hs r p ss k in
-    given-heads ns (g .peers) (g .handles) (g .rings) p (getD ss k 0 % nodes) o ∙ gives-heads ns ps hs r p ss k o
+gives-heads ns ps hs r p asOf ss zero o = refl
+gives-heads ns ps hs r p asOf ss (suc k) o =
+    let g = givesTo ns ps hs r p asOf ss k in
+    given-heads ns (g .peers) (g .handles) (g .rings) p asOf (getD ss k 0 % nodes) o ∙ gives-heads ns ps hs r p asOf ss k o
 
 pub sent-heads : (q : Queues) (u nh : ℕ) (w : Places) (bytes : List ℕ) (n k : ℕ) → SameHeads (q .rings) (sentTo q u nh w bytes n k .rings)
 unfolding sentTo
@@ -256,11 +290,21 @@ notified-heads ns hs r s n o =
     (enter-heads r (s / slots) (noticeOf kindReleased s n) o) refl)
     refl
 
-pub left-heads : (hs : List ℕ) (q : Queues) (p s : ℕ) → SameHeads (q .rings) (leftBehind hs q p s .rings)
-unfolding leftBehind forgotten
-left-heads hs q p s o =
-    let m = oneSlot (pick (eqb (s / slots) p) allBits noticeBits) s in
-    pick-all (λ (x : Queues). headOf (x .rings .ends) o ≡ headOf (q .rings .ends) o) (eqb (dropped hs p s .left) 0) (removedFrom q p m) q (removed-heads q p m o) refl
+pub forgotten-heads : (ns hs : List ℕ) (q : Queues) (p s : ℕ) → SameHeads (q .rings) (forgotten ns hs q p s .rings)
+unfolding forgotten forgottenOwn
+forgotten-heads ns hs q p s o =
+    let m = oneSlot (messageBit + releasedBit) s in
+    let a = removedFrom q p m in
+    pick-all (λ (x : Queues). headOf (x .rings .ends) o ≡ headOf (q .rings .ends) o) (eqb (s / slots) p) _ _
+    (pick-all (λ (x : Queues). headOf (x .rings .ends) o ≡ headOf (q .rings .ends) o) (eqb (attachedOf (chargesAt (q .charges) p)) 0) _ _ (removed-heads q p (oneSlot allBits s) o)
+    (expiredAll-heads ns hs (a .charges) p (a .rings) o ∙ removed-heads q p m o))
+    (expired-heads ns hs (q .charges) p (q .rings) s o)
+
+pub left-heads : (ns hs : List ℕ) (q : Queues) (p s : ℕ) → SameHeads (q .rings) (leftBehind ns hs q p s .rings)
+unfolding leftBehind
+left-heads ns hs q p s o =
+    let hs′ = dropped hs p s .handles in
+    pick-all (λ (x : Queues). headOf (x .rings .ends) o ≡ headOf (q .rings .ends) o) (eqb (dropped hs p s .left) 0) (forgotten ns hs′ q p s) q (forgotten-heads ns hs′ q p s o) refl
 
 -- The oldest entry taken out: the peer's head goes on, within its ring.
 pub popped-raw : (r : Rings) (p : ℕ) → length (r .ends) ≡ endsSize → p < peers → RawHeads (r .ends) → RawHeads (popped (r .ends) p)
@@ -278,9 +322,15 @@ module _ (ps : List ℕ) (p : ℕ) (f : Fits p (mostIds * mostCommands) ps) wher
   message-raw : (ns hs : List ℕ) (q : Queues) (e : Row) (out : List ℕ) → RawHeads (popped (q .rings .ends) p) → RawTaken (receivedMessage ps ns hs q p e out)
   unfolding receivedMessage
   message-raw ns hs q e out h =
-      let after = ringsAfter (q .rings) (popped (q .rings .ends) p) in (
-        gives-raw ns ps hs after p (mostIds * mostCommands) (e .carried) (min (e .nh) mostIds) (omega arith) f .0,
-        heads-raw after (givesTo ns ps hs after p (e .carried) (min (e .nh) mostIds) .rings) (gives-heads ns ps hs after p (e .carried) (min (e .nh) mostIds)) h,
+      let after = ringsAfter (q .rings) (popped (q .rings .ends) p) in
+      let nh = min (e .nh) mostIds in
+      let x = givesTo ns ps hs after p (e .number) (e .carried) nh in
+      let cs = settledCharges (q .charges) p e in (
+        gives-raw ns ps hs after p (mostIds * mostCommands) (e .number) (e .carried) nh (omega arith) f .0,
+        heads-raw after (expiredShown ns (x .handles) cs p (e .carried) (x .ids) (x .rings) nh)
+            (heads-then after (x .rings) (expiredShown ns (x .handles) cs p (e .carried) (x .ids) (x .rings) nh) (gives-heads ns ps hs after p (e .number) (e .carried) nh)
+            (expiredAt-heads ns (x .handles) cs p (ownInvalid p (e .carried) (x .ids)) (λ k. getD (e .carried) k 0 % nodes) (x .rings) nh))
+            h,
       )
 
   received-raw : (old ns hs : List ℕ) (q : Queues) (out : List ℕ) → countCommand old ≡ ps → RawHeads (popped (q .rings .ends) p) → RawTaken (received old ns hs q p out)
@@ -313,15 +363,15 @@ module _ (b : Bus) (r : Raw b) (g : Good (stateOf b)) where
   raw-destroy p s =
       raw-parts (afterDestroy b p s) number-raw
       (heads-raw (b .rings) (afterDestroy b p s .rings)
-      (destroyed-heads (b .nodes) (b .handles) (b .rings) p (oneSlot releasedBit s .mask) (counted (b .peers) .number)) (r .heads))
+      (destroyed-heads (b .nodes) (b .handles) (b .charges) (b .rings) p (oneSlot releasedBit s .mask) (counted (b .peers) .number)) (r .heads))
 
   pub raw-release : (p s : ℕ) → Raw (afterRelease b p s)
   unfolding releases
   raw-release p s =
       raw-parts (afterRelease b p s) number-raw
       (heads-raw (b .rings) (afterRelease b p s .rings)
-      (heads-then (b .rings) (leftBehind (b .handles) (queuesIn b) p s .rings) (afterRelease b p s .rings) (left-heads (b .handles) (queuesIn b) p s)
-      (notified-heads (b .nodes) (dropped (b .handles) p s .handles) (leftBehind (b .handles) (queuesIn b) p s .rings) s (counted (b .peers) .number)))
+      (heads-then (b .rings) (leftBehind (b .nodes) (b .handles) (queuesIn b) p s .rings) (afterRelease b p s .rings) (left-heads (b .nodes) (b .handles) (queuesIn b) p s)
+      (notified-heads (b .nodes) (dropped (b .handles) p s .handles) (leftBehind (b .nodes) (b .handles) (queuesIn b) p s .rings) s (counted (b .peers) .number)))
       (r .heads))
 
   pub raw-send : (p : ℕ) (z : Sizes) (w : Places) (bytes : List ℕ) → Raw (afterSend b p z w bytes)
@@ -339,11 +389,11 @@ module _ (b : Bus) (r : Raw b) (g : Good (stateOf b)) where
       (λ o.
       owners-heads (d .nodes) (b .handles) p (counted (b .peers) .number) (ringsAfter (d .rings) (cleared (d .rings .ends) p)) peers o
       ∙ clear-heads (d .rings) p o
-      ∙ destroyed-heads (b .nodes) (b .handles) (b .rings) p (setOf (b .nodes) (b .handles) p Living) (counted (b .peers) .number) o)
+      ∙ destroyed-heads (b .nodes) (b .handles) (b .charges) (b .rings) p (setOf (b .nodes) (b .handles) p Living) (counted (b .peers) .number) o)
       (r .heads))
     where
       d : Destroyed
-      d = destroyedSet (b .nodes) (b .handles) (b .rings) p (setOf (b .nodes) (b .handles) p Living) (counted (b .peers) .number)
+      d = destroyedSet (b .nodes) (b .handles) (b .charges) (b .rings) p (setOf (b .nodes) (b .handles) p Living) (counted (b .peers) .number)
 
   -- Of the receiver's given IDs.
   given-few : (p : ℕ) → p < peers → Fits p (mostIds * mostCommands) (countCommand (b .peers))
@@ -356,10 +406,12 @@ module _ (b : Bus) (r : Raw b) (g : Good (stateOf b)) where
   )
 
   pub raw-transfer : (q s : ℕ) → q < peers → Raw (afterTransfer b q s)
-  unfolding transfers
+  unfolding transfers counted
   raw-transfer q s l =
-      raw-parts (afterTransfer b q s) (given-raw (b .nodes) (countCommand (b .peers)) (b .handles) (b .rings) q s (mostIds * mostCommands) (omega arith) (given-few q l) .0)
-      (heads-raw (b .rings) (afterTransfer b q s .rings) (given-heads (b .nodes) (countCommand (b .peers)) (b .handles) (b .rings) q s) (r .heads))
+      let ps = countCommand (b .peers) in
+      let n = counted (b .peers) .number in
+      raw-parts (afterTransfer b q s) (given-raw (b .nodes) ps (b .handles) (b .rings) q n s (mostIds * mostCommands) (omega arith) (given-few q l) .0)
+      (heads-raw (b .rings) (afterTransfer b q s .rings) (given-heads (b .nodes) ps (b .handles) (b .rings) q n s) (r .heads))
 
   pub raw-receive : (p : ℕ) (out : List ℕ) → Shape b → p < peers → Raw (afterReceive b p out)
   raw-receive p out s l =
@@ -368,13 +420,14 @@ module _ (b : Bus) (r : Raw b) (g : Good (stateOf b)) where
       raw-parts (afterReceive b p out) (t .0) (t .1)
 
   pub raw-show : (p : ℕ) (out : List ℕ) → p < peers → Raw (afterShow b p out)
-  unfolding shows
+  unfolding shows counted
   raw-show p out l =
       let ps = countCommand (b .peers) in
       let ss = slotsAt (b .seeds) p in
       let n = carriedAt (b .seeds) p in
-      raw-parts (afterShow b p out) (gives-raw (b .nodes) ps (b .handles) (b .rings) p (mostIds * mostCommands) ss n (omega arith) (given-few p l) .0)
-      (heads-raw (b .rings) (afterShow b p out .rings) (gives-heads (b .nodes) ps (b .handles) (b .rings) p ss n) (r .heads))
+      let asOf = counted (b .peers) .number in
+      raw-parts (afterShow b p out) (gives-raw (b .nodes) ps (b .handles) (b .rings) p (mostIds * mostCommands) asOf ss n (omega arith) (given-few p l) .0)
+      (heads-raw (b .rings) (afterShow b p out .rings) (gives-heads (b .nodes) ps (b .handles) (b .rings) p asOf ss n) (r .heads))
 
 -- What the tests of the ranges ask, for a bus that stands for a good state.
 pub record InRange (b : Bus) (p : ℕ) : Type 0 where

@@ -2,17 +2,17 @@
 -- Assumes nothing.
 use Prim.Native.Nat.{ℕ, zero, suc, _+_, _*_, _/_, _%_, min, _≤_, _<_}
 use mathlib.Core.Path.{_≡_, refl, sym, ap, ap₂, _∙_}
-use mathlib.Core.Bool.{true, false}
+use mathlib.Core.Bool.{Bool, true, false}
 use mathlib.Core.List.{List, [], _∷_}
 use native.Mathlib.Omega.{arith}
 use lib.ListN.{length, getD, take, drop, length-take}
 use lib.Seq.{getD-take, length-take-le}
 use lib.Dec.{ltb}
-use borrow.Author.Tests.{ltb-true}
+use borrow.Author.Tests.{eq-eqb, ltb-true}
 use Rattle.laws.specs.Tests.{Seen, Seen.is-true, Seen.is-false, look}
-use Rattle.laws.specs.Tables.{upd, upd-self, upd-all}
+use Rattle.laws.specs.Tables.{upd, upd-same, upd-self, upd-all}
 use Rattle.laws.specs.Guards.{upto}
-use Rattle.laws.specs.Weights.{All, all-at}
+use Rattle.laws.specs.Weights.{All, all-at, all-imp}
 use Rattle.answers.specs.declared.Answer.{Answer}
 use Rattle.answers.specs.Answer.{answerAfter, outcomeOf}
 use Rattle.rings.specs.declared.Entry.{Entry as Row}
@@ -27,30 +27,38 @@ use Rattle.tables.specs.Listed.{AllListed}
 use Rattle.tables.specs.Peers.{modulus, givenAt, countCommand}
 use Rattle.tables.specs.PeersView.{given-is, given-counted}
 use Rattle.model.specs.Numbers.{nodes, owner, invalid}
-use Rattle.model.specs.State.{Handle.none, count, idOr, Message, Entry, Entry.message, Entry.destroyed, Entry.released, State, isLive}
+use Rattle.model.specs.State.{Handle.none, held, count, idOr, Message, messagesIn, concerned, Entry, Entry.message, Entry.destroyed, Entry.released, State}
 use Rattle.model.specs.Tables.{accept, withGiven, withHandles, withQueues, withCharges}
-use Rattle.model.specs.Changes.{withdraw, takeOut, give, giveAll, shown, shownAll}
+use Rattle.model.specs.Changes.{withdraw, takeOut, valid, give, giveAll, shown, shownAll, stays, settled}
 use Rattle.model.specs.Effects.{receives}
 use Rattle.model.specs.Replies.{Reply, plain, ofSend, shows, showsMessage}
 use Rattle.model.specs.Lists.{any}
 use Rattle.model.specs.Notices.{Stands}
 use Rattle.model.specs.Counts.{total-one}
+use Rattle.model.specs.Occurs.{all-both}
+use Rattle.model.specs.Charged.{Fine, Charged}
+use Rattle.model.specs.ChargedProof.{charged-quiet, charged-takeOut}
+use Rattle.model.specs.Quiet.{quiet-accept, quiet-giveAll}
 use Rattle.model.specs.IdsLaws.{Holding}
 use Rattle.model.specs.IdsProof.{holding-out}
-use Rattle.view.specs.View.{Bus, Shape, entryV, queueV, stateOf, setPeers, setHandles}
+use Rattle.view.specs.View.{Bus, Shape, entryV, queueV, stateOf, setPeers, setHandles, setRings, shape-rings}
 use Rattle.view.specs.Rows.{area-length}
 use Rattle.queues.specs.Queues.{Queues, Short, usedOf, isMessage, takenOut, followsIn, setQueues, shape-queues, setQueued}
 use Rattle.queues.specs.Asking.{messageV, Kind, Kind.is-message, Kind.is-destroyed, Kind.is-released, kind, frontV, front-view, front-whole, follows-view, area-piece}
+use Rattle.queues.specs.Carrying.{unladen}
 use Rattle.queues.specs.Entering.{Filled}
 use Rattle.queues.specs.Leaving.{taken-view, taken-discharged, taken-same, taken-message, taken-notice, taken-rows, taken-ends, taken-pool, taken-charged, taken-short}
-use Rattle.grants.specs.Grants.{givesTo, idOrInvalid}
+use Rattle.notices.specs.Notices.{ownInvalid, expiredShown}
+use Rattle.notices.specs.Expiring.{Dated, Fair, Sought, stands-dated, less-all, sought-view}
+use Rattle.grants.specs.Grants.{Gives, givesTo, idOrInvalid}
 use Rattle.grants.specs.Giving.{LoneEntry, Lone, lone-stands, givenBus, givenOn, given-view, given-shown, given-shape, givesBus, givesOn, Handed, gives-view}
 use Rattle.grants.specs.Listing.{listed-gives}
-use Rattle.effects.specs.Effects.{ringsAfter, messageAnswer, shownIds, shownBytes, Taken, receivedOf, receivedMessage, noticeAnswer, noticeTaken, received, transfers}
+use Rattle.effects.specs.Effects.{counted, ringsAfter, messageAnswer, shownIds, shownBytes, Taken, receivedOf, receivedMessage, noticeAnswer, noticeTaken, received, transfers}
 use Rattle.effects.specs.After.{queuesIn, afterTransfer, afterReceive}
 use Rattle.effects.specs.Good.{Good}
-use Rattle.effects.specs.Counting.{counting, shape-counted, counted-view}
+use Rattle.effects.specs.Counting.{counting, shape-counted, counted-view, number-more}
 use Rattle.effects.specs.Releasing.{good-filled, good-short}
+use Rattle.effects.specs.Unkept.{entries-gives, unkept}
 use Rattle.ids.specs.Sizes.{peers, slots, mostIds, carriedFields}
 
 -- The oldest entry taken out of a queue.
@@ -87,18 +95,18 @@ unfolding idOrInvalid
 shown-id hs p s l m = let e : s % nodes ≡ s = omega arith in rw e (sym (id-is hs p s l m invalid))
 
 -- What is shown does not depend on how many commands were accepted.
-give-accepted : (x : State) (p s : ℕ) → give (accept x) p s ≡ accept (give x p s)
-unfolding give withdraw withHandles withGiven withQueues shown accept
-give-accepted x p s = go (look (isLive (x .life s)))
+give-accepted : (x : State) (p n s : ℕ) → give (accept x) p n s ≡ accept (give x p n s)
+unfolding give withdraw withHandles withGiven withQueues shown valid accept
+give-accepted x p n s = go (look (valid x p n s))
   where
-    go : Seen (isLive (x .life s)) → give (accept x) p s ≡ accept (give x p s)
+    go : Seen (valid x p n s) → give (accept x) p n s ≡ accept (give x p n s)
     go (is-true e) = rw e
     go (is-false e) = rw e
 
-pub shown-accepted : (x : State) (p : ℕ) (ss : List ℕ) → shownAll (accept x) p ss ≡ shownAll x p ss
-shown-accepted x p [] = refl
-shown-accepted x p (s ∷ ss) =
-    ap₂ _∷_ (unfold shown accept in refl) (ap (λ (y : State). shownAll y p ss) (give-accepted x p s) ∙ shown-accepted (give x p s) p ss)
+pub shown-accepted : (x : State) (p n : ℕ) (ss : List ℕ) → shownAll (accept x) p n ss ≡ shownAll x p n ss
+shown-accepted x p n [] = refl
+shown-accepted x p n (s ∷ ss) =
+    ap₂ _∷_ (unfold shown valid accept in refl) (ap (λ (y : State). shownAll y p n ss) (give-accepted x p n s) ∙ shown-accepted (give x p n s) p n ss)
 
 take-accepted : (x : State) (p : ℕ) (ms : List Message) (rest : List Entry) → takeOut (accept x) p ms rest ≡ accept (takeOut x p ms rest)
 unfolding takeOut withCharges withQueues accept
@@ -121,8 +129,8 @@ good-lone b g = lone-stands (stateOf b .handle) (stateOf b .life) (stateOf b .qu
 
 -- A transfer.
 module _ (b : Bus) (q s : ℕ) (h : Shape b) (g : Good (stateOf b)) (l : q < peers) (m : s < nodes) where
-  transferred-is : afterTransfer b q s ≡ givenBus (counting b) (givenOn (counting b) q s)
-  unfolding transfers
+  transferred-is : afterTransfer b q s ≡ givenBus (counting b) (givenOn (counting b) q (counted (b .peers) .number) s)
+  unfolding transfers counted
   transferred-is = refl
 
   pub few : countAt (b .handles) q s + 1 < modulus
@@ -135,19 +143,21 @@ module _ (b : Bus) (q s : ℕ) (h : Shape b) (g : Good (stateOf b)) (l : q < pee
   near : lengthOf (b .rings .ends) (s / slots) ≤ ringSize
   near = let k : s / slots < peers = omega arith in omega (arith, good-short b g (s / slots) k)
 
-  pub transfer-view : stateOf (afterTransfer b q s) ≡ give (accept (stateOf b)) q s
+  pub transfer-view : stateOf (afterTransfer b q s) ≡ give (accept (stateOf b)) q (suc (stateOf b .accepted)) s
   transfer-view =
-      ap stateOf transferred-is ∙ given-view (counting b) (shape-counted b h) q s l m (good-lone b g) few numbered near
-      ∙ ap (λ (x : State). give x q s) (counted-view b h g)
+      ap stateOf transferred-is ∙ given-view (counting b) (shape-counted b h) q (counted (b .peers) .number) s l m (good-lone b g) few numbered near
+      ∙ ap₂ (λ (x : State) (n : ℕ). give x q n s) (counted-view b h g) (number-more b h g)
 
-  pub transfer-id : transfers (b .peers) (b .nodes) (b .handles) (b .rings) q s .id ≡ shown (stateOf b) q s
-  unfolding transfers
+  pub transfer-id : transfers (b .peers) (b .nodes) (b .handles) (b .rings) q s .id ≡ shown (stateOf b) q (suc (stateOf b .accepted)) s
+  unfolding transfers counted
   transfer-id =
-      given-shown (counting b) (shape-counted b h) q s l m ∙ ap (λ (x : State). shown x q s) (counted-view b h g) ∙ (unfold shown accept in refl)
+      given-shown (counting b) (shape-counted b h) q (counted (b .peers) .number) s l m
+      ∙ ap₂ (λ (x : State) (n : ℕ). shown x q n s) (counted-view b h g) (number-more b h g)
+      ∙ (unfold shown valid accept in refl)
 
   pub shape-transfer : Shape (afterTransfer b q s)
-  unfolding transfers
-  shape-transfer = given-shape (counting b) (shape-counted b h) q s
+  unfolding transfers counted
+  shape-transfer = given-shape (counting b) (shape-counted b h) q (counted (b .peers) .number) s
 
 -- Lists: as many as there are, and all but the first.
 take-most : {A : Type 0} (n : ℕ) (xs : List A) → take (min n (length xs)) xs ≡ take n xs
@@ -227,7 +237,7 @@ module _ (b : Bus) (p : ℕ) (out : List ℕ) (h : Shape b) (g : Good (stateOf b
 
   -- Of each kind: the slot is one of a node, and the answer the model's.
   destroyed-slot : Stands (stateOf b .handle) (stateOf b .life) p (destroyed (entry .number) (entry .slot)) → entry .slot < nodes
-  destroyed-slot z = g .noted .holders p (entry .slot) (z .1) .1
+  destroyed-slot z = z .1
 
   released-slot : Stands (stateOf b .handle) (stateOf b .life) p (released (entry .number) (entry .slot)) → entry .slot < nodes
   released-slot z = g .noted .holders (owner (entry .slot)) (entry .slot) (g .noted .owned (entry .slot) (z .0)) .1
@@ -296,11 +306,18 @@ module _ (b : Bus) (p : ℕ) (out : List ℕ) (h : Shape b) (g : Good (stateOf b
     unfolding received
     left-message = rw k
 
-    bus-message : takenBus b made ≡ givesBus took (givesOn took p (entry .carried) many)
+    -- What a bus gives, and the bus then, without the notices that nothing keeps.
+    abbrev giving : Bus → Gives
+    giving c = givesOn c p (entry .number) (entry .carried) many
+
+    abbrev settling : Bus → Bus
+    settling c = setRings (givesBus c (giving c)) (expiredShown (c .nodes) (giving c .handles) (c .charges) p (entry .carried) (giving c .ids) (giving c .rings) many)
+
+    bus-message : takenBus b made ≡ settling took
     unfolding receivedMessage
     bus-message =
         ap (takenBus b) left-message
-        ∙ sym (ap (λ (q : Queues). givesBus (setQueues (counting b) q) (givesOn (setQueues (counting b) q) p (entry .carried) many)) (taken-message (queuesIn b) p entry k))
+        ∙ sym (ap (λ (q : Queues). settling (setQueues (counting b) q)) (taken-message (queuesIn b) p entry k))
 
     lone : Lone (handleV (took .handles)) (queueV (took .rings) (took .pool))
     lone =
@@ -315,9 +332,9 @@ module _ (b : Bus) (p : ℕ) (out : List ℕ) (h : Shape b) (g : Good (stateOf b
     given-few : stateOf took .given p + many < modulus
     given-few = omega (arith, ap (λ (f : ℕ → ℕ). f p) (given-counted (b .peers)), g .bounded .given p, g .bounded .few)
 
-    handed : Handed took p (entry .carried) many (givesOn took p (entry .carried) many)
+    handed : Handed took p (entry .number) (entry .carried) many (givesOn took p (entry .number) (entry .carried) many)
     handed =
-        gives-view took (shape-taken (counting b) p (shape-counted b h) l some (good-filled b g)) p (entry .carried) l eight lone short many (omega arith) carried-low
+        gives-view took (shape-taken (counting b) p (shape-counted b h) l some (good-filled b g)) p (entry .number) (entry .carried) l eight lone short many (omega arith) carried-low
         (λ q s. omega (arith, few-counts b g q s, g .bounded .few)) given-few
 
     took-view : stateOf took ≡ takeOut (accept (stateOf b)) p (messageV front ∷ []) rest
@@ -327,7 +344,7 @@ module _ (b : Bus) (p : ℕ) (out : List ℕ) (h : Shape b) (g : Good (stateOf b
     listed-message : AllListed (b .handles) → AllListed (afterReceive b p out .handles)
     listed-message a =
         rw (ap (λ (x : Bus). x .handles) bus-message)
-        (listed-gives took (shape-taken (counting b) p (shape-counted b h) l some (good-filled b g)) p (entry .carried) l eight lone short
+        (listed-gives took (shape-taken (counting b) p (shape-counted b h) l some (good-filled b g)) p (entry .number) (entry .carried) l eight lone short
         (rw took-view (holding-out (stateOf b) p (messageV front ∷ []) rest (record { handles = g .ids; owned = g .noted .owned })))
         a many (omega arith)
         (λ j lj. low-at j lj)
@@ -337,34 +354,141 @@ module _ (b : Bus) (p : ℕ) (out : List ℕ) (h : Shape b) (g : Good (stateOf b
         low-at j lj =
             rw (getD-take many (entry .carried) j 0 lj) at (all-at (λ s. s < nodes) (take many (entry .carried)) j 0 carried-low (omega (arith, length-take-le many (entry .carried) (omega (arith, eight)))))
 
-    view-message : stateOf (afterReceive b p out) ≡ giveAll (takeOut (accept (stateOf b)) p (messageV front ∷ []) rest) p (messageV front .carried)
-    view-message =
-        ap stateOf bus-message ∙ handed .state ∙ ap₂ (λ (x : State) (ss : List ℕ). giveAll x p ss) took-view carried-same
+    -- The bus once what the message carries is given.
+    abbrev gave : Bus
+    gave = givesBus took (giving took)
 
-    ids-message : take many (givesOn took p (entry .carried) many .ids) ≡ shownAll (takeOut (stateOf b) p (messageV front ∷ []) rest) p (messageV front .carried)
+    abbrev waiting : List Entry
+    waiting = queueV (gave .rings) (gave .pool) p
+
+    abbrev taken : State
+    taken = takeOut (accept (stateOf b)) p (messageV front ∷ []) rest
+
+    taken-queue : taken .queue p ≡ rest
+    unfolding takeOut withCharges withQueues accept
+    taken-queue = upd-same (stateOf b .queue) p rest
+
+    taken-life : taken .life ≡ stateOf b .life
+    unfolding takeOut withCharges withQueues accept
+    taken-life = refl
+
+    taken-handles : taken .handle ≡ stateOf b .handle
+    unfolding takeOut withCharges withQueues accept
+    taken-handles = refl
+
+    gave-view : stateOf gave ≡ giveAll taken p (entry .number) (messageV front .carried)
+    gave-view = handed .state ∙ ap₂ (λ (x : State) (ss : List ℕ). giveAll x p (entry .number) ss) took-view carried-same
+
+    -- Each destroy notice that waits then has its number, and was founded before.
+    abbrev first : List Entry
+    first = message (entry .number) (messageV front) ∷ rest
+
+    abbrev Before : Entry → Type 0
+    Before e = Dated (stateOf b .life) e × (stays (stateOf b .handle p) first e ≡ true)
+
+    waited : All Before waiting
+    waited =
+        rw (ap (λ (x : State). x .queue p) gave-view)
+        (entries-gives Before taken p (entry .number) (messageV front .carried) p
+        (rw taken-queue (all-both (Dated (stateOf b .life)) (λ e. stays (stateOf b .handle p) first e ≡ true) rest (dated .1) (founded .1))))
+      where
+        founded : All (λ e. stays (stateOf b .handle p) first e ≡ true) first
+        founded = rw (whole, f) at (g .founded p)
+
+        dated : All (Dated (stateOf b .life)) first
+        dated =
+            rw (whole, f) at
+            (all-imp (Stands (stateOf b .handle) (stateOf b .life) p) (Dated (stateOf b .life)) (stands-dated (stateOf b .handle) (stateOf b .life) p) (stateOf b .queue p)
+            (g .noted .stands p))
+
+    gave-charged : Charged (stateOf gave)
+    gave-charged =
+        rw gave-view
+        (charged-quiet (quiet-giveAll taken p (entry .number) (messageV front .carried))
+        (charged-takeOut (accept (stateOf b)) p (messageV front ∷ []) rest (charged-quiet (quiet-accept (stateOf b)) (g .charged))
+        (λ t w. unfold accept in rw (whole, f) (omega arith)) (fine .1)))
+      where
+        fine : All Fine (messagesIn first)
+        fine = rw (whole, f) at (g .charged .at p .fine)
+
+    gave-fair : Fair (gave .nodes) (gave .handles) (gave .charges) p (gave .pool) l (gave .rings)
+    gave-fair =
+        record {
+          rows = handed .shape .rows;
+          ends = handed .shape .ends;
+          short = omega (arith, handed .lengths p, short p l);
+          unladen = unladen (gave .charges) (gave .rings) (gave .pool) p l (gave-charged .at p);
+          dated = all-imp Before (Dated (stateOf b .life)) (λ e z. z .0) waiting waited;
+        }
+
+    -- What keeps a notice no more was the owner's node, shown as invalid.
+    abbrev test : ℕ → Bool
+    test = ownInvalid p (entry .carried) (giving took .ids)
+
+    abbrev place : ℕ → ℕ
+    place j = getD (entry .carried) j 0 % nodes
+
+    ids-given : take many (giving took .ids) ≡ shownAll taken p (entry .number) (messageV front .carried)
+    ids-given = handed .shows ∙ ap₂ (λ (x : State) (ss : List ℕ). shownAll x p (entry .number) ss) took-view carried-same
+
+    sought : (e : Entry) → Before e → Sought (gave .nodes) (gave .handles) (gave .charges) p (gave .pool) l test place (gave .rings) gave-fair many e
+    sought (message n m) z = tt
+    sought (released n t) z = tt
+    sought (destroyed n t) z = λ none. found (unkept (stateOf b .handle p) taken p (entry .number) (messageV front) t n (rw taken-life (z .0 .0)) (λ s e. rw taken-handles e) (rw taken-queue (z .1)) (left none))
+      where
+        left : concerned (handleV (gave .handles) p) waiting n t ≡ false →
+            concerned (giveAll taken p (entry .number) (messageV front .carried) .handle p) (giveAll taken p (entry .number) (messageV front .carried) .queue p) n t ≡ false
+        left e = ap (λ (x : State). concerned (x .handle p) (x .queue p) n t) (sym gave-view) ∙ e
+
+        found : (j : ℕ) × (j < length (messageV front .carried)) × (getD (messageV front .carried) j 0 ≡ t)
+            × (getD (shownAll taken p (entry .number) (messageV front .carried)) j 0 ≡ invalid) × (owner t ≡ p) → (j : ℕ) × (j < many) × (test j ≡ true) × (place j ≡ t)
+        found w =
+            let j = w .0 in
+            let lj : j < many = omega (arith, w .1, handles) in
+            let s : getD (entry .carried) j 0 ≡ t = sym (getD-take many (entry .carried) j 0 lj) ∙ ap (λ (ss : List ℕ). getD ss j 0) carried-same ∙ w .2 in
+            let i : getD (giving took .ids) j 0 ≡ invalid = sym (getD-take many (giving took .ids) j 0 lj) ∙ ap (λ (is : List ℕ). getD is j 0) ids-given ∙ w .3 in
+            let k : t % nodes ≡ t = omega (arith, z .0 .1) in
+            (j, lj, rw (i, s, k, eq-eqb (owner t) p (w .4)), rw (s, k))
+
+    view-message : stateOf (afterReceive b p out) ≡ settled (giveAll taken p (entry .number) (messageV front .carried)) p
+    view-message = ap stateOf bus-message ∙ gone ∙ ap (λ (x : State). settled x p) gave-view
+      where
+        low : (j : ℕ) → j < many → place j < nodes
+        low j lj = omega arith
+
+        gone : stateOf (settling took) ≡ settled (stateOf gave) p
+        gone =
+            unfold settled withQueues in
+            rw
+            (sought-view (gave .nodes) (gave .handles) (gave .charges) p (gave .pool) l test place (gave .rings) gave-fair many low
+            (all-imp Before (Sought (gave .nodes) (gave .handles) (gave .charges) p (gave .pool) l test place (gave .rings) gave-fair many) sought waiting waited))
+
+    ids-message : take many (givesOn took p (entry .number) (entry .carried) many .ids) ≡ shownAll (takeOut (stateOf b) p (messageV front ∷ []) rest) p (entry .number) (messageV front .carried)
     ids-message =
         handed .shows
-        ∙ ap₂ (λ (x : State) (ss : List ℕ). shownAll x p ss) (took-view ∙ take-accepted (stateOf b) p (messageV front ∷ []) rest) carried-same
-        ∙ shown-accepted (takeOut (stateOf b) p (messageV front ∷ []) rest) p (messageV front .carried)
+        ∙ ap₂ (λ (x : State) (ss : List ℕ). shownAll x p (entry .number) ss) (took-view ∙ take-accepted (stateOf b) p (messageV front ∷ []) rest) carried-same
+        ∙ shown-accepted (takeOut (stateOf b) p (messageV front ∷ []) rest) p (entry .number) (messageV front .carried)
 
-    ids-left : shownIds entry (givesTo (b .nodes) (countCommand (b .peers)) (b .handles) (ringsAfter (b .rings) (popped (b .rings .ends) p)) p (entry .carried) many .ids)
+    ids-left : shownIds entry (givesTo (b .nodes) (countCommand (b .peers)) (b .handles) (ringsAfter (b .rings) (popped (b .rings .ends) p)) p (entry .number) (entry .carried) many .ids)
         ≡ showsMessage (stateOf b) p (entry .number) (messageV front) rest .ids
     unfolding shownIds showsMessage
     ids-left =
-        ap (λ (q : Queues). take many (givesOn (setQueues (counting b) q) p (entry .carried) many .ids)) (sym (taken-message (queuesIn b) p entry k)) ∙ ids-message
+        ap (λ (q : Queues). take many (givesOn (setQueues (counting b) q) p (entry .number) (entry .carried) many .ids)) (sym (taken-message (queuesIn b) p entry k)) ∙ ids-message
 
     answer-message : Answers (showsMessage (stateOf b) p (entry .number) (messageV front) rest)
     unfolding receivedMessage
     answer-message =
         let same-answers =
         answers-same header (showsMessage (stateOf b) p (entry .number) (messageV front) rest .answer)
-        (shownIds entry (givesTo (b .nodes) (countCommand (b .peers)) (b .handles) (ringsAfter (b .rings) (popped (b .rings .ends) p)) p (entry .carried) many .ids))
+        (shownIds entry (givesTo (b .nodes) (countCommand (b .peers)) (b .handles) (ringsAfter (b .rings) (popped (b .rings .ends) p)) p (entry .number) (entry .carried) many .ids))
         (showsMessage (stateOf b) p (entry .number) (messageV front) rest .ids) (shownBytes (b .charges) (b .pool) p entry)
         (showsMessage (stateOf b) p (entry .number) (messageV front) rest .payload) out answer-header ids-left (unfold showsMessage in piece) in
         (ap (λ (x : Taken). x .outcome) left-message ∙ same-answers .0, ap (λ (x : Taken). x .out) left-message ∙ same-answers .1)
 
     shape-message : Shape (takenBus b made)
-    shape-message = rw bus-message (handed .shape)
+    shape-message =
+        let y = less-all (gave .nodes) (gave .handles) (gave .charges) p (gave .pool) l test place (gave .rings) (handed .shape .rows) (handed .shape .ends) many in
+        rw bus-message (shape-rings (handed .shape) (y .ends) (y .rows))
 
   -- Of every kind.
   shape-notice : isMessage entry ≡ false → Shape (afterReceive b p out)

@@ -9,10 +9,9 @@ use lib.Dec.{eqb, ltb}
 use borrow.Author.Tests.{eqb-true, eqb-false, eq-eqb, ne-eqb, lt-ltb}
 use Rattle.laws.specs.Tests.{pick, pick-all, Seen, Seen.is-true, Seen.is-false, look, Same, Same.same, Same.other, same?}
 use Rattle.laws.specs.Tables.{upd, upd-same, upd-other}
+use Rattle.laws.specs.Weights.{all-imp}
 use Rattle.laws.specs.Sums.{sum-at}
-use Rattle.rings.specs.declared.Match.{Match}
-use Rattle.rings.specs.Rings.{kindReleased, noticeBits, allBits, slots, ringSize, Rings, lengthOf, matches, oneSlot}
-use Rattle.pool.specs.Pool.{Pair}
+use Rattle.rings.specs.Rings.{kindReleased, slots, ringSize, Rings, lengthOf}
 use Rattle.tables.specs.Handles.{idAt, countAt, totalAt, reduced}
 use Rattle.tables.specs.HandlesView.{handleV, handle-is, handle-reduced, count-is, total-is, reduced-length}
 use Rattle.tables.specs.Nodes.{liveAt}
@@ -20,22 +19,24 @@ use Rattle.tables.specs.NodesView.{live-is}
 use Rattle.tables.specs.Peers.{modulus}
 use Rattle.tables.specs.PeersView.{acceptedV}
 use Rattle.model.specs.Numbers.{nodes, peers, owner}
-use Rattle.model.specs.State.{Handle, Handle.some, handleOf, count, idOr, Entry, Entry.released, State, total, isLive}
-use Rattle.model.specs.Tables.{accept, withHandle, withHandles, withQueues, withCharges}
-use Rattle.model.specs.Changes.{takeOut, forget, remains, dropped, push, fell, notify}
+use Rattle.model.specs.State.{Handle, Handle.some, handleOf, count, idOr, Entry, Entry.message, Entry.destroyed, Entry.released, State, total, isLive}
+use Rattle.model.specs.Tables.{accept, withHandle, withHandles, withQueues}
+use Rattle.model.specs.Changes.{stays, forget, push, fell, notify}
 use Rattle.model.specs.Effects as model
 use Rattle.model.specs.Counts.{put, count-handle}
+use Rattle.model.specs.Notices.{Stands}
 use Rattle.view.specs.View.{Bus, Shape, entryV, queueV, stateOf, setHandles, setRings, shape-handles, shape-rings}
 use Rattle.view.specs.Rows.{queue-count}
-use Rattle.queues.specs.Queues.{Queues, isMessage, entered, removedFrom, setQueues, shape-queues}
-use Rattle.queues.specs.Asking.{messageV}
+use Rattle.queues.specs.Queues.{Queues, isMessage, entered, setQueues}
 use Rattle.queues.specs.Entering.{Filled, filled-view, enter-view, enter-sized, enter-ends, entry-released, notice-bytes}
-use Rattle.queues.specs.Leaving.{remove-view, remove-charges, remove-rows, remove-ended, remove-less, remove-others, remove-pool, remove-charged, remains-own, dropped-own, remains-other, dropped-other}
 use Rattle.notices.specs.Notices.{noticeOf}
+use Rattle.notices.specs.Telling.{own-stands}
+use Rattle.notices.specs.Expiring.{Dated, Others, stands-dated}
 use Rattle.effects.specs.Effects.{counted, dropped as lowered, forgotten, leftBehind, notified, releases}
 use Rattle.effects.specs.After.{queuesIn, afterRelease}
 use Rattle.effects.specs.Good.{Good}
 use Rattle.effects.specs.Counting.{counting, shape-counted, counted-view}
+use Rattle.effects.specs.Forgetting.{Parting, forget-view, shape-forgotten, forgotten-less}
 
 -- What is known of a state, of its tables: no queue is near the end of its ring, and the areas are filled by their queues.
 pub good-filled : (b : Bus) → Good (stateOf b) → Filled (queuesIn b)
@@ -52,44 +53,6 @@ reduce-view b p s h l m = rw (handle-reduced (b .handles) (h .handles) p s l m)
 
 pub shape-reduce : (b : Bus) (p s : ℕ) → Shape b → Shape (setHandles b (reduced (b .handles) p s))
 shape-reduce b p s h = shape-handles h (reduced-length (b .handles) p s ∙ h .handles)
-
--- What goes with a handle.
-module _ (b : Bus) (p s : ℕ) (h : Shape b) (l : p < peers) (short : lengthOf (b .rings .ends) p ≤ ringSize) (filled : Filled (queuesIn b)) where
-  one-forgotten : (k : ℕ) → ((x : Pair) → remains p s (entryV x) ≡ not (matches (oneSlot k s) (x .entry))) →
-      ((x : Pair) → isMessage (x .entry) ≡ true → matches (oneSlot k s) (x .entry) ≡ dropped p s (messageV x)) →
-      stateOf (setQueues b (removedFrom (queuesIn b) p (oneSlot k s))) ≡ forget (stateOf b) p s
-  unfolding forget takeOut withCharges withQueues
-  one-forgotten k stay go =
-      rw (
-        remove-view (queuesIn b) p (oneSlot k s) (remains p s) (h .rows) (h .ends) (h .pool) l short (filled .within) stay,
-        remove-charges (queuesIn b) p (oneSlot k s) (dropped p s) (h .charges) l short go,
-      )
-
-  pub forget-view : stateOf (setQueues b (forgotten (queuesIn b) p s)) ≡ forget (stateOf b) p s
-  unfolding forgotten
-  forget-view = go (same? (s / slots) p)
-    where
-      go : Same (s / slots) p → stateOf (setQueues b (removedFrom (queuesIn b) p (oneSlot (pick (eqb (s / slots) p) allBits noticeBits) s))) ≡ forget (stateOf b) p s
-      go (same e) = rw (eq-eqb (s / slots) p e) (one-forgotten allBits (remains-own p s e) (dropped-own p s e))
-      go (other d) = rw (ne-eqb (s / slots) p d) (one-forgotten noticeBits (remains-other p s d) (dropped-other p s d))
-
-  pub shape-forgotten : Shape (setQueues b (forgotten (queuesIn b) p s))
-  unfolding forgotten
-  shape-forgotten =
-      let m = oneSlot (pick (eqb (s / slots) p) allBits noticeBits) s in
-      shape-queues h (remove-charged (queuesIn b) p m ∙ h .charges) (remove-ended (queuesIn b) p m ∙ h .ends) (remove-rows (queuesIn b) p m (h .rows))
-      (remove-pool (queuesIn b) p m (h .pool) l (filled .within p l) ∙ h .pool)
-
-  pub forgotten-less : (o : ℕ) → lengthOf (forgotten (queuesIn b) p s .rings .ends) o ≤ lengthOf (b .rings .ends) o
-  unfolding forgotten
-  forgotten-less o = go (same? p o)
-    where
-      m : Match
-      m = oneSlot (pick (eqb (s / slots) p) allBits noticeBits) s
-
-      go : Same p o → lengthOf (removedFrom (queuesIn b) p m .rings .ends) o ≤ lengthOf (b .rings .ends) o
-      go (same e) = rw (← e) (remove-less (queuesIn b) p m (h .ends) l)
-      go (other d) = omega (arith, remove-others (queuesIn b) p m o d)
 
 unchosen : {A : Type 0} (x : Bool) (y z : A) → pick (pick x false false) y z ≡ z
 unchosen true y z = refl
@@ -153,7 +116,7 @@ module _ (b : Bus) (p s i c : ℕ) (h : Shape b) (g : Good (stateOf b)) (l : p <
   less = setHandles (counting b) lessHandles
 
   abbrev after : Bus
-  after = setQueues less (leftBehind (b .handles) (queuesIn b) p s)
+  after = setQueues less (leftBehind (b .nodes) (b .handles) (queuesIn b) p s)
 
   lowered-is : afterRelease b p s ≡ setRings after (notified (b .nodes) lessHandles (after .rings) s (counted (b .peers) .number))
   unfolding releases lowered counted
@@ -189,7 +152,28 @@ module _ (b : Bus) (p s i c : ℕ) (h : Shape b) (g : Good (stateOf b)) (l : p <
   short : lengthOf (b .rings .ends) p ≤ ringSize
   short = omega (arith, good-short b g p l)
 
-  left-is : Seen (eqb c 1) → leftBehind (b .handles) (queuesIn b) p s ≡ pick (eqb c 1) (forgotten (queuesIn b) p s) (queuesIn b)
+  -- What is left of the handle is of p alone, and of s.
+  less-row : stateOf less .handle p ≡ upd (stateOf b .handle p) s (handleOf i (c - 1))
+  less-row =
+      ap (λ (x : State). x .handle p) less-view
+      ∙ (unfold withHandles accept in upd-same (stateOf b .handle) p (upd (stateOf b .handle p) s (handleOf i (c - 1))))
+
+  parting : c ≡ 1 → Parting less p s
+  parting one =
+      record {
+        sound = g .charged .at p;
+        dated = all-imp (Stands (stateOf b .handle) (stateOf b .life) p) (Dated (stateOf b .life)) (stands-dated (stateOf b .handle) (stateOf b .life) p) (stateOf b .queue p) (g .noted .stands p);
+        own = own-stands (stateOf b .handle) (stateOf b .life) p (stateOf b .queue p) (g .noted .stands p);
+        unheld = rw (less-row, upd-same (stateOf b .handle p) s (handleOf i (c - 1)), one);
+        others = all-imp (λ e. stays (stateOf b .handle p) (stateOf b .queue p) e ≡ true) (Others (stateOf less .handle p) (stateOf b .queue p) s) kept (stateOf b .queue p) (g .founded p);
+      }
+    where
+      kept : (e : Entry) → stays (stateOf b .handle p) (stateOf b .queue p) e ≡ true → Others (stateOf less .handle p) (stateOf b .queue p) s e
+      kept (message n m) e = tt
+      kept (destroyed n t) e = λ d. rw (less-row, upd-other (stateOf b .handle p) s t (handleOf i (c - 1)) d) e
+      kept (released n t) e = tt
+
+  left-is : Seen (eqb c 1) → leftBehind (b .nodes) (b .handles) (queuesIn b) p s ≡ pick (eqb c 1) (forgotten (b .nodes) lessHandles (queuesIn b) p s) (queuesIn b)
   unfolding leftBehind lowered
   left-is (is-true e) =
       let z : countAt (b .handles) p s - 1 ≡ 0 = omega (arith, count-c, eqb-true c 1 e) in
@@ -202,22 +186,22 @@ module _ (b : Bus) (p s i c : ℕ) (h : Shape b) (g : Good (stateOf b)) (l : p <
   after-view : stateOf after ≡ pick (eqb c 1) (forget (stateOf less) p s) (stateOf less)
   after-view = ap (λ (q : Queues). stateOf (setQueues less q)) (left-is (look (eqb c 1))) ∙ go (look (eqb c 1))
     where
-      go : Seen (eqb c 1) → stateOf (setQueues less (pick (eqb c 1) (forgotten (queuesIn b) p s) (queuesIn b))) ≡ pick (eqb c 1) (forget (stateOf less) p s) (stateOf less)
-      go (is-true e) = rw e (forget-view less p s shape-less l short filled)
+      go : Seen (eqb c 1) → stateOf (setQueues less (pick (eqb c 1) (forgotten (b .nodes) lessHandles (queuesIn b) p s) (queuesIn b))) ≡ pick (eqb c 1) (forget (stateOf less) p s) (stateOf less)
+      go (is-true e) = rw e (forget-view less p s shape-less l m short filled (parting (eqb-true c 1 e)))
       go (is-false e) = rw e
 
   shape-after : Shape after
   shape-after =
       rw (left-is (look (eqb c 1)))
-      (pick-all (λ (q : Queues). Shape (setQueues less q)) (eqb c 1) (forgotten (queuesIn b) p s) (queuesIn b) (shape-forgotten less p s shape-less l short filled) shape-less)
+      (pick-all (λ (q : Queues). Shape (setQueues less q)) (eqb c 1) (forgotten (b .nodes) lessHandles (queuesIn b) p s) (queuesIn b) (shape-forgotten less p s shape-less l m short filled) shape-less)
 
   room : lengthOf (after .rings .ends) (s / slots) < ringSize
   room =
       let q : s / slots < peers = omega arith in
       let k : lengthOf (b .rings .ends) (s / slots) ≤ 188 = good-short b g (s / slots) q in
       rw (left-is (look (eqb c 1)))
-      (pick-all (λ (q : Queues). lengthOf (q .rings .ends) (s / slots) < ringSize) (eqb c 1) (forgotten (queuesIn b) p s) (queuesIn b)
-      (omega (arith, forgotten-less less p s shape-less l short filled (s / slots))) (omega arith))
+      (pick-all (λ (q : Queues). lengthOf (q .rings .ends) (s / slots) < ringSize) (eqb c 1) (forgotten (b .nodes) lessHandles (queuesIn b) p s) (queuesIn b)
+      (omega (arith, forgotten-less less p s shape-less l m short filled (s / slots))) (omega arith))
 
   above : total (handleV lessHandles) s ≡ 1 → 1 < total (accept (stateOf b) .handle) s
   unfolding accept

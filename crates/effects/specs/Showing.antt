@@ -1,6 +1,6 @@
 -- What showing a seed does to the state that the tables stand for, and what it answers: both are the model's.
 -- Assumes nothing.
-use Prim.Native.Nat.{ℕ, _+_, _%_, _<_}
+use Prim.Native.Nat.{ℕ, suc, _+_, _%_, _<_}
 use mathlib.Core.Path.{_≡_, refl, sym, ap, ap₂, _∙_}
 use mathlib.Core.Bool.{true, false}
 use mathlib.Core.List.{List}
@@ -29,10 +29,10 @@ use Rattle.view.specs.View.{Bus, Shape, stateOf}
 use Rattle.queues.specs.Queues.{Short}
 use Rattle.grants.specs.Giving.{givesBus, givesOn, Handed, gives-view}
 use Rattle.grants.specs.Listing.{listed-gives}
-use Rattle.effects.specs.Effects.{Shown, seedAnswer, shows}
+use Rattle.effects.specs.Effects.{Shown, counted, seedAnswer, shows}
 use Rattle.effects.specs.After.{afterShow}
 use Rattle.effects.specs.Good.{Good}
-use Rattle.effects.specs.Counting.{counting, shape-counted, counted-view}
+use Rattle.effects.specs.Counting.{counting, shape-counted, counted-view, number-more}
 use Rattle.effects.specs.Sending.{user-now}
 use Rattle.effects.specs.Releasing.{good-short}
 use Rattle.effects.specs.Receiving.{shown-accepted, few-counts, good-lone, answers-same}
@@ -66,8 +66,11 @@ module _ (b : Bus) (p : ℕ) (out : List ℕ) (h : Shape b) (g : Good (stateOf b
   low : All (λ s. s < nodes) (take many slots)
   low = (rw seed-is at (seed-carried (b .seeds) p)) .1
 
-  shown-is : afterShow b p out ≡ givesBus (counting b) (givesOn (counting b) p slots many)
-  unfolding shows
+  abbrev number : ℕ
+  number = counted (b .peers) .number
+
+  shown-is : afterShow b p out ≡ givesBus (counting b) (givesOn (counting b) p number slots many)
+  unfolding shows counted
   shown-is = refl
 
   short : Short (b .rings .ends)
@@ -79,13 +82,14 @@ module _ (b : Bus) (p : ℕ) (out : List ℕ) (h : Shape b) (g : Good (stateOf b
   given-few : stateOf (counting b) .given p + many < modulus
   given-few = omega (arith, ap (λ (f : ℕ → ℕ). f p) (given-counted (b .peers)), g .bounded .given p, g .bounded .few)
 
-  handed : Handed (counting b) p slots many (givesOn (counting b) p slots many)
-  handed = gives-view (counting b) (shape-counted b h) p slots l eight (good-lone b g) short many (omega arith) low counts-few given-few
+  handed : Handed (counting b) p number slots many (givesOn (counting b) p number slots many)
+  handed = gives-view (counting b) (shape-counted b h) p number slots l eight (good-lone b g) short many (omega arith) low counts-few given-few
 
-  pub show-view : stateOf (afterShow b p out) ≡ giveAll (accept (stateOf b)) p (seedCarries (stateOf b .seed p))
+  pub show-view : stateOf (afterShow b p out) ≡ giveAll (accept (stateOf b)) p (suc (stateOf b .accepted)) (seedCarries (stateOf b .seed p))
   show-view =
       ap stateOf shown-is ∙ handed .state
-      ∙ ap₂ (λ (x : State) (ss : List ℕ). giveAll x p ss) (counted-view b h g) (sym (ap seedCarries seed-is))
+      ∙ ap₂ (λ (x : State) (ss : List ℕ). giveAll x p number ss) (counted-view b h g) (sym (ap seedCarries seed-is))
+      ∙ ap (λ (n : ℕ). giveAll (accept (stateOf b)) p n (seedCarries (stateOf b .seed p))) (number-more b h g)
 
   pub shape-show : Shape (afterShow b p out)
   shape-show = rw shown-is (handed .shape)
@@ -93,7 +97,7 @@ module _ (b : Bus) (p : ℕ) (out : List ℕ) (h : Shape b) (g : Good (stateOf b
   pub show-listed : AllListed (b .handles) → AllListed (afterShow b p out .handles)
   show-listed a =
       rw (ap (λ (x : Bus). x .handles) shown-is)
-      (listed-gives (counting b) (shape-counted b h) p slots l eight (good-lone b g) short (rw (counted-view b h g) holding) a many (omega arith) low-at counts-few given-few)
+      (listed-gives (counting b) (shape-counted b h) p number slots l eight (good-lone b g) short (rw (counted-view b h g) holding) a many (omega arith) low-at counts-few given-few)
     where
       holding : Holding (accept (stateOf b))
       holding = unfold accept in (record { handles = g .ids; owned = g .noted .owned })
@@ -123,17 +127,19 @@ module _ (b : Bus) (p : ℕ) (out : List ℕ) (h : Shape b) (g : Good (stateOf b
     unfolding seedAnswer showsSeed
     answer-told = rw (bytes-length, carried-length, user-now (b .peers) p l was)
 
-    ids-told : take many (givesOn (counting b) p slots many .ids) ≡ told .ids
+    ids-told : take many (givesOn (counting b) p number slots many .ids) ≡ told .ids
     unfolding showsSeed
     ids-told =
-        handed .shows ∙ ap (λ (x : State). shownAll x p (take many slots)) (counted-view b h g) ∙ shown-accepted (stateOf b) p (take many slots)
+        handed .shows
+        ∙ ap₂ (λ (x : State) (n : ℕ). shownAll x p n (take many slots)) (counted-view b h g) (number-more b h g)
+        ∙ shown-accepted (stateOf b) p (suc (stateOf b .accepted)) (take many slots)
 
     answers : (made .outcome ≡ outcomeOf (rep .answer) (rep .ids) (rep .payload) out) × (made .out ≡ answerAfter (rep .answer) (rep .ids) (rep .payload) out)
-    unfolding shows
+    unfolding shows counted
     answers =
         rw seed-is
         (answers-same (seedAnswer (userAt (countCommand (b .peers)) p) (bytesAt (b .seeds) p) many) (told .answer)
-        (take many (givesOn (counting b) p slots many .ids)) (told .ids) bytes (told .payload) out answer-told ids-told (unfold showsSeed in refl))
+        (take many (givesOn (counting b) p number slots many .ids)) (told .ids) bytes (told .payload) out answer-told ids-told (unfold showsSeed in refl))
 
     pub show-outcome : shows (b .peers) (b .nodes) (b .handles) (b .rings) (b .seeds) p out .outcome
         ≡ outcomeOf (showsSeed (stateOf b) p (stateOf b .seed p) .answer) (showsSeed (stateOf b) p (stateOf b .seed p) .ids) (showsSeed (stateOf b) p (stateOf b .seed p) .payload) out

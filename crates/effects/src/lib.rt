@@ -9,7 +9,7 @@ ghost use Rattle.queues.specs.Queues.{queuesOf};
 ghost use Rattle.view.specs.View.{busOf};
 ghost use Rattle.grants.specs.Grants.{givenOf};
 ghost use Rattle.tables.specs.Handles.{handlesSize};
-ghost use Rattle.effects.specs.Effects.{countedOf, counted, openedPeers, createdOf, created, destroysOf, destroys, dropped, droppedOf, forgotten, notified, releasesOf, releases, transfers, messageTo, sentTo, sends, sendsOf, disconnectsOf, disconnects, messageAnswer, shownIds, shownBytes, receivedMessage, noticeTaken, noticeTakenOf, received, receivedOf, replaced, seedAnswer, shownOf, shows};
+ghost use Rattle.effects.specs.Effects.{countedOf, counted, openedPeers, createdOf, created, destroysOf, destroys, dropped, droppedOf, forgottenOwn, forgotten, notified, releasesOf, releases, transfers, messageTo, sentTo, sends, sendsOf, disconnectsOf, disconnects, messageAnswer, shownIds, shownBytes, receivedMessage, noticeTaken, noticeTakenOf, received, receivedOf, replaced, seedAnswer, shownOf, shows};
 ghost use Rattle.ids.specs.Sizes.{peers as peerCount, peersSize, nodesSize, seedsSize, mostIds};
 ghost use Rattle.model.specs.Numbers.{nodes as nodeCount};
 ghost use Rattle.tables.specs.Charges.{chargesSize};
@@ -69,6 +69,7 @@ pub fn destroy(
     peers: &mut [u64],
     nodes: &mut [u64],
     handles: &[u64],
+    charges: &[u16],
     ends: &mut [u16],
     entries: &mut [u16],
     carried: &mut [u8],
@@ -76,15 +77,34 @@ pub fn destroy(
     p: Peer,
     s: usize,
 )
-    requires { ⌜ (length (now peers) ≡ peersSize) × (length (now nodes) ≡ nodesSize) × (length (now handles) ≡ handlesSize) × QueueTables (now ends) (now entries) (now carried) (now numbers) × (p .0 < peerCount) ⌝ }
-    ensures { λ _. ⌜ destroysOf (now (peers .exit)) (now (nodes .exit)) (ringsOf (now (ends .exit)) (now (entries .exit)) (now (carried .exit)) (now (numbers .exit))) ≡ destroys (now (peers .entry)) (now (nodes .entry)) (now (handles .entry)) (ringsOf (now (ends .entry)) (now (entries .entry)) (now (carried .entry)) (now (numbers .entry))) (p .0) s ⌝ }
+    requires { ⌜ (length (now peers) ≡ peersSize) × (length (now nodes) ≡ nodesSize) × (length (now handles) ≡ handlesSize)
+        × (length (now charges) ≡ chargesSize) × QueueTables (now ends) (now entries) (now carried) (now numbers) × (p .0 < peerCount) ⌝ }
+    ensures { λ _.
+        let before = ringsOf (now (ends .entry)) (now (entries .entry)) (now (carried .entry)) (now (numbers .entry)) in
+        let after = ringsOf (now (ends .exit)) (now (entries .exit)) (now (carried .exit)) (now (numbers .exit)) in
+        ⌜ destroysOf (now (peers .exit)) (now (nodes .exit)) after
+        ≡ destroys (now (peers .entry)) (now (nodes .entry)) (now (handles .entry)) (now (charges .entry)) before (p .0) s ⌝ }
 {
     let n = next_number(peers);
-    notices::destroy_one(nodes, handles, ends, entries, carried, numbers, p, s, n);
+    notices::destroy_one(
+        nodes,
+        handles,
+        charges,
+        ends,
+        entries,
+        carried,
+        numbers,
+        p,
+        s,
+        n,
+    );
 }
 
-// The peer's handle to the slot's node is gone: its notices go, and the messages for its own node.
-fn forget(
+// The peer's handle to its own node is gone: the messages for the node go, and the destroy notices that nothing keeps then. In
+// a queue without attached handles that is the one of the node.
+fn forget_own(
+    nodes: &[u64],
+    handles: &[u64],
     charges: &mut [u16],
     ends: &mut [u16],
     entries: &mut [u16],
@@ -94,16 +114,69 @@ fn forget(
     p: Peer,
     s: usize,
 )
-    requires { ⌜ (length (now charges) ≡ chargesSize) × QueueTables (now ends) (now entries) (now carried) (now numbers) × (p .0 < peerCount) ⌝ }
-    ensures { λ _. ⌜ queuesOf (now (charges .exit)) (now (ends .exit)) (now (entries .exit)) (now (carried .exit)) (now (numbers .exit)) (now (pool .exit)) ≡ forgotten (queuesOf (now (charges .entry)) (now (ends .entry)) (now (entries .entry)) (now (carried .entry)) (now (numbers .entry)) (now (pool .entry))) (p .0) s ⌝ }
+    requires { ⌜ (length (now nodes) ≡ nodesSize) × (length (now handles) ≡ handlesSize) × (length (now charges) ≡ chargesSize)
+        × QueueTables (now ends) (now entries) (now carried) (now numbers) × (p .0 < peerCount) ⌝ }
+    ensures { λ _.
+        let before = queuesOf (now (charges .entry)) (now (ends .entry)) (now (entries .entry)) (now (carried .entry)) (now (numbers .entry)) (now (pool .entry)) in
+        let after = queuesOf (now (charges .exit)) (now (ends .exit)) (now (entries .exit)) (now (carried .exit)) (now (numbers .exit)) (now (pool .exit)) in
+        ⌜ after ≡ forgottenOwn (now (nodes .entry)) (now (handles .entry)) before (p .0) s ⌝ }
 {
-    let kinds = if s / SLOTS == p.0 {
-        rings::ALL_BITS
-    } else {
-        rings::NOTICE_BITS
-    };
-    let m = Match::one_slot(kinds, s);
+    if queues::attached(tables::load(charges, p)) == 0 {
+        let m = Match::one_slot(rings::ALL_BITS, s);
+        queues::remove(charges, ends, entries, carried, numbers, pool, p, m);
+        return;
+    }
+    let m = Match::one_slot(rings::MESSAGE_BIT + rings::RELEASED_BIT, s);
     queues::remove(charges, ends, entries, carried, numbers, pool, p, m);
+    notices::expire_all(nodes, handles, charges, ends, entries, carried, numbers, p);
+}
+
+// The peer's handle to the slot's node is gone.
+fn forget(
+    nodes: &[u64],
+    handles: &[u64],
+    charges: &mut [u16],
+    ends: &mut [u16],
+    entries: &mut [u16],
+    carried: &mut [u8],
+    numbers: &mut [u64],
+    pool: &mut [u8],
+    p: Peer,
+    s: usize,
+)
+    requires { ⌜ (length (now nodes) ≡ nodesSize) × (length (now handles) ≡ handlesSize) × (length (now charges) ≡ chargesSize)
+        × QueueTables (now ends) (now entries) (now carried) (now numbers) × (p .0 < peerCount) × (s < nodeCount) ⌝ }
+    ensures { λ _.
+        let before = queuesOf (now (charges .entry)) (now (ends .entry)) (now (entries .entry)) (now (carried .entry)) (now (numbers .entry)) (now (pool .entry)) in
+        let after = queuesOf (now (charges .exit)) (now (ends .exit)) (now (entries .exit)) (now (carried .exit)) (now (numbers .exit)) (now (pool .exit)) in
+        ⌜ after ≡ forgotten (now (nodes .entry)) (now (handles .entry)) before (p .0) s ⌝ }
+{
+    if s / SLOTS == p.0 {
+        forget_own(
+            nodes,
+            handles,
+            charges,
+            ends,
+            entries,
+            carried,
+            numbers,
+            pool,
+            p,
+            s,
+        );
+        return;
+    }
+    notices::expire(
+        nodes,
+        handles,
+        charges,
+        ends,
+        entries,
+        carried,
+        numbers,
+        p,
+        s,
+    );
 }
 
 // One reference of the peer to the slot's node less: how many are left.
@@ -156,7 +229,18 @@ pub fn release(
     let n = next_number(peers);
     let left = drop_reference(handles, p, s);
     if left == 0 {
-        forget(charges, ends, entries, carried, numbers, pool, p, s);
+        forget(
+            nodes,
+            handles,
+            charges,
+            ends,
+            entries,
+            carried,
+            numbers,
+            pool,
+            p,
+            s,
+        );
     }
     notify(nodes, handles, ends, entries, carried, numbers, s, n);
 }
@@ -175,8 +259,19 @@ pub fn transfer(
     requires { ⌜ (length (now peers) ≡ peersSize) × (length (now nodes) ≡ nodesSize) × (length (now handles) ≡ handlesSize) × QueueTables (now ends) (now entries) (now carried) (now numbers) × (q .0 < peerCount) × (s < nodeCount) ⌝ }
     ensures { λ r. ⌜ givenOf (r .0) (now (peers .exit)) (now (handles .exit)) (ringsOf (now (ends .exit)) (now (entries .exit)) (now (carried .exit)) (now (numbers .exit))) ≡ transfers (now (peers .entry)) (now (nodes .entry)) (now (handles .entry)) (ringsOf (now (ends .entry)) (now (entries .entry)) (now (carried .entry)) (now (numbers .entry))) (q .0) s ⌝ }
 {
-    tables::count_command(peers);
-    HandleId(grants::give(peers, nodes, handles, ends, entries, carried, numbers, q, s))
+    let n = next_number(peers);
+    HandleId(grants::give(
+        peers,
+        nodes,
+        handles,
+        ends,
+        entries,
+        carried,
+        numbers,
+        q,
+        n,
+        s,
+    ))
 }
 
 // The message of a send to a slot.
@@ -293,7 +388,18 @@ pub fn disconnect(
 {
     let n = next_number(peers);
     let set = notices::set_of(nodes, handles, p, Asked::Living);
-    notices::destroy_set(nodes, handles, ends, entries, carried, numbers, p, set, n);
+    notices::destroy_set(
+        nodes,
+        handles,
+        charges,
+        ends,
+        entries,
+        carried,
+        numbers,
+        p,
+        set,
+        n,
+    );
     queues::empty(charges, ends, p);
     notices::tell_owners(nodes, handles, ends, entries, carried, numbers, p, n);
     tables::clear_peer(handles, p);
@@ -333,7 +439,7 @@ fn write_message(
     )
 }
 
-// The oldest message is taken out, and what it carries is given.
+// The oldest message is taken out, and what it carries is given as of its own number.
 fn receive_message(
     peers: &mut [u64],
     nodes: &[u64],
@@ -365,11 +471,25 @@ fn receive_message(
         carried,
         numbers,
         p,
+        e.number,
         slots,
         nh,
     );
     let o = write_message(out, charges, pool, p, to, flag, e, ids);
     queues::settle(charges, pool, p, e);
+    notices::expire_shown(
+        nodes,
+        handles,
+        charges,
+        ends,
+        entries,
+        carried,
+        numbers,
+        p,
+        slots,
+        ids,
+        nh,
+    );
     o
 }
 
@@ -451,7 +571,7 @@ fn write_seed(
     answers::write_seed(out, h, &ids[..nh], seeds::piece(seeds, p, nb))
 }
 
-// The peer's seed is shown and stays: what it carries is given, each time anew.
+// The peer's seed is shown and stays: what it carries is given, each time anew, as of this command.
 pub fn show_seed(
     peers: &mut [u64],
     nodes: &[u64],
@@ -472,7 +592,7 @@ pub fn show_seed(
         ⌜ shownOf r (now (out .exit)) (now (peers .exit)) (now (handles .exit)) after
         ≡ shows (now (peers .entry)) (now (nodes .entry)) (now (handles .entry)) before (now (seeds .entry)) (p .0) (now (out .entry)) ⌝ }
 {
-    tables::count_command(peers);
+    let n = next_number(peers);
     let user = tables::user_of(peers, p);
     let slots = seeds::slots_of(seeds, p);
     let nh = seeds::nh_of(seeds, p);
@@ -485,6 +605,7 @@ pub fn show_seed(
         carried,
         numbers,
         p,
+        n,
         slots,
         nh,
     );

@@ -71,7 +71,7 @@ module _ (ps ns hs cs ends entries carried numbers pool seeds : List ℕ) {x : O
   alters-create e t = rw (e, ← t)
 
   pub alters-destroy : {p : Peer} {s : ℕ} → x ≡ order.Destroy p s → {ps′ ns′ ends′ entries′ carried′ numbers′ : List ℕ} →
-      destroysOf ps′ ns′ (ringsOf ends′ entries′ carried′ numbers′) ≡ destroys ps ns hs (ringsOf ends entries carried numbers) (p .0) s →
+      destroysOf ps′ ns′ (ringsOf ends′ entries′ carried′ numbers′) ≡ destroys ps ns hs cs (ringsOf ends entries carried numbers) (p .0) s →
       busOf ps′ ns′ hs cs ends′ entries′ carried′ numbers′ pool seeds ≡ altered (busOf ps ns hs cs ends entries carried numbers pool seeds) x
   unfolding altered
   alters-destroy e t = rw (e, ← t)

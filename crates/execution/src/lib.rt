@@ -53,7 +53,7 @@ fn alter(
         }
         Order::Create(p, i, s) => effects::create(ps, ns, hs, p, i, s),
         Order::Destroy(p, s) => {
-            effects::destroy(ps, ns, hs, ends, entries, carried, numbers, p, s)
+            effects::destroy(ps, ns, hs, cs, ends, entries, carried, numbers, p, s)
         }
         Order::Release(p, s) => {
             effects::release(ps, ns, hs, cs, ends, entries, carried, numbers, pool, p, s)

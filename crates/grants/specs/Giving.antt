@@ -7,7 +7,7 @@ use mathlib.Core.List.{List, [], _∷_, _++_}
 use native.Mathlib.Omega.{arith}
 use lib.ListN.{length, getD, take, length-set}
 use lib.Seq.{take-suc, take-suc-set, getD-take, length-take-le}
-use lib.Dec.{eqb}
+use lib.Dec.{eqb, ltb}
 use borrow.Author.Tests.{eqb-false, eq-eqb, ne-eqb}
 use Rattle.laws.specs.Tests.{pick, Seen, Seen.is-true, Seen.is-false, look, clash, pick-all, pick-cases, Same, Same.same, Same.other, same?}
 use Rattle.laws.specs.Tables.{upd, upd-same, upd-other, upd-self}
@@ -15,15 +15,16 @@ use Rattle.laws.specs.Weights.{All, keep, all-imp, all-at}
 use Rattle.rings.specs.Rings.{releasedBit, slots, ringSize, Rings, Sized, endsSize, lengthOf, oneSlot}
 use Rattle.tables.specs.Peers.{modulus, givenAt}
 use Rattle.tables.specs.PeersView.{statusV, userV, givenV, acceptedV, status-given, user-given, given-given, accepted-given, given-is, given-length}
-use Rattle.tables.specs.Nodes.{liveAt}
-use Rattle.tables.specs.NodesView.{lifeV, live-is}
-use Rattle.tables.specs.Handles.{idAt, countAt, totalAt}
-use Rattle.tables.specs.HandlesView.{handleV, handle-raised, count-is, id-is, given-after, total-is, raised-length}
+use Rattle.tables.specs.Nodes.{liveAt, diedAt}
+use Rattle.tables.specs.NodesView.{live-is, lived-is}
+use Rattle.tables.specs.Handles.{idAt, countAt, heldAt, totalAt}
+use Rattle.tables.specs.HandlesView.{handleV, handle-raised, count-is, held-is, id-is, given-after, total-is, raised-length}
 use Rattle.model.specs.Numbers.{nodes, owner, nextId}
-use Rattle.model.specs.State.{Life, isLive, Handle, handleOf, count, idOr, Entry, State, total}
+use Rattle.model.specs.Lists.{both, either}
+use Rattle.model.specs.State.{Life, Handle, handleOf, count, idOr, Entry, State, total}
 use Rattle.model.specs.State.Entry.{message, destroyed, released}
 use Rattle.model.specs.Tables.{withGiven, withHandles, withQueues}
-use Rattle.model.specs.Changes.{notReleased, withdraw, shown, givenAfter, give, giveAll, shownAll}
+use Rattle.model.specs.Changes.{notReleased, withdraw, valid, shown, givenAfter, give, giveAll, shownAll}
 use Rattle.model.specs.Notices.{Stands}
 use Rattle.model.specs.Occurs.{keep-imp}
 use Rattle.model.specs.Counts.{put, put-all, total-other, count-handle}
@@ -32,7 +33,7 @@ use Rattle.model.specs.QueuesProof.{give-handle, give-dead}
 use Rattle.view.specs.View.{Bus, Shape, queueV, stateOf, setPeers, setHandles, setRings, shape-peers, shape-handles, shape-rings}
 use Rattle.queues.specs.Queues.{Short, withdrawn}
 use Rattle.queues.specs.Leaving.{withdraw-view, withdraw-rows, withdraw-ends, withdraw-length, withdraw-lengths, one-match, one-bytes}
-use Rattle.grants.specs.Grants.{Numbered, numberedOf, numbered, shownTo, referenced, Given, givenTo, Gives, oneMore, givesTo}
+use Rattle.grants.specs.Grants.{Numbered, numberedOf, numbered, shownTo, referenced, validAt, Given, givenTo, Gives, oneMore, givesTo}
 use Rattle.ids.specs.Sizes.{peers, mostIds, peersSize}
 
 -- A release notice in the queue of the peer q is for a node of q whose sum of counts is 1.
@@ -53,12 +54,12 @@ lone-stands h l qs a q = all-imp (Stands h l q) (λ e. LoneEntry h q e) one (qs 
     one (released n s) z = (z .1, z .2)
 
 -- A handle given keeps this: the notice of its node is withdrawn at the owner, the sums of the other nodes stay.
-pub lone-give : (b : State) (p s : ℕ) → Lone (b .handle) (b .queue) → Lone (give b p s .handle) (give b p s .queue)
+pub lone-give : (b : State) (p asOf s : ℕ) → Lone (b .handle) (b .queue) → Lone (give b p asOf s .handle) (give b p asOf s .queue)
 unfolding give withdraw withQueues withHandles withGiven
-lone-give b p s a = go (look (isLive (b .life s)))
+lone-give b p asOf s a = go (look (valid b p asOf s))
   where
     x : Handle
-    x = handleOf (shown b p s) (suc (count (b .handle p s)))
+    x = handleOf (shown b p asOf s) (suc (count (b .handle p s)))
 
     stay : (q : ℕ) (e : Entry) → notReleased (eqb s) e ≡ true → LoneEntry (b .handle) q e → LoneEntry (put (b .handle) p s x) q e
     stay q (message n m) z l = tt
@@ -78,7 +79,7 @@ lone-give b p s a = go (look (isLive (b .life s)))
         rw (upd-other (b .queue) (owner s) q (keep (notReleased (eqb s)) (b .queue (owner s))) d)
         (all-imp (λ e. LoneEntry (b .handle) q e) (λ e. LoneEntry (put (b .handle) p s x) q e) (elsewhere q d) (b .queue q) (a q))
 
-    go : Seen (isLive (b .life s)) → Lone (give b p s .handle) (give b p s .queue)
+    go : Seen (valid b p asOf s) → Lone (give b p asOf s .handle) (give b p asOf s .queue)
     go (is-false e) = rw e a
     go (is-true e) = rw e (λ q. at q (same? (owner s) q))
 
@@ -168,19 +169,30 @@ module _ (hs : List ℕ) (r : Rings) (s : ℕ) where
 abbrev pub givenBus : Bus → Given → Bus
 givenBus b g = setRings (setHandles (setPeers b (g .peers)) (g .handles)) (g .rings)
 
-abbrev pub givenOn : Bus → ℕ → ℕ → Given
-givenOn b p s = givenTo (b .nodes) (b .peers) (b .handles) (b .rings) p s
+abbrev pub givenOn : Bus → ℕ → ℕ → ℕ → Given
+givenOn b p asOf s = givenTo (b .nodes) (b .peers) (b .handles) (b .rings) p asOf s
 
-module _ (b : Bus) (shape : Shape b) (p s : ℕ) (lp : p < peers) (ls : s < nodes) (lone : Lone (handleV (b .handles)) (queueV (b .rings) (b .pool)))
+-- The test is the model's.
+pub valid-is : (b : Bus) (n p s : ℕ) → p < peers → s < nodes → validAt (b .nodes) (b .handles) n p s ≡ valid (stateOf b) p n s
+unfolding validAt valid
+valid-is b n p s lp ls =
+    rw (← live-is (b .nodes) s ls, ← lived-is (b .nodes) n s ls, held-is (b .handles) p s lp ls)
+    (go (liveAt (b .nodes) s) (ltb n (diedAt (b .nodes) s)) (either (not (eqb (owner s) p)) (heldAt (b .handles) p s)))
+  where
+    go : (l d o : Bool) → either l (both d o) ≡ both (either l d) (either l o)
+    go true d o = refl
+    go false d o = refl
+
+module _ (b : Bus) (shape : Shape b) (p asOf s : ℕ) (lp : p < peers) (ls : s < nodes) (lone : Lone (handleV (b .handles)) (queueV (b .rings) (b .pool)))
     (counts : countAt (b .handles) p s + 1 < modulus) (ids : givenAt (b .peers) p + 1 < modulus) (short : lengthOf (b .rings .ends) (s / slots) ≤ ringSize) where
-  pub given-view : stateOf (givenBus b (givenOn b p s)) ≡ give (stateOf b) p s
+  pub given-view : stateOf (givenBus b (givenOn b p asOf s)) ≡ give (stateOf b) p asOf s
   unfolding givenTo referenced give shown withdraw withQueues withHandles withGiven
-  given-view = go (look (liveAt (b .nodes) s))
+  given-view = go (look (validAt (b .nodes) (b .handles) asOf p s))
     where
-      live : liveAt (b .nodes) s ≡ isLive (lifeV (b .nodes) s)
-      live = live-is (b .nodes) s ls
+      live : validAt (b .nodes) (b .handles) asOf p s ≡ valid (stateOf b) p asOf s
+      live = valid-is b asOf p s lp ls
 
-      go : Seen (liveAt (b .nodes) s) → stateOf (givenBus b (givenOn b p s)) ≡ give (stateOf b) p s
+      go : Seen (validAt (b .nodes) (b .handles) asOf p s) → stateOf (givenBus b (givenOn b p asOf s)) ≡ give (stateOf b) p asOf s
       go (is-false e) = rw (← live, e)
       go (is-true e) =
           let more : countAt (b .handles) p s + 1 ≡ suc (count (handleV (b .handles) p s)) = omega (arith, count-is (b .handles) p s lp ls) in
@@ -198,23 +210,23 @@ module _ (b : Bus) (shape : Shape b) (p s : ℕ) (lp : p < peers) (ls : s < node
           )
 
 -- The ID shown is the model's.
-pub given-shown : (b : Bus) → Shape b → (p s : ℕ) → p < peers → s < nodes → givenOn b p s .id ≡ shown (stateOf b) p s
+pub given-shown : (b : Bus) → Shape b → (p asOf s : ℕ) → p < peers → s < nodes → givenOn b p asOf s .id ≡ shown (stateOf b) p asOf s
 unfolding givenTo referenced shown
-given-shown b shape p s lp ls = go (look (liveAt (b .nodes) s))
+given-shown b shape p asOf s lp ls = go (look (validAt (b .nodes) (b .handles) asOf p s))
   where
-    live : liveAt (b .nodes) s ≡ isLive (lifeV (b .nodes) s)
-    live = live-is (b .nodes) s ls
+    live : validAt (b .nodes) (b .handles) asOf p s ≡ valid (stateOf b) p asOf s
+    live = valid-is b asOf p s lp ls
 
-    go : Seen (liveAt (b .nodes) s) → givenOn b p s .id ≡ shown (stateOf b) p s
+    go : Seen (validAt (b .nodes) (b .handles) asOf p s) → givenOn b p asOf s .id ≡ shown (stateOf b) p asOf s
     go (is-false e) = rw (← live, e)
     go (is-true e) = rw (← live, e) (shown-id (b .peers) (b .handles) (shape .peers) p s lp ls)
 
 -- The buffers keep their lengths, and no queue becomes longer.
-pub given-shape : (b : Bus) → Shape b → (p s : ℕ) → Shape (givenBus b (givenOn b p s))
+pub given-shape : (b : Bus) → Shape b → (p asOf s : ℕ) → Shape (givenBus b (givenOn b p asOf s))
 unfolding givenTo referenced
-given-shape b shape p s = go (look (liveAt (b .nodes) s))
+given-shape b shape p asOf s = go (look (validAt (b .nodes) (b .handles) asOf p s))
   where
-    go : Seen (liveAt (b .nodes) s) → Shape (givenBus b (givenOn b p s))
+    go : Seen (validAt (b .nodes) (b .handles) asOf p s) → Shape (givenBus b (givenOn b p asOf s))
     go (is-false e) = rw e shape
     go (is-true e) =
         rw e
@@ -223,69 +235,69 @@ given-shape b shape p s = go (look (liveAt (b .nodes) s))
         (raised-length (b .handles) p s (shownTo (b .peers) (b .handles) p s .id) ∙ shape .handles))
         (unnoted-ends (b .handles) (b .rings) s ∙ shape .ends) (unnoted-rows (b .handles) (b .rings) s (shape .rows)))
 
-pub given-lengths : (b : Bus) → Shape b → (p s : ℕ) → s < nodes → (o : ℕ) → lengthOf (givenOn b p s .rings .ends) o ≤ lengthOf (b .rings .ends) o
+pub given-lengths : (b : Bus) → Shape b → (p asOf s : ℕ) → s < nodes → (o : ℕ) → lengthOf (givenOn b p asOf s .rings .ends) o ≤ lengthOf (b .rings .ends) o
 unfolding givenTo
-given-lengths b shape p s ls o = go (look (liveAt (b .nodes) s))
+given-lengths b shape p asOf s ls o = go (look (validAt (b .nodes) (b .handles) asOf p s))
   where
-    go : Seen (liveAt (b .nodes) s) → lengthOf (givenOn b p s .rings .ends) o ≤ lengthOf (b .rings .ends) o
+    go : Seen (validAt (b .nodes) (b .handles) asOf p s) → lengthOf (givenOn b p asOf s .rings .ends) o ≤ lengthOf (b .rings .ends) o
     go (is-false e) = rw e (omega arith)
     go (is-true e) = rw e (unnoted-lengths (b .handles) (b .rings) s (shape .ends) ls o)
 
 -- Several handles given: one more at the end.
-pub gives-snoc : (b : State) (p : ℕ) (xs : List ℕ) (s : ℕ) → giveAll b p (xs ++ (s ∷ [])) ≡ give (giveAll b p xs) p s
-gives-snoc b p [] s = refl
-gives-snoc b p (x ∷ xs) s = gives-snoc (give b p x) p xs s
+pub gives-snoc : (b : State) (p asOf : ℕ) (xs : List ℕ) (s : ℕ) → giveAll b p asOf (xs ++ (s ∷ [])) ≡ give (giveAll b p asOf xs) p asOf s
+gives-snoc b p asOf [] s = refl
+gives-snoc b p asOf (x ∷ xs) s = gives-snoc (give b p asOf x) p asOf xs s
 
-pub shows-snoc : (b : State) (p : ℕ) (xs : List ℕ) (s : ℕ) → shownAll b p (xs ++ (s ∷ [])) ≡ shownAll b p xs ++ (shown (giveAll b p xs) p s ∷ [])
-shows-snoc b p [] s = refl
-shows-snoc b p (x ∷ xs) s = ap (_∷_ (shown b p x)) (shows-snoc (give b p x) p xs s)
+pub shows-snoc : (b : State) (p asOf : ℕ) (xs : List ℕ) (s : ℕ) → shownAll b p asOf (xs ++ (s ∷ [])) ≡ shownAll b p asOf xs ++ (shown (giveAll b p asOf xs) p asOf s ∷ [])
+shows-snoc b p asOf [] s = refl
+shows-snoc b p asOf (x ∷ xs) s = ap (_∷_ (shown b p asOf x)) (shows-snoc (give b p asOf x) p asOf xs s)
 
-pub lone-gives : (b : State) (p : ℕ) (ss : List ℕ) → Lone (b .handle) (b .queue) → Lone (giveAll b p ss .handle) (giveAll b p ss .queue)
-lone-gives b p [] a = a
-lone-gives b p (s ∷ ss) a = lone-gives (give b p s) p ss (lone-give b p s a)
+pub lone-gives : (b : State) (p asOf : ℕ) (ss : List ℕ) → Lone (b .handle) (b .queue) → Lone (giveAll b p asOf ss .handle) (giveAll b p asOf ss .queue)
+lone-gives b p asOf [] a = a
+lone-gives b p asOf (s ∷ ss) a = lone-gives (give b p asOf s) p asOf ss (lone-give b p asOf s a)
 
 -- No count rises by more than the number of handles given.
-pub count-give : (b : State) (p s q t : ℕ) → count (give b p s .handle q t) ≤ count (b .handle q t) + 1
-count-give b p s q t = go (look (isLive (b .life s)))
+pub count-give : (b : State) (p asOf s q t : ℕ) → count (give b p asOf s .handle q t) ≤ count (b .handle q t) + 1
+count-give b p asOf s q t = go (look (valid b p asOf s))
   where
-    go : Seen (isLive (b .life s)) → count (give b p s .handle q t) ≤ count (b .handle q t) + 1
-    go (is-false e) = rw (give-dead b p s e) (omega arith)
+    go : Seen (valid b p asOf s) → count (give b p asOf s .handle q t) ≤ count (b .handle q t) + 1
+    go (is-false e) = rw (give-dead b p asOf s e) (omega arith)
     go (is-true e) =
-        rw (give-handle b p s e)
-        (put-all (λ q t y. count y ≤ count (b .handle q t) + 1) (b .handle) p s (handleOf (shown b p s) (suc (count (b .handle p s)))) (λ q t. omega arith)
-        (omega (arith, count-handle (shown b p s) (suc (count (b .handle p s))))) q t)
+        rw (give-handle b p asOf s e)
+        (put-all (λ q t y. count y ≤ count (b .handle q t) + 1) (b .handle) p s (handleOf (shown b p asOf s) (suc (count (b .handle p s)))) (λ q t. omega arith)
+        (omega (arith, count-handle (shown b p asOf s) (suc (count (b .handle p s))))) q t)
 
-pub count-gives : (b : State) (p : ℕ) (ss : List ℕ) (q t : ℕ) → count (giveAll b p ss .handle q t) ≤ count (b .handle q t) + length ss
-count-gives b p [] q t = omega arith
-count-gives b p (s ∷ ss) q t = omega (arith, count-gives (give b p s) p ss q t, count-give b p s q t)
+pub count-gives : (b : State) (p asOf : ℕ) (ss : List ℕ) (q t : ℕ) → count (giveAll b p asOf ss .handle q t) ≤ count (b .handle q t) + length ss
+count-gives b p asOf [] q t = omega arith
+count-gives b p asOf (s ∷ ss) q t = omega (arith, count-gives (give b p asOf s) p asOf ss q t, count-give b p asOf s q t)
 
 -- The buffers once several are given.
 abbrev pub givesBus : Bus → Gives → Bus
 givesBus b g = setRings (setHandles (setPeers b (g .peers)) (g .handles)) (g .rings)
 
-abbrev pub givesOn : Bus → ℕ → List ℕ → ℕ → Gives
-givesOn b p ss n = givesTo (b .nodes) (b .peers) (b .handles) (b .rings) p ss n
+abbrev pub givesOn : Bus → ℕ → ℕ → List ℕ → ℕ → Gives
+givesOn b p asOf ss n = givesTo (b .nodes) (b .peers) (b .handles) (b .rings) p asOf ss n
 
 -- What the first n of some slots given make of a bus.
-pub record Handed (b : Bus) (p : ℕ) (ss : List ℕ) (n : ℕ) (g : Gives) : Type 0 where
-  pub state : stateOf (givesBus b g) ≡ giveAll (stateOf b) p (take n ss)
-  pub shows : take n (g .ids) ≡ shownAll (stateOf b) p (take n ss)
+pub record Handed (b : Bus) (p asOf : ℕ) (ss : List ℕ) (n : ℕ) (g : Gives) : Type 0 where
+  pub state : stateOf (givesBus b g) ≡ giveAll (stateOf b) p asOf (take n ss)
+  pub shows : take n (g .ids) ≡ shownAll (stateOf b) p asOf (take n ss)
   pub eight : length (g .ids) ≡ mostIds
   pub shape : Shape (givesBus b g)
   pub lengths : (o : ℕ) → lengthOf (g .rings .ends) o ≤ lengthOf (b .rings .ends) o
 
 -- One more: the slot s after those before it.
-handed-next : (b : Bus) (p : ℕ) (ss : List ℕ) (n s : ℕ) (g : Gives) (x : Given) → take (suc n) ss ≡ take n ss ++ (s ∷ []) → n < mostIds → Handed b p ss n g →
-    stateOf (givenBus (givesBus b g) x) ≡ give (stateOf (givesBus b g)) p s → x .id ≡ shown (stateOf (givesBus b g)) p s → Shape (givenBus (givesBus b g) x) →
-    ((o : ℕ) → lengthOf (x .rings .ends) o ≤ lengthOf (g .rings .ends) o) → Handed b p ss (suc n) (oneMore g n x)
-handed-next b p ss n s g x more ln h state id shape lengths =
+handed-next : (b : Bus) (p asOf : ℕ) (ss : List ℕ) (n s : ℕ) (g : Gives) (x : Given) → take (suc n) ss ≡ take n ss ++ (s ∷ []) → n < mostIds → Handed b p asOf ss n g →
+    stateOf (givenBus (givesBus b g) x) ≡ give (stateOf (givesBus b g)) p asOf s → x .id ≡ shown (stateOf (givesBus b g)) p asOf s → Shape (givenBus (givesBus b g) x) →
+    ((o : ℕ) → lengthOf (x .rings .ends) o ≤ lengthOf (g .rings .ends) o) → Handed b p asOf ss (suc n) (oneMore g n x)
+handed-next b p asOf ss n s g x more ln h state id shape lengths =
     record {
-      state = state ∙ ap (λ (a : State). give a p s) (h .state) ∙ sym (gives-snoc (stateOf b) p (take n ss) s) ∙ ap (giveAll (stateOf b) p) (sym more);
+      state = state ∙ ap (λ (a : State). give a p asOf s) (h .state) ∙ sym (gives-snoc (stateOf b) p asOf (take n ss) s) ∙ ap (giveAll (stateOf b) p asOf) (sym more);
       shows =
           take-suc-set (g .ids) n (x .id) (omega (arith, h .eight))
-          ∙ ap₂ (λ (is : List ℕ) (i : ℕ). is ++ (i ∷ [])) (h .shows) (id ∙ ap (λ (a : State). shown a p s) (h .state))
-          ∙ sym (shows-snoc (stateOf b) p (take n ss) s)
-          ∙ ap (shownAll (stateOf b) p) (sym more);
+          ∙ ap₂ (λ (is : List ℕ) (i : ℕ). is ++ (i ∷ [])) (h .shows) (id ∙ ap (λ (a : State). shown a p asOf s) (h .state))
+          ∙ sym (shows-snoc (stateOf b) p asOf (take n ss) s)
+          ∙ ap (shownAll (stateOf b) p asOf) (sym more);
       eight = length-set (g .ids) n (x .id) ∙ h .eight;
       shape = shape;
       lengths = λ o. omega (arith, lengths o, h .lengths o);
@@ -294,14 +306,14 @@ handed-next b p ss n s g x more ln h state id shape lengths =
 lone-of : (a c : State) → a ≡ c → Lone (c .handle) (c .queue) → Lone (a .handle) (a .queue)
 lone-of a c e l = rw e l
 
-module _ (b : Bus) (shape : Shape b) (p : ℕ) (ss : List ℕ) (lp : p < peers) (size : length ss ≡ 8) (lone : Lone (handleV (b .handles)) (queueV (b .rings) (b .pool)))
+module _ (b : Bus) (shape : Shape b) (p asOf : ℕ) (ss : List ℕ) (lp : p < peers) (size : length ss ≡ 8) (lone : Lone (handleV (b .handles)) (queueV (b .rings) (b .pool)))
     (short : Short (b .rings .ends)) where
   handed : (n : ℕ) → n ≤ mostIds → ((j : ℕ) → j < n → getD ss j 0 < nodes) → ((q s : ℕ) → count (handleV (b .handles) q s) + n < modulus) → givenV (b .peers) p + n < modulus →
-      Handed b p ss n (givesOn b p ss n)
+      Handed b p asOf ss n (givesOn b p asOf ss n)
   unfolding givesTo
   handed zero ln low counts ids = record { state = refl; shows = refl; eight = refl; shape = shape; lengths = λ o. omega arith }
   handed (suc n) ln low counts ids =
-      go (givesOn b p ss n) (handed n (omega arith) (λ j l. low j (omega arith)) (λ q s. omega (arith, counts q s)) (omega arith))
+      go (givesOn b p asOf ss n) (handed n (omega arith) (λ j l. low j (omega arith)) (λ q s. omega (arith, counts q s)) (omega arith))
     where
       s : ℕ
       s = getD ss n 0
@@ -315,24 +327,24 @@ module _ (b : Bus) (shape : Shape b) (p : ℕ) (ss : List ℕ) (lp : p < peers) 
       fewer : length (take n ss) ≡ n
       fewer = length-take-le n ss (omega arith)
 
-      go : (g : Gives) → Handed b p ss n g → Handed b p ss (suc n) (oneMore g n (givenTo (b .nodes) (g .peers) (g .handles) (g .rings) p (getD ss n 0 % nodes)))
+      go : (g : Gives) → Handed b p asOf ss n g → Handed b p asOf ss (suc n) (oneMore g n (givenTo (b .nodes) (g .peers) (g .handles) (g .rings) p asOf (getD ss n 0 % nodes)))
       go g h =
-          let old : State = giveAll (stateOf b) p (take n ss) in
+          let old : State = giveAll (stateOf b) p asOf (take n ss) in
           let c = givesBus b g in
           let many : countAt (g .handles) p s + 1 < modulus
-          = omega (arith, count-is (g .handles) p s lp ls, ap (λ (a : State). count (a .handle p s)) (h .state), count-gives (stateOf b) p (take n ss) p s, fewer, counts p s) in
+          = omega (arith, count-is (g .handles) p s lp ls, ap (λ (a : State). count (a .handle p s)) (h .state), count-gives (stateOf b) p asOf (take n ss) p s, fewer, counts p s) in
           let named : givenAt (g .peers) p + 1 < modulus
-          = omega (arith, given-is (g .peers) p lp, ap (λ (a : State). a .given p) (h .state), given-gives (stateOf b) p (take n ss) p, fewer, ids) in
+          = omega (arith, given-is (g .peers) p lp, ap (λ (a : State). a .given p) (h .state), given-gives (stateOf b) p asOf (take n ss) p, fewer, ids) in
           let fit : lengthOf (g .rings .ends) (s / slots) ≤ ringSize = omega (arith, h .lengths (s / slots), short (s / slots) (omega (arith, ls))) in
-          let alone : Lone (handleV (g .handles)) (queueV (g .rings) (b .pool)) = lone-of (stateOf c) old (h .state) (lone-gives (stateOf b) p (take n ss) lone) in
+          let alone : Lone (handleV (g .handles)) (queueV (g .rings) (b .pool)) = lone-of (stateOf c) old (h .state) (lone-gives (stateOf b) p asOf (take n ss) lone) in
           rw same-slot
-          (handed-next b p ss n s g (givenOn c p s) (take-suc ss n 0 (omega arith)) (omega arith) h (given-view c (h .shape) p s lp ls alone many named fit)
-          (given-shown c (h .shape) p s lp ls)
-          (given-shape c (h .shape) p s)
-          (given-lengths c (h .shape) p s ls))
+          (handed-next b p asOf ss n s g (givenOn c p asOf s) (take-suc ss n 0 (omega arith)) (omega arith) h (given-view c (h .shape) p asOf s lp ls alone many named fit)
+          (given-shown c (h .shape) p asOf s lp ls)
+          (given-shape c (h .shape) p asOf s)
+          (given-lengths c (h .shape) p asOf s ls))
 
   pub gives-view : (n : ℕ) → n ≤ mostIds → All (λ s. s < nodes) (take n ss) → ((q s : ℕ) → count (stateOf b .handle q s) + n < modulus) → stateOf b .given p + n < modulus →
-      Handed b p ss n (givesOn b p ss n)
+      Handed b p asOf ss n (givesOn b p asOf ss n)
   gives-view n ln low counts ids = handed n ln each counts ids
     where
       each : (j : ℕ) → j < n → getD ss j 0 < nodes

@@ -14,7 +14,6 @@ use Rattle.laws.specs.Weights.{All, all-of}
 use Rattle.rings.specs.Rings.{ringSize, lengthOf}
 use Rattle.tables.specs.Peers.{modulus, givenAt}
 use Rattle.tables.specs.PeersView.{givenV, given-is}
-use Rattle.tables.specs.Nodes.{liveAt}
 use Rattle.tables.specs.Handles.{lengthBlock, idAt, countAt, listedId, listedSlot}
 use Rattle.tables.specs.HandlesView.{handleV, count-is}
 use Rattle.tables.specs.Listed.{Listed, AllListed, listed-raised}
@@ -25,7 +24,7 @@ use Rattle.model.specs.Ids.{Handles}
 use Rattle.model.specs.IdsLaws.{Holding, holding-gives}
 use Rattle.view.specs.View.{Bus, Shape, stateOf, queueV}
 use Rattle.queues.specs.Queues.{Short}
-use Rattle.grants.specs.Grants.{Given, numbered, shownTo, referenced, givenTo, Gives, givesTo}
+use Rattle.grants.specs.Grants.{Given, numbered, shownTo, referenced, validAt, givenTo, Gives, givesTo}
 use Rattle.grants.specs.Giving.{Lone, givenBus, givenOn, givesBus, givesOn, Handed, gives-view, count-gives}
 use Rattle.ids.specs.Sizes.{peers, mostIds}
 
@@ -51,10 +50,10 @@ listed-below hs p g v w k l = go (same? (owner (listedSlot hs p k)) p)
         let y = v .given (listedSlot hs p k) (listedId hs p k) (x .2 .0) (x .2 .1) e in
         omega (arith, y .1, y .2)
 
-pub listed-given : (b : Bus) → Shape b → (p s : ℕ) → p < peers → s < nodes → Handles p (stateOf b .given p) (stateOf b .handle p) → countAt (b .handles) p s + 1 < modulus →
-    AllListed (b .handles) → AllListed (givenOn b p s .handles)
+pub listed-given : (b : Bus) → Shape b → (p asOf s : ℕ) → p < peers → s < nodes → Handles p (stateOf b .given p) (stateOf b .handle p) → countAt (b .handles) p s + 1 < modulus →
+    AllListed (b .handles) → AllListed (givenOn b p asOf s .handles)
 unfolding givenTo referenced
-listed-given b shape p s lp ls v lc a = go (look (liveAt (b .nodes) s))
+listed-given b shape p asOf s lp ls v lc a = go (look (validAt (b .nodes) (b .handles) asOf p s))
   where
     g : ℕ
     g = givenAt (b .peers) p
@@ -67,29 +66,29 @@ listed-given b shape p s lp ls v lc a = go (look (liveAt (b .nodes) s))
           λ k l. omega (arith, i, given-is (b .peers) p lp, listed-below (b .handles) p (stateOf b .given p) v (a p lp) k l),
         )
 
-    go : Seen (liveAt (b .nodes) s) → AllListed (givenOn b p s .handles)
+    go : Seen (validAt (b .nodes) (b .handles) asOf p s) → AllListed (givenOn b p asOf s .handles)
     go (is-false e) = rw e a
     go (is-true e) =
         rw e
         (listed-raised (b .handles) (shape .handles) p s lp ls a (shownTo (b .peers) (b .handles) p s .id) lc new (λ z. shown-old (b .peers) (b .handles) p s z))
 
 -- Several handles.
-module _ (b : Bus) (shape : Shape b) (p : ℕ) (ss : List ℕ) (lp : p < peers) (size : length ss ≡ 8) (lone : Lone (handleV (b .handles)) (queueV (b .rings) (b .pool)))
+module _ (b : Bus) (shape : Shape b) (p asOf : ℕ) (ss : List ℕ) (lp : p < peers) (size : length ss ≡ 8) (lone : Lone (handleV (b .handles)) (queueV (b .rings) (b .pool)))
     (short : Short (b .rings .ends)) (hold : Holding (stateOf b)) (a : AllListed (b .handles)) where
   pub listed-gives : (n : ℕ) → n ≤ mostIds → ((j : ℕ) → j < n → getD ss j 0 < nodes) → ((q s : ℕ) → count (stateOf b .handle q s) + n < modulus) → stateOf b .given p + n < modulus →
-      AllListed (givesOn b p ss n .handles)
+      AllListed (givesOn b p asOf ss n .handles)
   unfolding givesTo
   listed-gives zero ln low counts ids = a
   listed-gives (suc n) ln low counts ids =
       let ih = listed-gives n (omega arith) (λ j l. low j (omega arith)) (λ q s. omega (arith, counts q s)) (omega arith) in
-      let g = givesOn b p ss n in
+      let g = givesOn b p asOf ss n in
       let s = getD ss n 0 in
       let ls : s < nodes = low n (omega arith) in
       let slot : s % nodes ≡ s = omega arith in
       let below : All (λ s. s < nodes) (take n ss) = all-of (λ s. s < nodes) ss n 0 (λ j l. low j (omega arith)) in
-      let h : Handed b p ss n g = gives-view b shape p ss lp size lone short n (omega arith) below (λ q s. omega (arith, counts q s)) (omega arith) in
-      let v : Holding (stateOf (givesBus b g)) = rw (h .state) (holding-gives (stateOf b) p (take n ss) hold below) in
+      let h : Handed b p asOf ss n g = gives-view b shape p asOf ss lp size lone short n (omega arith) below (λ q s. omega (arith, counts q s)) (omega arith) in
+      let v : Holding (stateOf (givesBus b g)) = rw (h .state) (holding-gives (stateOf b) p asOf (take n ss) hold below) in
       let fewer : length (take n ss) ≡ n = length-take-le n ss (omega arith) in
       let many : countAt (g .handles) p s + 1 < modulus
-      = omega (arith, count-is (g .handles) p s lp ls, ap (λ (a : State). count (a .handle p s)) (h .state), count-gives (stateOf b) p (take n ss) p s, fewer, counts p s) in
-      rw slot (listed-given (givesBus b g) (h .shape) p s lp ls (v .handles p) many ih)
+      = omega (arith, count-is (g .handles) p s lp ls, ap (λ (a : State). count (a .handle p s)) (h .state), count-gives (stateOf b) p asOf (take n ss) p s, fewer, counts p s) in
+      rw slot (listed-given (givesBus b g) (h .shape) p asOf s lp ls (v .handles p) many ih)

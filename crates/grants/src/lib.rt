@@ -4,7 +4,7 @@ ghost use Prim.Native.Nat.{_<_, _≤_};
 ghost use lib.ListN.{length};
 ghost use Rattle.rings.specs.Rings.{ringsOf, QueueTables};
 ghost use Rattle.tables.specs.Handles.{handlesSize};
-ghost use Rattle.grants.specs.Grants.{numbered, numberedOf, shownTo, referencedOf, referenced, givenOf, givenTo, givesOf, givesTo, idOrInvalid};
+ghost use Rattle.grants.specs.Grants.{numbered, numberedOf, shownTo, referencedOf, referenced, validAt, givenOf, givenTo, givesOf, givesTo, idOrInvalid};
 ghost use Rattle.ids.specs.Sizes.{peers as peerCount, peersSize, nodesSize, mostIds};
 ghost use Rattle.model.specs.Numbers.{nodes as nodeCount};
 use ids::HandleId;
@@ -45,8 +45,26 @@ fn add_reference(peers: &mut [u64], handles: &mut [u64], p: Peer, s: usize) -> u
     id.0
 }
 
-// A handle to the slot's node is given to the peer: the ID shown. The release notice, which stands only where the sum of
-// counts is 1, is withdrawn.
+// Is the handle to the slot's node shown to the peer by what the command n queued? "invalid only if the destruction came
+// before the message"; "An owner whose own handle is gone is still shown the invalid ID".
+fn valid(nodes: &[u64], handles: &[u64], n: u64, p: Peer, s: usize) -> bool
+    requires { ⌜ (length (now nodes) ≡ nodesSize) × (length (now handles) ≡ handlesSize) × (p .0 < peerCount) × (s < nodeCount) ⌝ }
+    ensures { λ r. ⌜ r ≡ validAt (now (nodes .entry)) (now (handles .entry)) n (p .0) s ⌝ }
+{
+    if tables::is_live(nodes, s) {
+        return true;
+    }
+    if tables::died_at(nodes, s) <= n {
+        return false;
+    }
+    if s / SLOTS != p.0 {
+        return true;
+    }
+    tables::count_of(handles, p, s) != 0
+}
+
+// A handle to the slot's node is given to the peer as of the command n: the ID shown. The release notice, which stands only
+// where the sum of counts is 1, is withdrawn.
 pub fn give(
     peers: &mut [u64],
     nodes: &[u64],
@@ -56,12 +74,13 @@ pub fn give(
     carried: &mut [u8],
     numbers: &mut [u64],
     p: Peer,
+    n: u64,
     s: usize,
 ) -> u64
     requires { ⌜ (length (now peers) ≡ peersSize) × (length (now nodes) ≡ nodesSize) × (length (now handles) ≡ handlesSize) × QueueTables (now ends) (now entries) (now carried) (now numbers) × (p .0 < peerCount) × (s < nodeCount) ⌝ }
-    ensures { λ r. ⌜ givenOf r (now (peers .exit)) (now (handles .exit)) (ringsOf (now (ends .exit)) (now (entries .exit)) (now (carried .exit)) (now (numbers .exit))) ≡ givenTo (now (nodes .entry)) (now (peers .entry)) (now (handles .entry)) (ringsOf (now (ends .entry)) (now (entries .entry)) (now (carried .entry)) (now (numbers .entry))) (p .0) s ⌝ }
+    ensures { λ r. ⌜ givenOf r (now (peers .exit)) (now (handles .exit)) (ringsOf (now (ends .exit)) (now (entries .exit)) (now (carried .exit)) (now (numbers .exit))) ≡ givenTo (now (nodes .entry)) (now (peers .entry)) (now (handles .entry)) (ringsOf (now (ends .entry)) (now (entries .entry)) (now (carried .entry)) (now (numbers .entry))) (p .0) n s ⌝ }
 {
-    if !tables::is_live(nodes, s) {
+    if !valid(nodes, handles, n, p, s) {
         return INVALID;
     }
     if tables::total(handles, s) == 1 {
@@ -77,7 +96,7 @@ pub fn give(
     add_reference(peers, handles, p, s)
 }
 
-// The first n of the slots that a message carries, given in order: the IDs shown.
+// The first nh of the slots that a message carries, given in order as of the command n: the IDs shown.
 pub fn give_all(
     peers: &mut [u64],
     nodes: &[u64],
@@ -87,17 +106,29 @@ pub fn give_all(
     carried: &mut [u8],
     numbers: &mut [u64],
     p: Peer,
+    n: u64,
     slots: [u8; 8],
-    n: usize,
+    nh: usize,
 ) -> [u64; 8]
-    requires { ⌜ (length (now peers) ≡ peersSize) × (length (now nodes) ≡ nodesSize) × (length (now handles) ≡ handlesSize) × QueueTables (now ends) (now entries) (now carried) (now numbers) × (p .0 < peerCount) × (n ≤ mostIds) ⌝ }
-    ensures { λ r. ⌜ givesOf r (now (peers .exit)) (now (handles .exit)) (ringsOf (now (ends .exit)) (now (entries .exit)) (now (carried .exit)) (now (numbers .exit))) ≡ givesTo (now (nodes .entry)) (now (peers .entry)) (now (handles .entry)) (ringsOf (now (ends .entry)) (now (entries .entry)) (now (carried .entry)) (now (numbers .entry))) (p .0) slots n ⌝ }
+    requires { ⌜ (length (now peers) ≡ peersSize) × (length (now nodes) ≡ nodesSize) × (length (now handles) ≡ handlesSize) × QueueTables (now ends) (now entries) (now carried) (now numbers) × (p .0 < peerCount) × (nh ≤ mostIds) ⌝ }
+    ensures { λ r. ⌜ givesOf r (now (peers .exit)) (now (handles .exit)) (ringsOf (now (ends .exit)) (now (entries .exit)) (now (carried .exit)) (now (numbers .exit))) ≡ givesTo (now (nodes .entry)) (now (peers .entry)) (now (handles .entry)) (ringsOf (now (ends .entry)) (now (entries .entry)) (now (carried .entry)) (now (numbers .entry))) (p .0) n slots nh ⌝ }
 {
     let mut ids = [0u64; 8];
     let mut k = 0;
-    while k < n {
+    while k < nh {
         let s = slots[k] as usize % NODES;
-        let id = give(peers, nodes, handles, ends, entries, carried, numbers, p, s);
+        let id = give(
+            peers,
+            nodes,
+            handles,
+            ends,
+            entries,
+            carried,
+            numbers,
+            p,
+            n,
+            s,
+        );
         ids[k] = id;
         k += 1;
     }

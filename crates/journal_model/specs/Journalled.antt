@@ -25,10 +25,12 @@ use Rattle.lines.specs.Cuts.{textOf, lfs, OneLineLong, cut-before}
 use Rattle.lines.specs.Again.{split-joined, frames-text}
 use Rattle.answers.specs.Answer.{answerSize}
 use Rattle.model.specs.Step.{Call}
+use Rattle.model.specs.Happened.{Happened}
 use Rattle.view.specs.View.{Bus}
 use Rattle.bus_model.specs.Command.{Done, refusedBy, sizedOk, commandOf, freshBus}
 use Rattle.bus_model.specs.Ran.{Exchange, exchangeOf, Ran, Ran.begins}
 use Rattle.bus_model.specs.Demands.{never-five}
+use Rattle.bus_model.specs.Histories.{historyOf, ran-happened}
 use Rattle.journal_model.specs.declared.Recovered.the-variants as found
 use Rattle.journal_model.specs.Journal.{isQuestion, counted, WithJournal, withJournal, appendedOf, obeyedWith, commandWith, spare, Replayed, Replayed.whole, Replayed.stopped, Replayed.unread, replay, linesIn, usedOf, recoveryFrom, recovered, wholly}
 use Rattle.journal_model.specs.Exact.{exchangeWith, JournalRun, JournalRun.none, JournalRun.next, framesOf, busAfterCounted, Appends, Appends.appended, Appends.unchanged, short-number, appends, spare-large, kept-text, recovery-exact}
@@ -77,6 +79,10 @@ pub record FullExactly (b : Bus) (c : Call) (j : List ℕ) (u : ℕ) : Type 0 wh
 
 abbrev pub LastOfAll : Type 0
 LastOfAll = (b : Bus) (c : Call) (j : List ℕ) (u : ℕ) → u ≤ length j → FullExactly b c j u
+
+-- What is exchanged in a run, without what was answered 27, is a history: what holds of every history holds of it.
+abbrev pub HappenedJournalled : Type 0
+HappenedJournalled = (xs : List Exchange) (b : Bus) (j : List ℕ) (u : ℕ) → Journalled xs b j u → Happened (historyOf (fitting xs))
 
 -- 5 is never given in a run.
 abbrev pub NeverFiveJournalled : Type 0
@@ -291,6 +297,9 @@ recovery-exact-of xs d i v r a k t l q old z =
 
 pub journal-demand : JournalDemand
 journal-demand xs b j u r = let y = journalled-run r in demand-three (y .1) begins (omega arith)
+
+pub happened-journalled : HappenedJournalled
+happened-journalled xs b j u r = let y = journalled-run r in ran-happened (run-ran (y .1) [] begins (omega arith))
 
 -- What holds of every exchange that was not answered 27, and of those that were, holds of all.
 all-fitting : (xs : List Exchange) → All (λ x. x .outcome .number ≡ EIO → ⊥) (fitting xs) → All (λ x. x .outcome .number ≡ EIO → ⊥) xs

@@ -1,5 +1,6 @@
 -- Bounds of the counts and of the given IDs in every run.
 -- Assumes nothing.
+use Rattle.model.specs.Founded.{Founded}
 use Prim.Native.Nat.{ℕ, suc, _+_, _-_, _*_, _≤_, _<_}
 use mathlib.Core.Path.{_≡_, refl, _∙_}
 use mathlib.Core.Bool.{false}
@@ -19,7 +20,7 @@ use Rattle.model.specs.State.{isLive, Handle, Handle.none, Handle.some, 
 use Rattle.model.specs.Requests.{destinations, attached}
 use Rattle.model.specs.Refusals.{refusal}
 use Rattle.model.specs.Tables.{accept, withStatus, withUser, withHandles, withHandle, withGiven, withQueues, withCharges, withLives, withSeed}
-use Rattle.model.specs.Changes.{push, pushAll, takeOut, withdraw, shown, givenAfter, give, giveAll, forget, fell, notify, notifyAll, destroyAll, deliver}
+use Rattle.model.specs.Changes.{push, pushAll, takeOut, withdraw, shown, givenAfter, give, giveAll, forget, fell, notify, notifyAll, destroyAll, deliver, valid, settled}
 use Rattle.model.specs.Effects.{opens, creates, destroys, releases, releasesHandle, disconnects, receives, effect}
 use Rattle.model.specs.Step.{Call, run}
 use Rattle.model.specs.Tested.{tested}
@@ -28,7 +29,7 @@ use Rattle.model.specs.Notices.{Stands, Noted}
 use Rattle.model.specs.Occurs.{sum-zero, sum-more}
 use Rattle.model.specs.Counts.{put, total-one, total-more, count-handle}
 use Rattle.model.specs.NoticesFree.{holder-peer}
-use Rattle.model.specs.NoticesProof.{noted-start, noted-kept, noted}
+use Rattle.model.specs.NoticesProof.{noted-start, noted-kept, noted, sound-start, sound-kept}
 use Rattle.model.specs.Bounds.{Bounded}
 
 -- Numbers that a change raises by at most d.
@@ -51,25 +52,25 @@ given-more : (x : Handle) (n : ℕ) → givenAfter x n ≤ n + 1
 given-more none n = omega arith
 given-more (some i c) n = omega arith
 
-raised-give : (b : State) (p s : ℕ) → Raised b (give b p s) 1
+raised-give : (b : State) (p asOf s : ℕ) → Raised b (give b p asOf s) 1
 unfolding give withdraw withQueues withHandles withGiven
-raised-give b p s = go (look (isLive (b .life s)))
+raised-give b p asOf s = go (look (valid b p asOf s))
   where
-    go : Seen (isLive (b .life s)) → Raised b (give b p s) 1
+    go : Seen (valid b p asOf s) → Raised b (give b p asOf s) 1
     go (is-false e) = rw e (record { accepted = refl; sums = λ s. omega arith; given = λ p. omega arith })
     go (is-true e) =
         rw e
         (record {
           accepted = refl;
-          sums = total-more (b .handle) p s (handleOf (shown b p s) (suc (count (b .handle p s)))) 1 (omega arith);
+          sums = total-more (b .handle) p s (handleOf (shown b p asOf s) (suc (count (b .handle p s)))) 1 (omega arith);
           given = upd-all (λ q n. n ≤ b .given q + 1) (b .given) p (givenAfter (b .handle p s) (b .given p)) (λ q. omega arith) (given-more (b .handle p s) (b .given p));
         })
 
-raised-giveAll : (b : State) (p : ℕ) (ss : List ℕ) → Raised b (giveAll b p ss) (length ss)
-raised-giveAll b p [] = raised-none b b refl refl refl
-raised-giveAll b p (s ∷ ss) =
-    raised-more b (giveAll (give b p s) p ss) (1 + length ss) (suc (length ss))
-    (raised-trans b (give b p s) (giveAll (give b p s) p ss) 1 (length ss) (raised-give b p s) (raised-giveAll (give b p s) p ss)) (omega arith)
+raised-giveAll : (b : State) (p asOf : ℕ) (ss : List ℕ) → Raised b (giveAll b p asOf ss) (length ss)
+raised-giveAll b p asOf [] = raised-none b b refl refl refl
+raised-giveAll b p asOf (s ∷ ss) =
+    raised-more b (giveAll (give b p asOf s) p asOf ss) (1 + length ss) (suc (length ss))
+    (raised-trans b (give b p asOf s) (giveAll (give b p asOf s) p asOf ss) 1 (length ss) (raised-give b p asOf s) (raised-giveAll (give b p asOf s) p asOf ss)) (omega arith)
 
 raised-receive : (b : State) (p : ℕ) (q : List Entry) → Noted b → b .queue p ≡ q → Raised b (receives b p q) mostIds
 unfolding takeOut withCharges withQueues
@@ -79,8 +80,11 @@ raised-receive b p (released k s ∷ q) n e = raised-more b (takeOut b p [] q) 0
 raised-receive b p (message k m ∷ q) n e =
     let a : All (Stands (b .handle) (b .life) p) (message k m ∷ q) = rw e at (n .stands p) in
     let c : State = takeOut b p (m ∷ []) q in
-    raised-more b (giveAll c p (m .carried)) (0 + length (m .carried)) mostIds
-    (raised-trans b c (giveAll c p (m .carried)) 0 (length (m .carried)) (raised-none b c refl refl refl) (raised-giveAll c p (m .carried))) (omega (arith, a .0 .2 .0))
+    let d : State = giveAll c p k (m .carried) in
+    raised-more b (settled d p) (0 + length (m .carried) + 0) mostIds
+    (raised-trans b d (settled d p) (0 + length (m .carried)) 0
+    (raised-trans b c d 0 (length (m .carried)) (raised-none b c refl refl refl) (raised-giveAll c p k (m .carried)))
+    (unfold settled in raised-none d _ refl refl refl)) (omega (arith, a .0 .2 .0))
 
 raised-create : (b : State) (p i : ℕ) → Raised b (creates b p i) 1
 unfolding creates withHandles withLives
@@ -139,9 +143,9 @@ bounded-start : Bounded start
 unfolding start total
 bounded-start = record { few = omega arith; given = λ p. omega arith; sums = λ s. omega (arith, sum-zero peers) }
 
-bounded-kept : Kept (λ b. Noted b × Bounded b)
+bounded-kept : Kept (λ b. (Noted b × Founded b) × Bounded b)
 unfolding effect
-bounded-kept b f k x g e = (noted-kept b f k (x .0) g e, go k g e)
+bounded-kept b f k x g e = (sound-kept b f k (x .0) g e, go k g e)
   where
     go : (k : Command) → Legal f k → refusal b f k ≡ 0 → Bounded (effect b f k)
     go (Open p u) g e =
@@ -155,7 +159,7 @@ bounded-kept b f k x g e = (noted-kept b f k (x .0) g e, go k g e)
     go (Release p i) g e =
         bounded-next b _ 0 (x .1) (tested b f (Release p i) e .acting .room)
         (raised-releases (accept b) (p .0) (slot b (p .0) (i .0)) (b .handle (p .0) (slot b (p .0) (i .0))) (unfold accept in refl)) (omega arith)
-    go (Transfer p i q) g e = bounded-next b _ 1 (x .1) (tested b f (Transfer p i q) e .acting .room) (raised-give (accept b) (q .0) (slot b (p .0) (i .0))) (omega arith)
+    go (Transfer p i q) g e = bounded-next b _ 1 (x .1) (tested b f (Transfer p i q) e .acting .room) (raised-give (accept b) (q .0) (suc (b .accepted)) (slot b (p .0) (i .0))) (omega arith)
     go (Send p z) g e =
         bounded-next b (effect b f (Send p z)) 0 (x .1) (tested b f (Send p z) e .acting .room)
         (pick-all (λ y. Raised (accept b) y 0) (eqb (z .nd) 0) _ _ (unfold withSeed deliver withCharges pushAll withQueues in raised-none (accept b) _ refl refl refl)
@@ -163,15 +167,15 @@ bounded-kept b f k x g e = (noted-kept b f k (x .0) g e, go k g e)
         (omega arith)
     go (Receive p room) g e =
         bounded-next b _ mostIds (x .1) (tested b f (Receive p room) e .acting .room)
-        (raised-receive (accept b) (p .0) (b .queue (p .0)) (unfold accept in x .0) (unfold accept in refl)) (omega arith)
+        (raised-receive (accept b) (p .0) (b .queue (p .0)) (unfold accept in x .0 .0) (unfold accept in refl)) (omega arith)
     go (Quota p u) g e = x .1
     go (Holders p i) g e = x .1
     go (ShowSeed p room) g e =
         bounded-next b _ (length (seedCarries (b .seed (p .0)))) (x .1) (tested b f (ShowSeed p room) e .acting .room)
-        (raised-giveAll (accept b) (p .0) (seedCarries (b .seed (p .0)))) (x .0 .seeds (p .0) .0)
+        (raised-giveAll (accept b) (p .0) (suc (b .accepted)) (seedCarries (b .seed (p .0)))) (x .0 .0 .seeds (p .0) .0)
 
 pub bounded : (cs : List Call) → Bounded (run cs)
-bounded cs = induction (λ b. Noted b × Bounded b) (noted-start, bounded-start) bounded-kept cs .1
+bounded cs = induction (λ b. (Noted b × Founded b) × Bounded b) (sound-start, bounded-start) bounded-kept cs .1
 
 -- In plain numbers: 8 * (2^40 - 1) for a node's sum of counts and for a peer's given IDs, and so for one count; the next ID is below the invalid one.
 pub sum-bound : (cs : List Call) (s : ℕ) → total (run cs .handle) s ≤ 8796093022200

@@ -1,6 +1,6 @@
 -- The proof of Charged.antt: each small change of the state that is not quiet keeps the invariant, a command's effect is a composition of them, and so every run has it.
 -- Assumes nothing.
-use Prim.Native.Nat.{ℕ, _+_, _-_, _≤_, _<_}
+use Prim.Native.Nat.{ℕ, _+_, _-_, _≤_, _<_, suc}
 use mathlib.Core.Path.{_≡_, refl, _∙_}
 use mathlib.Core.Bool.{Bool, true, not}
 use mathlib.Core.List.{List, [], _∷_, _++_, map}
@@ -26,13 +26,13 @@ use Rattle.model.specs.State.{Status.opened, Status.disconnected, Handle
 use Rattle.model.specs.Requests.{destinations, attached}
 use Rattle.model.specs.Tables.{accept, withStatus, withUser, withHandles, withHandle, withQueues, withCharges, withSeed}
 use Rattle.model.specs.Refusals.{adds, fits}
-use Rattle.model.specs.Changes.{pushAll, dischargedAll, takeOut, dropped, remains, forget, destroyAll, arriving, deliver}
+use Rattle.model.specs.Changes.{pushAll, dischargedAll, takeOut, dropped, remains, forget, destroyAll, arriving, deliver, settle}
 use Rattle.model.specs.Effects.{opens, creates, destroys, releases, releasesHandle, disconnects, receives, effect}
 use Rattle.model.specs.Tested.{Acting, TestedSend, tested}
 use Rattle.model.specs.Step.{Call, run}
 use Rattle.model.specs.Accepted.{Kept, induction}
 use Rattle.model.specs.Charged.{weightOf, fromUser, queuedBy, Fine, Sound, Known, Charged}
-use Rattle.model.specs.Quiet.{Quiet, quiet-then, quiet-accept, quiet-handles, quiet-lives, quiet-give, quiet-giveAll, quiet-notify, quiet-notifyAll, quiet-destroyAll, messages-append, messages-keep}
+use Rattle.model.specs.Quiet.{Quiet, quiet-then, quiet-accept, quiet-handles, quiet-lives, quiet-give, quiet-giveAll, quiet-notify, quiet-notifyAll, quiet-destroyAll, messages-append, messages-keep, quiet-settled, settle-messages}
 use Rattle.model.specs.Charging.{Room, fresh-at, reached-length, discharged-all-at, reached-discharged-all, charged-at}
 use Rattle.model.specs.Sending.{fits-room, arriving-load, arriving-fine}
 
@@ -78,9 +78,10 @@ pub charged-forget : (b : State) (p s : ℕ) → Charged b → Charged (forget b
 unfolding forget
 charged-forget b p s h =
     let ms = messagesIn (b .queue p) in
-    let k : messagesIn (keep (remains p s) (b .queue p)) ≡ keep (λ m. not (dropped p s m)) ms =
-    messages-keep (remains p s) (λ m. not (dropped p s m)) (λ n m. refl) (b .queue p) in
-    charged-takeOut b p (keep (dropped p s) ms) (keep (remains p s) (b .queue p)) h
+    let rest = keep (remains p s) (b .queue p) in
+    let k : messagesIn (settle (b .handle p) rest) ≡ keep (λ m. not (dropped p s m)) ms =
+    settle-messages (b .handle p) rest ∙ messages-keep (remains p s) (λ m. not (dropped p s m)) (λ n m. refl) (b .queue p) in
+    charged-takeOut b p (keep (dropped p s) ms) (settle (b .handle p) rest) h
     (λ t w. rw k (load-split t w (dropped p s) ms))
     (rw k (all-keep Fine (λ m. not (dropped p s m)) ms (h .at p .fine)))
 
@@ -149,7 +150,7 @@ charged-receives : (b : State) (p : ℕ) (q : List Entry) → b .queue p ≡ q �
 charged-receives b p [] e h = h
 charged-receives b p (message n m ∷ q) e h =
     let f : All Fine (m ∷ messagesIn q) = rw e at (h .at p .fine) in
-    charged-quiet (quiet-giveAll _ p (m .carried)) (charged-takeOut b p (m ∷ []) q h (λ t w. rw e (omega arith)) (f .1))
+    charged-quiet (quiet-then (quiet-giveAll _ p n (m .carried)) (quiet-settled _ p)) (charged-takeOut b p (m ∷ []) q h (λ t w. rw e (omega arith)) (f .1))
 charged-receives b p (destroyed n s ∷ q) e h =
     let f : All Fine (messagesIn q) = rw e at (h .at p .fine) in
     charged-takeOut b p [] q h (λ t w. rw e (omega arith)) f
@@ -186,14 +187,14 @@ kept-charged b f (Destroy p i) h l e = charged-quiet (quiet-then (quiet-accept b
 kept-charged b f (Release p i) h l e =
     let s = slot b (p .0) (i .0) in
     charged-releases-handle (accept b) (p .0) s (b .handle (p .0) s) (charged-quiet (quiet-accept b) h)
-kept-charged b f (Transfer p i q) h l e = charged-quiet (quiet-then (quiet-accept b) (quiet-give (accept b) (q .0) _)) h
+kept-charged b f (Transfer p i q) h l e = charged-quiet (quiet-then (quiet-accept b) (quiet-give (accept b) (q .0) (suc (b .accepted)) _)) h
 kept-charged b f (Send p z) h l e =
     let d = charged-send b (p .0) f z h (l .1) (tested b f (Send p z) e) in
     pick-all Charged (eqb (z .nd) 0) _ _ (charged-seed _ (p .0) (kept (payloadOf f) (map (slot b (p .0)) (attached f z))) d) d
 kept-charged b f (Receive p room) h l e = charged-receives (accept b) (p .0) (b .queue (p .0)) refl (charged-quiet (quiet-accept b) h)
 kept-charged b f (Quota p u) h l e = h
 kept-charged b f (Holders p i) h l e = h
-kept-charged b f (ShowSeed p room) h l e = charged-quiet (quiet-then (quiet-accept b) (quiet-giveAll (accept b) (p .0) (seedCarries (b .seed (p .0))))) h
+kept-charged b f (ShowSeed p room) h l e = charged-quiet (quiet-then (quiet-accept b) (quiet-giveAll (accept b) (p .0) (suc (b .accepted)) (seedCarries (b .seed (p .0))))) h
 
 -- Every run.
 pub always-charged : (cs : List Call) → Charged (run cs)

@@ -19,7 +19,7 @@ use Rattle.model.specs.Requests.{destinations, attached}
 use Rattle.model.specs.State.{Handle.none, held, idOr}
 use Rattle.model.specs.Book.{Node, Noted.noted, Book, nodesOf, Fed, answersMessage, shownIds, isSend, actingPeer, sizesOf}
 use Rattle.model.specs.Tally.{tally}
-use Rattle.model.specs.Ledger.{Letter, Item, Item.message, Item.destroyed, Item.released, Ledger, ofCommand}
+use Rattle.model.specs.Ledger.{Letter, Item, Item.message, Item.destroyed, Item.released, Ledger, validAt, ofCommand}
 use Rattle.model.specs.Rows.{bookOf, ledgerOf}
 use Rattle.model.specs.Happened.{Happened}
 use Rattle.model.specs.Shows.{AtOnePlace}
@@ -53,17 +53,18 @@ SentItem xs (released k n) = Unit {0}
 abbrev pub LettersSent : Type 0
 LettersSent = (xs : List Fed) → Happened xs → (p : ℕ) → All (SentItem xs) (ledgerOf xs .queue p)
 
--- "At receive, each attached handle in order: if its node is destroyed by then, the invalid ID is given; else the receiver's existing handle, or a new ID where it has none."
--- The nodes, by number, that get a new ID at p: each that lives and to which p has no handle, once, in the order of their first places. Those in new came before.
-abbrev pub withNew : Ledger → ℕ → List ℕ → ℕ → List ℕ
-withNew l p new n = pick (both (l .lives n) (both (not (held (l .handle p n))) (not (any (eqb n) new)))) (new ++ (n ∷ [])) new
+-- "At receive, each attached handle in order": 02 No. 2, "invalid only if the destruction came before the message"; "else the receiver's existing handle, or a new ID where it has none."
+-- As of the command k, by `validAt`: the nodes, by number, that get a new ID at p: each that is shown and to which p has no handle, once, in the order of their first places. Those in new
+-- came before.
+abbrev pub withNew : Ledger → ℕ → ℕ → List ℕ → ℕ → List ℕ
+withNew l p k new n = pick (both (validAt l p k n) (both (not (held (l .handle p n))) (not (any (eqb n) new)))) (new ++ (n ∷ [])) new
 
-abbrev pub newAfter : Ledger → ℕ → List ℕ → List Node → List ℕ
-newAfter l p new [] = new
-newAfter l p new (n ∷ ns) = newAfter l p (withNew l p new (n .number)) ns
+abbrev pub newAfter : Ledger → ℕ → ℕ → List ℕ → List Node → List ℕ
+newAfter l p k new [] = new
+newAfter l p k new (n ∷ ns) = newAfter l p k (withNew l p k new (n .number)) ns
 
-abbrev pub newNodes : Ledger → ℕ → List Node → List ℕ
-newNodes l p ns = newAfter l p [] ns
+abbrev pub newNodes : Ledger → ℕ → ℕ → List Node → List ℕ
+newNodes l p k ns = newAfter l p k [] ns
 
 -- How many of a list stand before n.
 abbrev pub ahead : ℕ → List ℕ → ℕ
@@ -71,21 +72,21 @@ ahead n [] = 0
 ahead n (m ∷ ms) = pick (eqb n m) 0 (suc (ahead n ms))
 
 -- The ID due for a node, where the nodes new get new IDs: "IDs the bus gives are 4n + 3, n = 1, 2, 3 ... for each peer".
-abbrev pub attachedId : Ledger → ℕ → List ℕ → Node → ℕ
-attachedId l p new n = pick (l .lives (n .number)) (idOr (nextId (l .given p + ahead (n .number) new)) (l .handle p (n .number))) invalid
+abbrev pub attachedId : Ledger → ℕ → ℕ → List ℕ → Node → ℕ
+attachedId l p k new n = pick (validAt l p k (n .number)) (idOr (nextId (l .given p + ahead (n .number) new)) (l .handle p (n .number))) invalid
 
--- The IDs shown to p for the nodes ns.
-pub record AttachedShown (l : Ledger) (k : Book) (p : ℕ) (ids : List ℕ) (ns : List Node) : Type 0 where
-  pub each : ids ≡ map (attachedId l p (newNodes l p ns)) ns
+-- The IDs shown to p for the nodes ns, as of the command asOf.
+pub record AttachedShown (l : Ledger) (k : Book) (p asOf : ℕ) (ids : List ℕ) (ns : List Node) : Type 0 where
+  pub each : ids ≡ map (attachedId l p asOf (newNodes l p asOf ns)) ns
   pub one-each : length ids ≡ length ns
-  -- "if its node is destroyed by then, the invalid ID is given", and there only
-  pub destroyed-invalid : (i : ℕ) (n : Node) → AtOnePlace i n ids ns → l .lives (n .number) ≡ false → i ≡ invalid
-  pub invalid-destroyed : (i : ℕ) (n : Node) → AtOnePlace i n ids ns → i ≡ invalid → l .lives (n .number) ≡ false
+  -- "invalid only if the destruction came before the message"; "An owner whose own handle is gone is still shown the invalid ID"; and there only
+  pub destroyed-invalid : (i : ℕ) (n : Node) → AtOnePlace i n ids ns → validAt l p asOf (n .number) ≡ false → i ≡ invalid
+  pub invalid-destroyed : (i : ℕ) (n : Node) → AtOnePlace i n ids ns → i ≡ invalid → validAt l p asOf (n .number) ≡ false
   -- "else the receiver's existing handle"
-  pub existing : (i : ℕ) (n : Node) → AtOnePlace i n ids ns → l .lives (n .number) ≡ true → (j c : ℕ) → k .handle p j ≡ noted n c → i ≡ j
+  pub existing : (i : ℕ) (n : Node) → AtOnePlace i n ids ns → validAt l p asOf (n .number) ≡ true → (j c : ℕ) → k .handle p j ≡ noted n c → i ≡ j
   -- "or a new ID where it has none": the next that p is given, behind those of the other new nodes with an earlier place
-  pub new : (i : ℕ) (n : Node) → AtOnePlace i n ids ns → l .lives (n .number) ≡ true → l .handle p (n .number) ≡ none →
-      i ≡ nextId (l .given p + ahead (n .number) (newNodes l p ns))
+  pub new : (i : ℕ) (n : Node) → AtOnePlace i n ids ns → validAt l p asOf (n .number) ≡ true → l .handle p (n .number) ≡ none →
+      i ≡ nextId (l .given p + ahead (n .number) (newNodes l p asOf ns))
   -- "one handle listed twice: the same ID twice"
   pub one-id : (i j : ℕ) (n : Node) → AtOnePlace i n ids ns → AtOnePlace j n ids ns → i ≡ j
 
@@ -104,7 +105,7 @@ pub record Delivered (xs : List Fed) (x : Fed) : Type 0 where
   pub flag : getD (x .answer) 11 0 ≡ bit (any (ofCommand number) rest)
   pub nb : numAt (x .answer) 12 2 ≡ length (letter .payload)
   pub nh : getD (x .answer) 14 0 ≡ length (letter .carried)
-  pub ids : AttachedShown (ledgerOf xs) (bookOf xs) (actingPeer (x .frame)) (shownIds (x .answer)) (letter .carried)
+  pub ids : AttachedShown (ledgerOf xs) (bookOf xs) (actingPeer (x .frame)) number (shownIds (x .answer)) (letter .carried)
   -- "Each attached ID shown, save the invalid one, names the node at its place": from then on it does
   pub named : (i : ℕ) (n : Node) → AtOnePlace i n (shownIds (x .answer)) (letter .carried) → (i ≡ invalid → ⊥) →
       (c : ℕ) × (bookOf (xs ++ (x ∷ [])) .handle (actingPeer (x .frame)) i ≡ noted n c)

@@ -43,7 +43,7 @@ use Rattle.model.specs.SimGive.{enough}
 use Rattle.model.specs.SimStep.{ReceiveShows}
 use Rattle.model.specs.SimRun.{ready, shows}
 use Rattle.model.specs.Shown.{receive-destroyed, receive-released}
-use Rattle.model.specs.Ledger.{Letter, Item, Item.message as messageItem, Ledger, ledgerQueues, ofCommand, ownName, dueIds, dueItem, ledgerAfter}
+use Rattle.model.specs.Ledger.{Letter, Item, Item.message as messageItem, Ledger, validAt, ledgerQueues, ofCommand, ownName, dueIds, dueItem, ledgerAfter}
 use Rattle.model.specs.LedgerSim.{letterOf, itemOf}
 use Rattle.model.specs.LedgerGive.{shown-all-due, follows-out}
 use Rattle.model.specs.History.{history-append}
@@ -124,27 +124,27 @@ module _ (kind to user flag nb nh : ℕ) (ids payload : List ℕ) where
 
 -- The IDs of a message, by the ledger l and the book k of a run.
 module _ (l : Ledger) (k : Book) (p : ℕ) (small : (n i c : ℕ) → l .handle p n ≡ some i c → i < invalid) (few : l .given p + 8 < enough)
-    (same : (n : Node) (j c : ℕ) → k .handle p j ≡ noted n c → l .handle p (n .number) ≡ some j c) (ns : List Node) (most : length ns ≤ 8) where
-  id-valid : (n : Node) (x : Handle) → l .handle p (n .number) ≡ x → idOr (nextId (l .given p + ahead (n .number) (newNodes l p ns))) x ≡ invalid → ⊥
-  id-valid n none e z = let y = new-front l p [] ns in let w : length (newNodes l p ns) ≡ length (y .0) = ap length (y .1) in omega (arith, ahead-le (n .number) (newNodes l p ns), w, y .2)
+    (same : (n : Node) (j c : ℕ) → k .handle p j ≡ noted n c → l .handle p (n .number) ≡ some j c) (asOf : ℕ) (ns : List Node) (most : length ns ≤ 8) where
+  id-valid : (n : Node) (x : Handle) → l .handle p (n .number) ≡ x → idOr (nextId (l .given p + ahead (n .number) (newNodes l p asOf ns))) x ≡ invalid → ⊥
+  id-valid n none e z = let y = new-front l p asOf [] ns in let w : length (newNodes l p asOf ns) ≡ length (y .0) = ap length (y .1) in omega (arith, ahead-le (n .number) (newNodes l p asOf ns), w, y .2)
   id-valid n (some i c) e z = omega (arith, small (n .number) i c e)
 
-  pub attached-shown : (ids : List ℕ) → ids ≡ map (attachedId l p (newNodes l p ns)) ns → AttachedShown l k p ids ns
+  pub attached-shown : (ids : List ℕ) → ids ≡ map (attachedId l p asOf (newNodes l p asOf ns)) ns → AttachedShown l k p asOf ids ns
   attached-shown ids e =
-      let at : (i : ℕ) (n : Node) → AtOnePlace i n ids ns → i ≡ attachedId l p (newNodes l p ns) n = λ i n a. at-map (attachedId l p (newNodes l p ns)) i n ns (rw e at a) in
+      let at : (i : ℕ) (n : Node) → AtOnePlace i n ids ns → i ≡ attachedId l p asOf (newNodes l p asOf ns) n = λ i n a. at-map (attachedId l p asOf (newNodes l p asOf ns)) i n ns (rw e at a) in
       record {
         each = e;
-        one-each = ap length e ∙ length-map ns (attachedId l p (newNodes l p ns));
+        one-each = ap length e ∙ length-map ns (attachedId l p asOf (newNodes l p asOf ns));
         destroyed-invalid = λ i n a z. at i n a ∙ rw z refl;
-        invalid-destroyed = λ i n a z. dead i n (at i n a) z (look (l .lives (n .number)));
-        existing = λ i n a z j c y. at i n a ∙ live-id l p (newNodes l p ns) n z ∙ ap (idOr _) (same n j c y);
-        new = λ i n a z y. at i n a ∙ live-id l p (newNodes l p ns) n z ∙ ap (idOr _) y;
+        invalid-destroyed = λ i n a z. dead i n (at i n a) z (look (validAt l p asOf (n .number)));
+        existing = λ i n a z j c y. at i n a ∙ live-id l p asOf (newNodes l p asOf ns) n z ∙ ap (idOr _) (same n j c y);
+        new = λ i n a z y. at i n a ∙ live-id l p asOf (newNodes l p asOf ns) n z ∙ ap (idOr _) y;
         one-id = λ i j n a b. at i n a ∙ sym (at j n b);
       }
     where
-      dead : (i : ℕ) (n : Node) → i ≡ attachedId l p (newNodes l p ns) n → i ≡ invalid → Seen (l .lives (n .number)) → l .lives (n .number) ≡ false
+      dead : (i : ℕ) (n : Node) → i ≡ attachedId l p asOf (newNodes l p asOf ns) n → i ≡ invalid → Seen (validAt l p asOf (n .number)) → validAt l p asOf (n .number) ≡ false
       dead i n e z (is-false y) = y
-      dead i n e z (is-true y) = absurd (id-valid n (l .handle p (n .number)) refl (sym (live-id l p (newNodes l p ns) n y) ∙ sym e ∙ z))
+      dead i n e z (is-true y) = absurd (id-valid n (l .handle p (n .number)) refl (sym (live-id l p asOf (newNodes l p asOf ns) n y) ∙ sym e ∙ z))
 
 -- One of the IDs that come to stand for their nodes.
 pub named-at : (k : Book) (p i : ℕ) (n : Node) (is : List ℕ) (ns : List Node) → ShownFor k p is ns → AtOnePlace i n is ns → (i ≡ invalid → ⊥) → (c : ℕ) × (k .handle p i ≡ noted n c)
@@ -191,7 +191,7 @@ module _ (cs : List Call) (c : Call) (p : Peer) (room : ℕ) (a : Accepted (run 
     rest = map (itemOf (w .name)) q
 
     abbrev due : List ℕ
-    due = dueIds (ledgerQueues l (upd (l .queue) (p .0) rest)) (p .0) (letter .carried)
+    due = dueIds (ledgerQueues l (upd (l .queue) (p .0) rest)) (p .0) n (letter .carried)
 
     in-queue : l .queue (p .0) ≡ messageItem n letter ∷ rest
     in-queue = w .follows .queues (p .0) ∙ ap (map (itemOf (w .name))) e
@@ -202,10 +202,10 @@ module _ (cs : List Call) (c : Call) (p : Peer) (room : ℕ) (a : Accepted (run 
     ids-due : shownIds answer ≡ due
     ids-due =
         let y : ReceiveShows b (p .0) (message n m ∷ q) answer = rw e at (shows b c (Receive p room) a (ready cs (w .ids))) in
-        y .1 ∙ sym (shown-all-due (w .sim .apart) (takeOut b (p .0) (m ∷ []) q) _ (p .0) (m .carried) (follows-out (w .sim .apart) b l (p .0) (m ∷ []) q (w .follows)))
+        y .1 ∙ sym (shown-all-due (w .sim .apart) (takeOut b (p .0) (m ∷ []) q) _ (p .0) n (m .carried) (follows-out (w .sim .apart) b l (p .0) (m ∷ []) q (w .follows)))
 
-    due-each : due ≡ map (attachedId l (p .0) (newNodes l (p .0) (letter .carried))) (letter .carried)
-    due-each = due-all l (upd (l .queue) (p .0) rest) (p .0) (letter .carried)
+    due-each : due ≡ map (attachedId l (p .0) n (newNodes l (p .0) n (letter .carried))) (letter .carried)
+    due-each = due-all l (upd (l .queue) (p .0) rest) (p .0) n (letter .carried)
 
     shows-letter : actingPeer (c .frame) ≡ p .0 → Delivered (historyFrom start cs) (fed c (step b c))
     shows-letter acts =
@@ -234,7 +234,7 @@ module _ (cs : List Call) (c : Call) (p : Peer) (room : ℕ) (a : Accepted (run 
           nh = nh;
           ids =
               rw acts
-              (attached-shown l (bookAfter cs) (p .0) (ledger-small cs w (p .0)) (ledger-few cs w (p .0)) (ledger-same cs w (p .0)) (letter .carried) most (shownIds answer)
+              (attached-shown l (bookAfter cs) (p .0) (ledger-small cs w (p .0)) (ledger-few cs w (p .0)) (ledger-same cs w (p .0)) n (letter .carried) most (shownIds answer)
               (ids-due ∙ due-each));
           named = λ i k z v. rw (h, acts) (named-at (bookAfter (cs ++ (c ∷ []))) (p .0) i k (shownIds answer) (letter .carried) (attached-named cs c p room a n m q e w) z v);
           payload =

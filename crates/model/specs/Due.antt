@@ -1,6 +1,6 @@
 -- Every answer of every run, to the byte, is the one that is due by the ledger: "The promises use that definition."
 -- Assumes nothing.
-use Prim.Native.Nat.{ℕ, _%_, _^_, _≤_, _<_}
+use Prim.Native.Nat.{ℕ, suc, _%_, _^_, _≤_, _<_}
 use mathlib.Core.Path.{_≡_, refl, sym, ap, _∙_}
 use mathlib.Core.Bool.{Bool, false}
 use mathlib.Core.List.{List, [], _∷_, _++_, map, append-assoc}
@@ -28,7 +28,7 @@ use Rattle.model.specs.Lists.{any}
 use Rattle.model.specs.Resources.{Resource.messages, Resource.bytes, Resource.handles}
 use Rattle.model.specs.State.{Handle, held, idOr, Message, Entry, Entry.message, Entry.destroyed, Entry.released, messagesIn, State, slot, Seed, Seed.unset, Seed.kept, seedCarries}
 use Rattle.model.specs.Refusals.{takeable, showable}
-use Rattle.model.specs.Changes.{takeOut, shownAll}
+use Rattle.model.specs.Changes.{takeOut, shown, shownAll}
 use Rattle.model.specs.Replies.{ofSend, showsMessage, shows, holdersOf, reply, showsSeed}
 use Rattle.model.specs.Step.{Call, step, run, answerOf}
 use Rattle.model.specs.Accepted.{Accepted, accepted-call}
@@ -39,7 +39,7 @@ use Rattle.model.specs.Shown.{bytesOf, shown-length, answer-bytes}
 use Rattle.model.specs.Book.{Fed, queued}
 use Rattle.model.specs.Sim.{called, Sim}
 use Rattle.model.specs.SimSend.{noted-at-slot}
-use Rattle.model.specs.Ledger.{Ledger, ledgerQueues, ofCommand, dueItem, holdersByte, ofEach, leftOf, dueTo, ledgerAfter, dueSeed}
+use Rattle.model.specs.Ledger.{Ledger, dueId, dueIds, ledgerQueues, ofCommand, dueItem, holdersByte, ofEach, leftOf, dueTo, ledgerAfter, dueSeed}
 use Rattle.model.specs.LedgerSim.{itemOf, Follows, seedOf}
 use Rattle.model.specs.LedgerGive.{shown-due, shown-all-due, follows-out}
 use Rattle.model.specs.History.{ledger-book}
@@ -83,9 +83,9 @@ module _ {N : ℕ} (name : ℕ → ℕ) {E : ℕ} (b : State) (l : Ledger) (w : 
   message-due : (p k : ℕ) (m : Message) (rest : List Entry) → Fine m → bytesOf (shows b p (message k m ∷ rest)) ≡ dueItem l p (map (itemOf name) (message k m ∷ rest))
   unfolding showsMessage
   message-due p k m rest fine =
-      let ids = shownAll (takeOut b p (m ∷ []) rest) p (m .carried) in
-      let n : length ids ≡ length (m .carried) = shown-length (takeOut b p (m ∷ []) rest) p (m .carried) in
-      let due = shown-all-due (w .apart) (takeOut b p (m ∷ []) rest) (ledgerQueues l (upd (l .queue) p (map (itemOf name) rest))) p (m .carried) (follows-out (w .apart) b l p (m ∷ []) rest r) in
+      let ids = shownAll (takeOut b p (m ∷ []) rest) p k (m .carried) in
+      let n : length ids ≡ length (m .carried) = shown-length (takeOut b p (m ∷ []) rest) p k (m .carried) in
+      let due = shown-all-due (w .apart) (takeOut b p (m ∷ []) rest) (ledgerQueues l (upd (l .queue) p (map (itemOf name) rest))) p k (m .carried) (follows-out (w .apart) b l p (m ∷ []) rest r) in
       rw (due, length-map, same-send name k rest, r .handles .same p (m .to))
       (message-bytes (idOr invalid (b .handle p (m .to))) (m .user) (length (m .payload)) (length (m .carried)) (any (ofSend k) rest) ids (m .payload)
       (omega (arith, fine .from)) (omega (arith, fine .few)) (omega (arith, n, fine .few)) (fine .small))
@@ -103,9 +103,12 @@ module _ {N : ℕ} (name : ℕ → ℕ) {E : ℕ} (b : State) (l : Ledger) (w : 
   unfolding showsSeed
   seed-due p room unset e u few short = absurd (omega arith)
   seed-due p room (kept payload carried) e u few short =
-      let n : length (shownAll b p carried) ≡ length carried = shown-length b p carried in
-      rw (shown-all-due (w .apart) b l p carried r, length-map, w .users p)
-      (seed-bytes invalid (b .user p) (length payload) (length carried) (shownAll b p carried) payload (omega (arith, u)) (omega (arith, few)) (omega (arith, n, few)) short)
+      let k = suc (b .accepted) in
+      let n : length (shownAll b p k carried) ≡ length carried = shown-length b p k carried in
+      let due : dueIds l p (suc (l .accepted)) (map (called name) carried) ≡ shownAll b p k carried
+      = ap (λ (j : ℕ). dueIds l p (suc j) (map (called name) carried)) (r .accepted) ∙ shown-all-due (w .apart) b l p k carried r in
+      rw (due, length-map, w .users p)
+      (seed-bytes invalid (b .user p) (length payload) (length carried) (shownAll b p k carried) payload (omega (arith, u)) (omega (arith, few)) (omega (arith, n, few)) short)
 
   -- The holders question.
   holders-due : (s : ℕ) → holdersByte l (called name s) ≡ holdersOf b s
@@ -137,7 +140,11 @@ module _ {N : ℕ} (name : ℕ → ℕ) {E : ℕ} (b : State) (l : Ledger) (w : 
   reply-due f (Create p i) a t = refl
   reply-due f (Destroy p i) a t = refl
   reply-due f (Release p i) a t = refl
-  reply-due f (Transfer p i q) a t = rw (noted-at-slot name b (l .book) w (p .0) (i .0) (t .holds) .1, shown-due (w .apart) b l r (q .0) (slot b (p .0) (i .0))) refl
+  reply-due f (Transfer p i q) a t =
+      let s = slot b (p .0) (i .0) in
+      let due : dueId l (q .0) (suc (l .accepted)) (called name s) ≡ shown b (q .0) (suc (b .accepted)) s
+      = ap (λ (j : ℕ). dueId l (q .0) (suc j) (called name s)) (r .accepted) ∙ shown-due (w .apart) b l r (q .0) (suc (b .accepted)) s in
+      rw (noted-at-slot name b (l .book) w (p .0) (i .0) (t .holds) .1, due) refl
   reply-due f (Send p z) a t = refl
   reply-due f (Receive p room) a t = rw (r .queues (p .0)) (item-due (p .0) room (b .queue (p .0)) (t .next) (h .at (p .0) .fine))
   reply-due f (Quota p u) a t = ap (_∷_ 0) (balance-due (p .0) u (omega (arith, a .1)))

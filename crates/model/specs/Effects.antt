@@ -1,7 +1,7 @@
 -- The effect of each command that is not refused, as a composition of small changes. In `opens` to `receives` b is the state in which the command is counted already; `effect` takes the
 -- state before and counts the command (`accept`), unless it is a question.
 -- Assumes nothing.
-use Prim.Native.Nat.{ℕ, _+_, _-_, _*_}
+use Prim.Native.Nat.{ℕ, suc, _+_, _-_, _*_}
 use mathlib.Core.List.{List, [], _∷_, map}
 use lib.Dec.{eqb}
 use Rattle.laws.specs.Tests.{pick}
@@ -13,7 +13,7 @@ use Rattle.model.specs.Numbers.{slots}
 use Rattle.model.specs.State.{Status.opened, Status.disconnected, Life.live, isLive, Handle, Handle.none, Handle.some, handleOf, Entry, Entry.message, Entry.destroyed, Entry.released, messagesIn, Seed.unset, Seed.kept, seedCarries, State, slot, freePlace}
 use Rattle.model.specs.Requests.{destinations, attached}
 use Rattle.model.specs.Tables.{accept, withStatus, withUser, withHandles, withHandle, withSeed, withLives}
-use Rattle.model.specs.Changes.{takeOut, give, giveAll, forget, notify, notifyAll, destroyAll, deliver, reseed}
+use Rattle.model.specs.Changes.{takeOut, give, giveAll, settled, forget, notify, notifyAll, destroyAll, deliver, reseed}
 
 -- "A peer belongs to one user".
 unfoldable pub opens : State → ℕ → ℕ → State
@@ -48,7 +48,7 @@ disconnects b p =
 -- Receive: the first entry is taken out; of a message each attached handle is given. No run reaches `[]`: a receive with nothing queued is refused with 11.
 abbrev pub receives : State → ℕ → List Entry → State
 receives b p [] = b
-receives b p (message n m ∷ q) = giveAll (takeOut b p (m ∷ []) q) p (m .carried)
+receives b p (message n m ∷ q) = settled (giveAll (takeOut b p (m ∷ []) q) p n (m .carried)) p
 receives b p (destroyed n s ∷ q) = takeOut b p [] q
 receives b p (released n s ∷ q) = takeOut b p [] q
 
@@ -59,7 +59,7 @@ effect b f (Disconnect p) = withSeed (disconnects (accept b) (p .0)) (p .0) unse
 effect b f (Create p i) = creates (accept b) (p .0) (i .0)
 effect b f (Destroy p i) = destroys (accept b) (p .0) (slot b (p .0) (i .0))
 effect b f (Release p i) = let s = slot b (p .0) (i .0) in releasesHandle (accept b) (p .0) s (b .handle (p .0) s)
-effect b f (Transfer p i q) = give (accept b) (q .0) (slot b (p .0) (i .0))
+effect b f (Transfer p i q) = give (accept b) (q .0) (suc (b .accepted)) (slot b (p .0) (i .0))
 effect b f (Send p z) =
     let ds = map (slot b (p .0)) (destinations f z) in
     let hs = map (slot b (p .0)) (attached f z) in
@@ -67,4 +67,4 @@ effect b f (Send p z) =
 effect b f (Receive p room) = receives (accept b) (p .0) (b .queue (p .0))
 effect b f (Quota p u) = b
 effect b f (Holders p i) = b
-effect b f (ShowSeed p room) = giveAll (accept b) (p .0) (seedCarries (b .seed (p .0)))
+effect b f (ShowSeed p room) = giveAll (accept b) (p .0) (suc (b .accepted)) (seedCarries (b .seed (p .0)))

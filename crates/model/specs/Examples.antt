@@ -20,7 +20,7 @@ use Rattle.model.specs.Numbers.{invalid}
 use Rattle.model.specs.State.{State, Status.opened, Life.dead, Handle.none, start, slotOf, total, heldByAny, named, counts, freePlace, byOwnerId, Seed.unset, seeded}
 use Rattle.model.specs.Refusals.{placesAt, fits, refusesOpen, refusesDisconnect, refusesCreate, refusesDestroy, refusesRelease, refusesTransfer, refusesSend, refusesReceive, refusesQuota, refusesHolders, refusal, refusesSeed}
 use Rattle.model.specs.Tables.{withStatus, withUser, withGiven, withHandles, withQueues, withCharges, withLives, accept, withSeed}
-use Rattle.model.specs.Changes.{pushAll, takeOut, withdraw, shown, give, forget, fell, notify, releaseNotices, notifyAll, destroyNotices, destroyAll, arriving, deliver}
+use Rattle.model.specs.Changes.{pushAll, takeOut, withdraw, shown, give, forget, fell, notify, releaseNotices, notifyAll, destroyNotices, destroyAll, arriving, deliver, valid, settle, settled}
 use Rattle.model.specs.Effects.{opens, creates, destroys, releases, disconnects, effect}
 use Rattle.model.specs.Replies.{showsMessage, holdersOf, reply, showsSeed}
 use Rattle.model.specs.Scripts.{opening, disconnect, create, destroy, release, send, receive, transfer, quota, holders, number, gives, queuedAndLeft, takes, takesFlag, destroyedAt, releasedAt, Row, Row.played, computed, expected, five, two, second, empties, done, showSeed, setSeed, showsAs}
@@ -37,7 +37,7 @@ withdrawn-risen = played (two ++ (release 1 7 ∷ transfer 0 8 1 ∷ receive 0 0
 abbrev pub withdrawn-destroyed : Row
 withdrawn-destroyed = played (two ++ (release 1 7 ∷ destroy 0 8 ∷ receive 0 0 ∷ receive 0 0 ∷ [])) (number 0 ∷ number 0 ∷ destroyedAt 8 ∷ number 11 ∷ [])
 
--- "Destroy queues a notice at every holder, owner included"; "A notice is withdrawn when its holder's handle goes."
+-- "Destroy queues a notice at every holder, owner included"; where no earlier message is left it is withdrawn when the handle goes.
 abbrev pub destroyed-notices : Row
 destroyed-notices = played (two ++ (destroy 0 8 ∷ receive 0 0 ∷ receive 1 0 ∷ receive 1 0 ∷ [])) (number 0 ∷ destroyedAt 8 ∷ destroyedAt 7 ∷ number 11 ∷ [])
 
@@ -65,9 +65,44 @@ flags =
 abbrev pub doubled : Row
 doubled = played (two ++ (send 1 (7 ∷ 7 ∷ []) [] [] ∷ receive 0 0 ∷ receive 0 0 ∷ [])) (takesFlag 8 1 1 [] [] ∷ takesFlag 8 1 0 [] [] ∷ [])
 
--- "if its node is destroyed by then, the invalid ID is given".
+-- 02 No. 2, "invalid only if the destruction came before the message": before it, all ones, also to a holder; the notice stands at its place before the message.
 abbrev pub invalid-shown : Row
-invalid-shown = played (two ++ (create 1 12 ∷ send 1 (7 ∷ []) (12 ∷ []) [] ∷ destroy 1 12 ∷ receive 0 8 ∷ [])) (number 0 ∷ takes 8 1 (invalid ∷ []) [] ∷ [])
+invalid-shown =
+    played (two ++ (create 1 12 ∷ transfer 1 12 0 ∷ destroy 0 8 ∷ send 0 (7 ∷ []) (8 ∷ []) [] ∷ receive 1 8 ∷ receive 1 8 ∷ receive 1 8 ∷ []))
+    (number 0 ∷ destroyedAt 7 ∷ takes 12 0 (invalid ∷ []) [] ∷ number 11 ∷ [])
+
+-- "such a message installs the handle, and the notice follows it".
+abbrev pub installed : Row
+installed =
+    played (two ++ (create 1 12 ∷ send 1 (7 ∷ []) (12 ∷ []) [] ∷ destroy 1 12 ∷ receive 0 8 ∷ receive 0 0 ∷ receive 0 0 ∷ release 0 7 ∷ release 0 7 ∷ []))
+    (number 0 ∷ takes 8 1 (7 ∷ []) [] ∷ destroyedAt 7 ∷ number 11 ∷ number 0 ∷ number 6 ∷ [])
+
+-- "withdrawn as soon as the peer holds no handle and no earlier message carrying the node is left": a holder that lets go before it takes the message out keeps the notice, which shows the new ID.
+abbrev pub notice-kept : Row
+notice-kept =
+    played (two ++ (create 1 12 ∷ transfer 1 12 0 ∷ send 0 (7 ∷ []) (8 ∷ []) [] ∷ destroy 0 8 ∷ release 1 7 ∷ receive 1 8 ∷ receive 1 0 ∷ receive 1 0 ∷ []))
+    (number 0 ∷ takes 12 0 (11 ∷ []) [] ∷ destroyedAt 11 ∷ number 11 ∷ [])
+
+-- The only earlier message is dropped with its destination: the notice goes in the same command.
+abbrev pub notice-dropped : Row
+notice-dropped =
+    played
+    (opening 0 0 ∷ opening 1 1 ∷ create 0 8 ∷ create 1 4 ∷ transfer 1 4 0 ∷ send 0 (7 ∷ []) (8 ∷ []) [] ∷ destroy 0 8 ∷ destroy 1 4 ∷ release 1 4 ∷ receive 1 0 ∷ [])
+    (number 0 ∷ number 11 ∷ [])
+
+-- "An owner whose own handle is gone is still shown the invalid ID", and its notice goes with the last earlier message.
+abbrev pub owner-gone : Row
+owner-gone =
+    played (opening 0 0 ∷ create 0 8 ∷ create 0 12 ∷ send 0 (12 ∷ []) (8 ∷ 8 ∷ []) [] ∷ destroy 0 8 ∷ release 0 8 ∷ receive 0 16 ∷ receive 0 0 ∷ create 0 8 ∷ [])
+    (number 0 ∷ takes 12 0 (invalid ∷ invalid ∷ []) [] ∷ number 11 ∷ number 0 ∷ [])
+
+-- Disconnect destroys too: notices by ascending owner ID, behind the message that installs both handles, then the release notice.
+abbrev pub disconnect-tells : Row
+disconnect-tells =
+    played
+    (opening 0 0 ∷ opening 1 1 ∷ create 0 8 ∷ create 1 4 ∷ transfer 1 4 0 ∷ create 0 12 ∷ send 0 (7 ∷ []) (12 ∷ 8 ∷ []) [] ∷ disconnect 0
+    ∷ receive 1 16 ∷ receive 1 0 ∷ receive 1 0 ∷ receive 1 0 ∷ receive 1 0 ∷ [])
+    (number 0 ∷ takes 4 0 (7 ∷ 11 ∷ []) [] ∷ destroyedAt 11 ∷ destroyedAt 7 ∷ releasedAt 4 ∷ number 11 ∷ [])
 
 -- "destroy notices by ascending owner ID; then release notices by ascending owner ID": peer 1 holds 12 as 7 and 8 as 11, and peer 0 held 20 and 16 of peer 1.
 abbrev pub ordered : Row
@@ -125,12 +160,12 @@ flag-of-dropped =
     (two ++ (create 0 12 ∷ transfer 0 12 1 ∷ send 1 (7 ∷ 11 ∷ []) [] (51 ∷ []) ∷ destroy 0 12 ∷ release 0 12 ∷ receive 0 1 ∷ receive 0 1 ∷ []))
     (number 0 ∷ number 0 ∷ takesFlag 8 1 0 [] (51 ∷ []) ∷ number 11 ∷ [])
 
--- The invalid ID also to a peer that holds the destroyed node; its own ID stays its own.
+-- To an owner that still holds the destroyed node the earlier message shows its own ID, and the count rises; then the notice.
 abbrev pub invalid-to-holder : Row
 invalid-to-holder =
     played
     (two ++ (create 0 12 ∷ transfer 0 12 1 ∷ send 1 (7 ∷ []) (11 ∷ []) [] ∷ destroy 0 12 ∷ receive 0 8 ∷ receive 0 0 ∷ release 0 12 ∷ release 0 12 ∷ []))
-    (number 0 ∷ takes 8 1 (invalid ∷ []) [] ∷ destroyedAt 12 ∷ number 0 ∷ number 6 ∷ [])
+    (number 0 ∷ takes 8 1 (12 ∷ []) [] ∷ destroyedAt 12 ∷ number 0 ∷ number 0 ∷ [])
 
 -- Two refusals at once: the destination peer before an ID that is not held, that before a destroyed node, the owner before a destroyed node, an ID held before no room.
 abbrev pub collide : Row
@@ -211,11 +246,11 @@ examples =
     released-notice ∷ withdrawn-risen ∷ withdrawn-destroyed ∷ destroyed-notices ∷ withdrawn-gone ∷ still-delivered ∷ dropped-with-owner ∷ flags ∷ doubled ∷ invalid-shown
     ∷ ordered ∷ held-by-two ∷ room-again ∷ room-named ∷ cascade ∷ notice-behind ∷ absent
     ∷ back-at-the-end ∷ flag-of-dropped ∷ invalid-to-holder ∷ collide ∷ share-of-messages ∷ share-of-bytes ∷ share-of-handles ∷ seed-each-time ∷ seed-uncharged ∷ seed-keeps-room ∷ seed-dropped
-    ∷ seed-chosen-again ∷ seed-refused ∷ []
+    ∷ seed-chosen-again ∷ seed-refused ∷ installed ∷ notice-kept ∷ notice-dropped ∷ owner-gone ∷ disconnect-tells ∷ []
 
 pub shown-by-examples : All (λ r. computed r ≡ expected r) examples
-unfolding upd sumTo build first be numAt idAt shortAt parseSizes parseSend frameLength parseOpen parseCreate parseTransfer parseQuota parseRest parseOther parse sendId payloadOf othersAll allowsAll balanceOf idBytes headerBytes messageBytes noticeBytes receivedBytes chargeBytes balanceBytes holderBytes contentsOf answerBytes answerAfter outcomeOf least rising start slotOf total heldByAny named seeded counts freePlace byOwnerId placesAt fits refusesOpen refusesDisconnect refusesCreate refusesDestroy refusesRelease refusesTransfer refusesSend refusesReceive refusesQuota refusesHolders refusesSeed refusal withStatus withUser withGiven withHandles withQueues withCharges withSeed withLives accept pushAll takeOut withdraw shown give forget fell notify releaseNotices notifyAll destroyNotices destroyAll arriving deliver opens creates destroys releases disconnects effect showsMessage showsSeed holdersOf reply carryOut finish step answersFrom ones onesIn
-shown-by-examples = (refl, (refl, (refl, (refl, (refl, (refl, (refl, (refl, (refl, (refl, (refl, (refl, (refl, (refl, (refl, (refl, (refl, (refl, (refl, (refl, (refl, (refl, (refl, (refl, (refl, (refl, (refl, (refl, (refl, (refl, tt))))))))))))))))))))))))))))))
+unfolding upd sumTo build first be numAt idAt shortAt parseSizes parseSend frameLength parseOpen parseCreate parseTransfer parseQuota parseRest parseOther parse sendId payloadOf othersAll allowsAll balanceOf idBytes headerBytes messageBytes noticeBytes receivedBytes chargeBytes balanceBytes holderBytes contentsOf answerBytes answerAfter outcomeOf least rising start slotOf total heldByAny named seeded counts freePlace byOwnerId placesAt fits refusesOpen refusesDisconnect refusesCreate refusesDestroy refusesRelease refusesTransfer refusesSend refusesReceive refusesQuota refusesHolders refusesSeed refusal withStatus withUser withGiven withHandles withQueues withCharges withSeed withLives accept pushAll takeOut withdraw valid shown give settle settled forget fell notify releaseNotices notifyAll destroyNotices destroyAll arriving deliver opens creates destroys releases disconnects effect showsMessage showsSeed holdersOf reply carryOut finish step answersFrom ones onesIn
+shown-by-examples = (refl, (refl, (refl, (refl, (refl, (refl, (refl, (refl, (refl, (refl, (refl, (refl, (refl, (refl, (refl, (refl, (refl, (refl, (refl, (refl, (refl, (refl, (refl, (refl, (refl, (refl, (refl, (refl, (refl, (refl, (refl, (refl, (refl, (refl, (refl, tt)))))))))))))))))))))))))))))))))))
 
 -- A bus that has accepted n commands, peer 0 open.
 abbrev pub used : ℕ → State
@@ -245,5 +280,5 @@ pub record Shown : Type 0 where
   pub not-yet : map (numberFrom (used 1099511627774)) (opening 0 0 ∷ disconnect 0 ∷ receive 0 0 ∷ []) ≡ 17 ∷ 0 ∷ 11 ∷ []
 
 pub equations : Shown
-unfolding upd sumTo build first be numAt idAt shortAt parseSizes parseSend frameLength parseOpen parseCreate parseTransfer parseQuota parseRest parseOther parse sendId payloadOf othersAll allowsAll balanceOf idBytes headerBytes messageBytes noticeBytes receivedBytes chargeBytes balanceBytes holderBytes contentsOf answerBytes answerAfter outcomeOf least rising start slotOf total heldByAny named seeded counts freePlace byOwnerId placesAt fits refusesOpen refusesDisconnect refusesCreate refusesDestroy refusesRelease refusesTransfer refusesSend refusesReceive refusesQuota refusesHolders refusesSeed refusal withStatus withUser withGiven withHandles withQueues withCharges withSeed withLives accept pushAll takeOut withdraw shown give forget fell notify releaseNotices notifyAll destroyNotices destroyAll arriving deliver opens creates destroys releases disconnects effect showsMessage showsSeed holdersOf reply carryOut finish step answersFrom ones onesIn
+unfolding upd sumTo build first be numAt idAt shortAt parseSizes parseSend frameLength parseOpen parseCreate parseTransfer parseQuota parseRest parseOther parse sendId payloadOf othersAll allowsAll balanceOf idBytes headerBytes messageBytes noticeBytes receivedBytes chargeBytes balanceBytes holderBytes contentsOf answerBytes answerAfter outcomeOf least rising start slotOf total heldByAny named seeded counts freePlace byOwnerId placesAt fits refusesOpen refusesDisconnect refusesCreate refusesDestroy refusesRelease refusesTransfer refusesSend refusesReceive refusesQuota refusesHolders refusesSeed refusal withStatus withUser withGiven withHandles withQueues withCharges withSeed withLives accept pushAll takeOut withdraw valid shown give settle settled forget fell notify releaseNotices notifyAll destroyNotices destroyAll arriving deliver opens creates destroys releases disconnects effect showsMessage showsSeed holdersOf reply carryOut finish step answersFrom ones onesIn
 equations = record { short-buffer = refl; past-the-end = refl; overflows = refl; not-yet = refl }

@@ -21,7 +21,7 @@ use Rattle.model.specs.Lists.{both}
 use Rattle.model.specs.State.{isLive, Handle, Handle.none, Handle.some, handleOf, Entry, Entry.message, Entry.destroyed, Entry.released, State, start, slotOf, slot, Seed, Seed.kept, seedCarries}
 use Rattle.model.specs.Tables.{accept, withStatus, withUser, withGiven, withHandles, withHandle, withQueues, withCharges, withLives, withSeed}
 use Rattle.model.specs.Refusals.{takeable, refusal}
-use Rattle.model.specs.Changes.{pushAll, takeOut, withdraw, shown, shownAll, give, giveAll, forget, notifyAll, destroyAll, deliver, givenAfter, reseed}
+use Rattle.model.specs.Changes.{pushAll, takeOut, withdraw, shown, shownAll, give, giveAll, forget, notifyAll, destroyAll, deliver, givenAfter, reseed, valid, settled}
 use Rattle.model.specs.Effects.{opens, creates, destroys, releases, releasesHandle, disconnects, receives, effect}
 use Rattle.model.specs.Tested.{tested}
 use Rattle.model.specs.Notices.{Stands, Carried}
@@ -46,7 +46,7 @@ use Rattle.model.specs.Requests.{attached}
 -- The IDs that the reply of an accepted command shows to p.
 abbrev idsIn : State → ℕ → List Entry → List ℕ
 idsIn b p [] = []
-idsIn b p (message n m ∷ rest) = shownAll (takeOut b p (m ∷ []) rest) p (m .carried)
+idsIn b p (message n m ∷ rest) = shownAll (takeOut b p (m ∷ []) rest) p n (m .carried)
 idsIn b p (destroyed n s ∷ rest) = []
 idsIn b p (released n s ∷ rest) = []
 
@@ -56,12 +56,12 @@ showing b (Disconnect q) p = []
 showing b (Create q i) p = []
 showing b (Destroy q i) p = []
 showing b (Release q i) p = []
-showing b (Transfer q i t) p = pick (eqb (t .0) p) (shown b (t .0) (slot b (q .0) (i .0)) ∷ []) []
+showing b (Transfer q i t) p = pick (eqb (t .0) p) (shown b (t .0) (suc (b .accepted)) (slot b (q .0) (i .0)) ∷ []) []
 showing b (Send q z) p = []
 showing b (Receive q room) p = pick (eqb (q .0) p) (idsIn b (q .0) (b .queue (q .0))) []
 showing b (Quota q u) p = []
 showing b (Holders q i) p = []
-showing b (ShowSeed q room) p = pick (eqb (q .0) p) (shownAll b (q .0) (seedCarries (b .seed (q .0)))) []
+showing b (ShowSeed q room) p = pick (eqb (q .0) p) (shownAll b (q .0) (suc (b .accepted)) (seedCarries (b .seed (q .0)))) []
 
 -- What the proof needs to know of a run's bus.
 record Facts (b : State) : Type 0 where
@@ -75,31 +75,31 @@ facts : (cs : List Call) → Facts (run cs)
 facts cs = record { holding = holding cs; stands = noted cs .stands; seeds = noted cs .seeds; few = λ p. omega (arith, given-bound cs p); low = alike cs .ids }
 
 -- What is shown does not depend on how many commands were accepted.
-give-accept : (x : State) (p s : ℕ) → give (accept x) p s ≡ accept (give x p s)
-unfolding give withdraw withHandles withGiven withQueues shown accept
-give-accept x p s = go (look (isLive (x .life s)))
+give-accept : (x : State) (p asOf s : ℕ) → give (accept x) p asOf s ≡ accept (give x p asOf s)
+unfolding give valid withdraw withHandles withGiven withQueues shown accept
+give-accept x p asOf s = go (look (valid x p asOf s))
   where
-    go : Seen (isLive (x .life s)) → give (accept x) p s ≡ accept (give x p s)
+    go : Seen (valid x p asOf s) → give (accept x) p asOf s ≡ accept (give x p asOf s)
     go (is-true e) = rw e refl
     go (is-false e) = rw e refl
 
-shown-accept : (x : State) (p : ℕ) (ss : List ℕ) → shownAll (accept x) p ss ≡ shownAll x p ss
-shown-accept x p [] = refl
-shown-accept x p (s ∷ ss) =
-    ap₂ _∷_ (unfold shown accept in refl) (ap (λ (y : State). shownAll y p ss) (give-accept x p s) ∙ shown-accept (give x p s) p ss)
+shown-accept : (x : State) (p asOf : ℕ) (ss : List ℕ) → shownAll (accept x) p asOf ss ≡ shownAll x p asOf ss
+shown-accept x p asOf [] = refl
+shown-accept x p asOf (s ∷ ss) =
+    ap₂ _∷_ (unfold shown valid accept in refl) (ap (λ (y : State). shownAll y p asOf ss) (give-accept x p asOf s) ∙ shown-accept (give x p asOf s) p asOf ss)
 
 -- A handle given to another peer.
-given-other : (x : State) (q s p : ℕ) → (q ≡ p → ⊥) → give x q s .given p ≡ x .given p
+given-other : (x : State) (q asOf s p : ℕ) → (q ≡ p → ⊥) → give x q asOf s .given p ≡ x .given p
 unfolding give withdraw withHandles withGiven withQueues
-given-other x q s p n = go (look (isLive (x .life s)))
+given-other x q asOf s p n = go (look (valid x q asOf s))
   where
-    go : Seen (isLive (x .life s)) → give x q s .given p ≡ x .given p
+    go : Seen (valid x q asOf s) → give x q asOf s .given p ≡ x .given p
     go (is-true e) = rw e (upd-other (x .given) q p (givenAfter (x .handle q s) (x .given q)) n)
     go (is-false e) = rw e refl
 
-givens-other : (x : State) (q : ℕ) (ss : List ℕ) (p : ℕ) → (q ≡ p → ⊥) → giveAll x q ss .given p ≡ x .given p
-givens-other x q [] p n = refl
-givens-other x q (s ∷ ss) p n = givens-other (give x q s) q ss p n ∙ given-other x q s p n
+givens-other : (x : State) (q asOf : ℕ) (ss : List ℕ) (p : ℕ) → (q ≡ p → ⊥) → giveAll x q asOf ss .given p ≡ x .given p
+givens-other x q asOf [] p n = refl
+givens-other x q asOf (s ∷ ss) p n = givens-other (give x q asOf s) q asOf ss p n ∙ given-other x q asOf s p n
 
 -- The IDs given to p before, and the new ones among those shown.
 abbrev Grown : State → State → ℕ → List ℕ → Type 0
@@ -108,32 +108,32 @@ Grown b a p is = build nextId (b .given p) ++ newOf (holdsId b p) is ≡ build n
 none-new : (b a : State) (p : ℕ) → a .given p ≡ b .given p → Grown b a p []
 none-new b a p e = append-nil (build nextId (b .given p)) ∙ ap (build nextId) (sym e)
 
-transfer-new : (b : State) (q s p : ℕ) → Facts b → s < nodes → Grown b (give (accept b) q s) p (pick (eqb q p) (shown b q s ∷ []) [])
-unfolding accept shown slotOf
-transfer-new b q s p v l = go (same? q p)
+transfer-new : (b : State) (q asOf s p : ℕ) → Facts b → s < nodes → Grown b (give (accept b) q asOf s) p (pick (eqb q p) (shown b q asOf s ∷ []) [])
+unfolding accept valid shown slotOf
+transfer-new b q asOf s p v l = go (same? q p)
   where
-    go : Same q p → Grown b (give (accept b) q s) p (pick (eqb q p) (shown b q s ∷ []) [])
-    go (other z) = rw (ne-eqb q p z) (none-new b (give (accept b) q s) p (given-other (accept b) q s p z))
+    go : Same q p → Grown b (give (accept b) q asOf s) p (pick (eqb q p) (shown b q asOf s ∷ []) [])
+    go (other z) = rw (ne-eqb q p z) (none-new b (give (accept b) q asOf s) p (given-other (accept b) q asOf s p z))
     go (same z) =
         rw (← z, eq-eqb q q refl)
-        (all-new (accept b) q (s ∷ []) (holdsId b q) (record { handles = v .holding .handles; owned = v .holding .owned }) (l, tt)
+        (all-new (accept b) q asOf (s ∷ []) (holdsId b q) (record { handles = v .holding .handles; owned = v .holding .owned }) (l, tt)
         (omega (arith, v .few q)) (λ j n. refl))
 
 receive-other : (b : State) (q p : ℕ) (es : List Entry) → (q ≡ p → ⊥) → receives (accept b) q es .given p ≡ b .given p
-unfolding takeOut withCharges withQueues accept
+unfolding settled takeOut withCharges withQueues accept
 receive-other b q p [] n = refl
-receive-other b q p (message k m ∷ rest) n = givens-other (takeOut (accept b) q (m ∷ []) rest) q (m .carried) p n
+receive-other b q p (message k m ∷ rest) n = givens-other (takeOut (accept b) q (m ∷ []) rest) q k (m .carried) p n
 receive-other b q p (destroyed k s ∷ rest) n = refl
 receive-other b q p (released k s ∷ rest) n = refl
 
 receive-own : (b : State) (q : ℕ) (es : List Entry) → Facts b → All (Stands (b .handle) (b .life) q) es → Grown b (receives (accept b) q es) q (idsIn b q es)
-unfolding takeOut withCharges withQueues accept slotOf
+unfolding settled takeOut withCharges withQueues accept slotOf
 receive-own b q [] v a = none-new b (accept b) q refl
 receive-own b q (message n m ∷ rest) v a =
     let x = takeOut (accept b) q (m ∷ []) rest in
     let y = takeOut b q (m ∷ []) rest in
-    ap (λ (z : List ℕ). build nextId (b .given q) ++ newOf (holdsId b q) z) (sym (shown-accept y q (m .carried)))
-    ∙ all-new x q (m .carried) (holdsId b q) (holding-out b q (m ∷ []) rest (v .holding)) (a .0 .2 .1) (omega (arith, v .few q, a .0 .2 .0)) (λ j n. refl)
+    ap (λ (z : List ℕ). build nextId (b .given q) ++ newOf (holdsId b q) z) (sym (shown-accept y q n (m .carried)))
+    ∙ all-new x q n (m .carried) (holdsId b q) (holding-out b q (m ∷ []) rest (v .holding)) (a .0 .2 .1) (omega (arith, v .few q, a .0 .2 .0)) (λ j n. refl)
 receive-own b q (destroyed n s ∷ rest) v a = none-new b (takeOut (accept b) q [] rest) q refl
 receive-own b q (released n s ∷ rest) v a = none-new b (takeOut (accept b) q [] rest) q refl
 
@@ -160,16 +160,16 @@ unfolding withSeed
 seed-given a true q x p = refl
 seed-given a false q x p = refl
 
-seed-new : (b : State) (q p : ℕ) (ss : List ℕ) → Facts b → Carried ss → Grown b (giveAll (accept b) q ss) p (pick (eqb q p) (shownAll b q ss) [])
+seed-new : (b : State) (q asOf p : ℕ) (ss : List ℕ) → Facts b → Carried ss → Grown b (giveAll (accept b) q asOf ss) p (pick (eqb q p) (shownAll b q asOf ss) [])
 unfolding accept slotOf
-seed-new b q p ss v a = go (same? q p)
+seed-new b q asOf p ss v a = go (same? q p)
   where
-    go : Same q p → Grown b (giveAll (accept b) q ss) p (pick (eqb q p) (shownAll b q ss) [])
-    go (other z) = rw (ne-eqb q p z) (none-new b (giveAll (accept b) q ss) p (givens-other (accept b) q ss p z))
+    go : Same q p → Grown b (giveAll (accept b) q asOf ss) p (pick (eqb q p) (shownAll b q asOf ss) [])
+    go (other z) = rw (ne-eqb q p z) (none-new b (giveAll (accept b) q asOf ss) p (givens-other (accept b) q asOf ss p z))
     go (same z) =
         rw (← z, eq-eqb q q refl)
-        (ap (λ (z : List ℕ). build nextId (b .given q) ++ newOf (holdsId b q) z) (sym (shown-accept b q ss))
-        ∙ all-new (accept b) q ss (holdsId b q) (record { handles = v .holding .handles; owned = v .holding .owned }) (a .1) (omega (arith, v .few q, a .0)) (λ j n. refl))
+        (ap (λ (z : List ℕ). build nextId (b .given q) ++ newOf (holdsId b q) z) (sym (shown-accept b q asOf ss))
+        ∙ all-new (accept b) q asOf ss (holdsId b q) (record { handles = v .holding .handles; owned = v .holding .owned }) (a .1) (omega (arith, v .few q, a .0)) (λ j n. refl))
 
 -- Every accepted command.
 command-new : (b : State) (f : List ℕ) (k : Command) → Facts b → refusal b f k ≡ 0 → (p : ℕ) → Grown b (effect b f k) p (showing b k p)
@@ -184,20 +184,20 @@ command-new b f (Destroy q i) v e p =
 command-new b f (Release q i) v e p =
     none-new b (effect b f (Release q i)) p
     (ap (λ (g : ℕ → ℕ). g p) (release-given b (q .0) (slot b (q .0) (i .0)) (b .handle (q .0) (slot b (q .0) (i .0)))))
-command-new b f (Transfer q i t) v e p = transfer-new b (t .0) (slot b (q .0) (i .0)) p v (tested b f (Transfer q i t) e .holds)
+command-new b f (Transfer q i t) v e p = transfer-new b (t .0) (suc (b .accepted)) (slot b (q .0) (i .0)) p v (tested b f (Transfer q i t) e .holds)
 command-new b f (Send q z) v e p =
     none-new b (effect b f (Send q z)) p (seed-given _ (eqb (z .nd) 0) (q .0) (kept (payloadOf f) (map (slot b (q .0)) (attached f z))) p ∙ (unfold deliver withCharges pushAll withQueues accept in refl))
 command-new b f (Receive q room) v e p = receive-new b (q .0) p (b .queue (q .0)) v (v .stands (q .0))
 command-new b f (Quota q u) v e p = none-new b b p refl
 command-new b f (Holders q i) v e p = none-new b b p refl
-command-new b f (ShowSeed q room) v e p = seed-new b (q .0) p (seedCarries (b .seed (q .0))) v (v .seeds (q .0))
+command-new b f (ShowSeed q room) v e p = seed-new b (q .0) (suc (b .accepted)) p (seedCarries (b .seed (q .0))) v (v .seeds (q .0))
 
 -- What the bytes of the answer show is what the reply shows.
 transfer-shows : (b : State) (c : Call) (q : Peer) (i : HandleId) (t : Peer) (p : ℕ) → Facts b → Accepted b c (Transfer q i t) →
     shownTo p c (step b c) ≡ showing b (Transfer q i t) p
 transfer-shows b c q i t p v a =
     let d = coded (c .frame) (Transfer q i t) (a .read) in
-    let h = shown-small b (t .0) (slot b (q .0) (i .0)) (v .low) (omega (arith, v .few (t .0))) in
+    let h = shown-small b (t .0) (suc (b .accepted)) (slot b (q .0) (i .0)) (v .low) (omega (arith, v .few (t .0))) in
     rw (eq-eqb (step b c .outcome .number) 0 (a .number), d .byte, destination (c .frame) q i t (a .read), transfer-answers b c q i t a h) refl
 
 both-true : {A : Type 0} (t : Bool) (x y : A) → pick (both t true) x y ≡ pick t x y
@@ -219,10 +219,10 @@ module _ (b : State) (c : Call) (q : Peer) (room p : ℕ) (v : Facts b) (a : Acc
   receive-first [] e w n = absurd (omega arith)
   receive-first (message k m ∷ rest) e w n =
       let y = takeOut b (q .0) (m ∷ []) rest in
-      let h = shown-all-small y (q .0) (m .carried) (unfold takeOut withCharges withQueues in v .low)
+      let h = shown-all-small y (q .0) k (m .carried) (unfold takeOut withCharges withQueues in v .low)
       (unfold takeOut withCharges withQueues in (omega (arith, w .0 .2 .0, v .few (q .0)))) in
       rw (receive-message b c q room a k m rest e, receive-shows b c q room a k m rest e (w .0 .2 .0) h)
-      (both-true (eqb (q .0) p) (shownAll y (q .0) (m .carried)) [])
+      (both-true (eqb (q .0) p) (shownAll y (q .0) k (m .carried)) [])
   receive-first (destroyed k s ∷ rest) e w n =
       rw (receive-destroyed b c q room a k s rest e) (both-false (eqb (q .0) p) (shownIds (answerOf (step b c))) [])
   receive-first (released k s ∷ rest) e w n =
@@ -252,7 +252,7 @@ answer-shows b c (Quota q u) p v a = no-ids b c p 9 (coded (c .frame) (Quota q u
 answer-shows b c (Holders q i) p v a = no-ids b c p 10 (coded (c .frame) (Holders q i) (a .read) .byte) refl refl refl
 answer-shows b c (ShowSeed q room) p v a =
     let d = coded (c .frame) (ShowSeed q room) (a .read) in
-    let h = shown-all-small b (q .0) (seedCarries (b .seed (q .0))) (v .low) (omega (arith, v .seeds (q .0) .0, v .few (q .0))) in
+    let h = shown-all-small b (q .0) (suc (b .accepted)) (seedCarries (b .seed (q .0))) (v .low) (omega (arith, v .seeds (q .0) .0, v .few (q .0))) in
     rw (eq-eqb (step b c .outcome .number) 0 (a .number), d .byte, d .peer, seed-shows b c q room a (v .seeds (q .0) .0) h) refl
 
 -- Every call, and every run.

@@ -1,5 +1,6 @@
 -- What the changes of handles do to `Handles` and `Holding`.
 -- Assumes nothing.
+use borrow.Author.Tests.{eq-eqb}
 use Prim.Native.Nat.{ℕ, zero, suc, _%_, _≤_, _<_}
 use mathlib.Core.Path.{_≡_, refl, sym, ap, _∙_}
 use mathlib.Core.Bool.{Bool, true, false}
@@ -9,9 +10,9 @@ use Rattle.laws.specs.Tests.{Seen, Seen.is-true, Seen.is-false, look, clash, Sa
 use Rattle.laws.specs.Tables.{upd, upd-same, upd-other, upd-rel}
 use Rattle.laws.specs.Weights.{All}
 use Rattle.model.specs.Numbers.{nodes, owner, nextId}
-use Rattle.model.specs.State.{isLive, Handle, Handle.none, Handle.some, handleOf, held, count, idOr, State}
+use Rattle.model.specs.State.{isLive, Handle, Handle.none, Handle.some, handleOf, held, count, idOr, State, livedAt}
 use Rattle.model.specs.Tables.{withGiven, withHandles, withQueues}
-use Rattle.model.specs.Changes.{withdraw, shown, givenAfter, give, giveAll}
+use Rattle.model.specs.Changes.{withdraw, shown, givenAfter, give, giveAll, valid}
 use Rattle.model.specs.Counts.{put-all}
 use Rattle.model.specs.SimHandles.{some-none}
 use Rattle.model.specs.Ids.{Handles, Ids}
@@ -122,17 +123,27 @@ give-one p g h s v l strange none e =
 give-one p g h s v l strange (some i c) e =
     handles-set p g g h s i (suc c) v (omega arith) l (fit-of p g h s i c v e) (λ t d f. v .distinct t s i d c f e)
 
-pub holding-give : (x : State) (p s : ℕ) → Holding x → s < nodes → Holding (give x p s)
+-- What is shown to the owner of its own node, it holds.
+valid-held : (x : State) (p asOf s : ℕ) → (isLive (x .life s) ≡ true → held (x .handle (owner s) s) ≡ true) → valid x p asOf s ≡ true → held (x .handle p s) ≡ false → owner s ≡ p → ⊥
+unfolding valid
+valid-held x p asOf s v e f o = go (look (isLive (x .life s))) (look (livedAt asOf (x .life s)))
+  where
+    go : Seen (isLive (x .life s)) → Seen (livedAt asOf (x .life s)) → ⊥
+    go (is-true z) y = let w : _≡_ {A = Bool} true false = sym (rw o at (v z)) ∙ f in clash w
+    go (is-false z) (is-false y) = clash (sym (rw y at e))
+    go (is-false z) (is-true y) = clash (sym (rw (y, z, eq-eqb (owner s) p o, f) at e))
+
+pub holding-give : (x : State) (p asOf s : ℕ) → Holding x → s < nodes → Holding (give x p asOf s)
 unfolding give withdraw withHandles withGiven withQueues shown
-holding-give x p s v l = go (look (isLive (x .life s)))
+holding-give x p asOf s v l = go (look (valid x p asOf s))
   where
     hd : Handle
     hd = x .handle p s
 
-    strange : isLive (x .life s) ≡ true → held hd ≡ false → owner s ≡ p → ⊥
-    strange e f o = let z : _≡_ {A = Bool} true false = sym (rw o at (v .owned s e)) ∙ f in clash z
+    strange : valid x p asOf s ≡ true → held hd ≡ false → owner s ≡ p → ⊥
+    strange e f o = valid-held x p asOf s (v .owned s) e f o
 
-    go : Seen (isLive (x .life s)) → Holding (give x p s)
+    go : Seen (valid x p asOf s) → Holding (give x p asOf s)
     go (is-false e) = rw e v
     go (is-true e) =
         rw e
@@ -146,6 +157,6 @@ holding-give x p s v l = go (look (isLive (x .life s)))
               (held-of (idOr (nextId (x .given p)) hd) (count hd)) (owner t) t (v .owned t k);
         })
 
-pub holding-gives : (x : State) (p : ℕ) (ss : List ℕ) → Holding x → All (λ s. s < nodes) ss → Holding (giveAll x p ss)
-holding-gives x p [] v a = v
-holding-gives x p (s ∷ ss) v a = holding-gives (give x p s) p ss (holding-give x p s v (a .0)) (a .1)
+pub holding-gives : (x : State) (p asOf : ℕ) (ss : List ℕ) → Holding x → All (λ s. s < nodes) ss → Holding (giveAll x p asOf ss)
+holding-gives x p asOf [] v a = v
+holding-gives x p asOf (s ∷ ss) v a = holding-gives (give x p asOf s) p asOf ss (holding-give x p asOf s v (a .0)) (a .1)

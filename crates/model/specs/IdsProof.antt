@@ -1,6 +1,7 @@
 -- `Ids` holds of every bus that a run leaves: the proof.
 -- Assumes nothing.
-use Prim.Native.Nat.{ℕ, _+_, _-_, _*_, _%_, _≤_, _<_}
+use Rattle.model.specs.Founded.{Founded}
+use Prim.Native.Nat.{ℕ, _+_, _-_, _*_, _%_, _≤_, _<_, suc}
 use mathlib.Core.Path.{_≡_, refl, sym, _∙_}
 use mathlib.Core.Bool.{false}
 use mathlib.Core.List.{List, [], _∷_}
@@ -18,14 +19,14 @@ use Rattle.model.specs.Numbers.{peers, slots, nodes, owner}
 use Rattle.model.specs.State.{Handle, Handle.none, Handle.some, handleOf, hasId, Message, Entry, Entry.message, Entry.destroyed, Entry.released, State, start, slotOf, slot, counts, freePlace, seedCarries}
 use Rattle.model.specs.Tables.{accept, withStatus, withUser, withHandles, withHandle, withQueues, withCharges, withLives, withSeed}
 use Rattle.model.specs.Refusals.{refusal}
-use Rattle.model.specs.Changes.{pushAll, takeOut, withdraw, forget, notify, notifyAll, destroyAll, deliver}
+use Rattle.model.specs.Changes.{pushAll, takeOut, withdraw, forget, notify, notifyAll, destroyAll, deliver, settled}
 use Rattle.model.specs.Effects.{opens, creates, destroys, releases, releasesHandle, disconnects, receives, effect}
 use Rattle.model.specs.Step.{Call, run}
 use Rattle.model.specs.Tested.{TestedCreate, tested}
 use Rattle.model.specs.Accepted.{Kept, induction}
 use Rattle.model.specs.Unchanged.{notify-apart}
 use Rattle.model.specs.Notices.{Stands, Noted}
-use Rattle.model.specs.NoticesProof.{noted-start, noted-kept, noted}
+use Rattle.model.specs.NoticesProof.{noted-start, noted-kept, noted, sound-start, sound-kept}
 use Rattle.model.specs.Ids.{Handles, Ids, SoundIds}
 use Rattle.model.specs.IdsLaws.{Holding, handles-set, fit-of, holding-give, holding-gives}
 use Rattle.model.specs.SimHandles.{some-none}
@@ -97,9 +98,10 @@ unfolding takeOut withCharges withQueues accept
 holding-out b p out rest v = record { handles = v .handles; owned = v .owned }
 
 ids-receive : (b : State) (p : ℕ) (q : List Entry) → All (Stands (b .handle) (b .life) p) q → Holding b → Ids (receives (accept b) p q)
+unfolding settled withQueues
 ids-receive b p [] a v = unfold accept in v .handles
 ids-receive b p (message n m ∷ q) a v =
-    holding-gives (takeOut (accept b) p (m ∷ []) q) p (m .carried) (holding-out b p (m ∷ []) q v) (a .0 .2 .1) .handles
+    holding-gives (takeOut (accept b) p (m ∷ []) q) p n (m .carried) (holding-out b p (m ∷ []) q v) (a .0 .2 .1) .handles
 ids-receive b p (destroyed n s ∷ q) a v = holding-out b p [] q v .handles
 ids-receive b p (released n s ∷ q) a v = holding-out b p [] q v .handles
 
@@ -114,20 +116,20 @@ ids-kept b f (Release p i) v w l e =
     let s = slot b (p .0) (i .0) in
     ids-release b (p .0) s (b .handle (p .0) s) refl (v .handles)
 ids-kept b f (Transfer p i q) v w l e =
-    holding-give (accept b) (q .0) (slot b (p .0) (i .0)) (unfold accept in record { handles = v .handles; owned = v .owned }) (tested b f (Transfer p i q) e .holds) .handles
+    holding-give (accept b) (q .0) (suc (b .accepted)) (slot b (p .0) (i .0)) (unfold accept in record { handles = v .handles; owned = v .owned }) (tested b f (Transfer p i q) e .holds) .handles
 ids-kept b f (Send p z) v w l e =
     pick-all Ids (eqb (z .nd) 0) _ _ (unfold withSeed deliver withCharges pushAll withQueues accept in v .handles) (unfold deliver withCharges pushAll withQueues accept in v .handles)
 ids-kept b f (Receive p room) v w l e = ids-receive b (p .0) (b .queue (p .0)) (w .stands (p .0)) v
 ids-kept b f (Quota p u) v w l e = v .handles
 ids-kept b f (Holders p i) v w l e = v .handles
 ids-kept b f (ShowSeed p room) v w l e =
-    holding-gives (accept b) (p .0) (seedCarries (b .seed (p .0))) (unfold accept in record { handles = v .handles; owned = v .owned }) (w .seeds (p .0) .1) .handles
+    holding-gives (accept b) (p .0) (suc (b .accepted)) (seedCarries (b .seed (p .0))) (unfold accept in record { handles = v .handles; owned = v .owned }) (w .seeds (p .0) .1) .handles
 
-both-kept : Kept (λ b. Noted b × Ids b)
-both-kept b f k v l e = (noted-kept b f k (v .0) l e, ids-kept b f k (record { handles = v .1; owned = v .0 .owned }) (v .0) l e)
+both-kept : Kept (λ b. (Noted b × Founded b) × Ids b)
+both-kept b f k v l e = (sound-kept b f k (v .0) l e, ids-kept b f k (record { handles = v .1; owned = v .0 .0 .owned }) (v .0 .0) l e)
 
 pub sound-ids : SoundIds
-sound-ids cs = induction (λ b. Noted b × Ids b) (noted-start, (λ p. unfold start in no-handles p 0)) both-kept cs .1
+sound-ids cs = induction (λ b. (Noted b × Founded b) × Ids b) (sound-start, (λ p. unfold start in no-handles p 0)) both-kept cs .1
 
 -- With what else of a run's bus the laws of handles need.
 pub holding : (cs : List Call) → Holding (run cs)

@@ -22,7 +22,7 @@ use Rattle.frames.specs.Frame.{parse, payloadOf}
 use Rattle.quota.specs.Rule.{left}
 use Rattle.answers.specs.Answer.{bit, idBytes}
 use Rattle.model.specs.Numbers.{peers, invalid, nextId}
-use Rattle.model.specs.Lists.{both, any, rising}
+use Rattle.model.specs.Lists.{both, either, any, rising}
 use Rattle.model.specs.Resources.{Resource, Resource.messages, Resource.bytes, Resource.handles, limit}
 use Rattle.model.specs.Requests.{destinations, attached}
 use Rattle.model.specs.State.{Handle, Handle.none, handleOf, held, count, idOr, total, start}
@@ -57,9 +57,10 @@ pub record Ledger : Type 0 where
   pub book : Book
   -- how many commands were accepted, questions not counted
   pub accepted : ℕ
-  -- of each node, by its number: the peer that created it, and whether it lives
+  -- of each node, by its number: the peer that created it, whether it lives, and of a destroyed one the number of the accepted command that destroyed it
   pub maker : ℕ → ℕ
   pub lives : ℕ → Bool
+  pub died : ℕ → ℕ
   -- of each peer: its handle to each node, by the node's number; how many IDs it was given; what waits, oldest first; its seed
   pub handle : ℕ → ℕ → Handle
   pub given : ℕ → ℕ
@@ -73,6 +74,7 @@ blankLedger =
       accepted = 0;
       maker = λ n. 0;
       lives = λ n. false;
+      died = λ n. 0;
       handle = λ p n. none;
       given = λ p. 0;
       queue = λ p. [];
@@ -91,6 +93,7 @@ ledgerCreate l p i =
       queue = l .queue;
       maker = upd (l .maker) n p;
       lives = upd (l .lives) n true;
+      died = l .died;
       handle = upd (l .handle) p (upd (l .handle p) n (handleOf i 1));
     }
 
@@ -100,7 +103,18 @@ noRelease n (message k m) = true
 noRelease n (destroyed k x) = true
 noRelease n (released k x) = not (sameNode n x)
 
--- "Destroy queues a notice at every holder, owner included, and leaves counts alone"; a release notice "is withdrawn if .. the node is destroyed".
+-- 02 No. 2: "an earlier queued message that carries the node", one that was queued before the command k.
+abbrev pub brings : ℕ → ℕ → Item → Bool
+brings k n (message j m) = both (ltb j k) (any (λ x. eqb n (x .number)) (m .carried))
+brings k n (destroyed j x) = false
+brings k n (released j x) = false
+
+-- A peer with the handles h and the queue q is told that the command k destroyed the node n: it holds a handle, or an earlier message carries the node.
+abbrev pub isTold : (ℕ → Handle) → List Item → ℕ → ℕ → Bool
+isTold h q k n = either (held (h n)) (any (brings k n) q)
+
+-- "Destroy queues a notice at every holder, owner included, and leaves counts alone"; 02 No. 2: "a destruction also queues a notice at each peer with an earlier queued message that carries
+-- the node"; a release notice "is withdrawn if .. the node is destroyed".
 unfoldable pub ledgerDestroy : Ledger → Node → Ledger
 ledgerDestroy l n =
     record {
@@ -111,16 +125,26 @@ ledgerDestroy l n =
       handle = l .handle;
       given = l .given;
       lives = upd (l .lives) (n .number) false;
+      died = upd (l .died) (n .number) (l .accepted);
       queue = λ q.
           pick (ownedBy q n) (keep (noRelease n) (l .queue q)) (l .queue q)
-          ++ pick (both (ltb q peers) (held (l .handle q (n .number)))) (destroyed (l .accepted) n ∷ []) [];
+          ++ pick (both (ltb q peers) (isTold (l .handle q) (l .queue q) (l .accepted) (n .number))) (destroyed (l .accepted) n ∷ []) [];
     }
 
--- What goes with the handle of p: "A notice is withdrawn when its holder's handle goes"; if p owns the node, the messages for it "are dropped".
+-- What goes with the handle of p: the node's release notice; if p owns the node, the messages for it "are dropped".
 abbrev pub outlasts : ℕ → Node → Item → Bool
 outlasts p n (message k m) = not (both (ownedBy p n) (sameNode (m .to) n))
-outlasts p n (destroyed k x) = not (sameNode x n)
+outlasts p n (destroyed k x) = true
 outlasts p n (released k x) = not (sameNode x n)
+
+-- 02 No. 2: "It is now withdrawn as soon as the peer holds no handle and no earlier message carrying the node is left": what stays of a queue q at a peer with the handles h.
+abbrev pub lasts : (ℕ → Handle) → List Item → Item → Bool
+lasts h q (message k m) = true
+lasts h q (destroyed k n) = isTold h q k (n .number)
+lasts h q (released k n) = true
+
+unfoldable pub cleared : (ℕ → Handle) → List Item → List Item
+cleared h q = keep (lasts h q) q
 
 -- "When the sum of counts over all peers falls to 1 from above on a live node, a release notice is queued at the owner."
 abbrev pub fallen : (ℕ → Bool) → (ℕ → ℕ → Handle) → (ℕ → ℕ → Handle) → ℕ → Bool
@@ -135,41 +159,48 @@ ledgerRelease l p i n c =
       accepted = l .accepted;
       maker = l .maker;
       lives = l .lives;
+      died = l .died;
       given = l .given;
       handle = after;
       queue = λ q.
-          pick (both (eqb p q) (eqb c 1)) (keep (outlasts p n) (l .queue q)) (l .queue q)
+          pick (both (eqb p q) (eqb c 1)) (cleared (after q) (keep (outlasts p n) (l .queue q))) (l .queue q)
           ++ pick (both (ownedBy q n) (fallen (l .lives) (l .handle) after (n .number))) (released (l .accepted) n ∷ []) [];
     }
 
--- "if its node is destroyed by then, the invalid ID is given; else the receiver's existing handle, or a new ID where it has none".
-unfoldable pub dueId : Ledger → ℕ → Node → ℕ
-dueId l p n = pick (l .lives (n .number)) (idOr (nextId (l .given p)) (l .handle p (n .number))) invalid
+-- 02 No. 2: "invalid only if the destruction came before the message". Is the node n shown to p by what the command k queued? It lives, or a later command than k destroyed it and p is not
+-- its owner or holds it: "An owner whose own handle is gone is still shown the invalid ID". A transfer and a seed reading show it as of their own number.
+unfoldable pub validAt : Ledger → ℕ → ℕ → ℕ → Bool
+validAt l p k n = either (l .lives n) (both (ltb k (l .died n)) (either (not (eqb (l .maker n) p)) (held (l .handle p n))))
+
+-- "else the receiver's existing handle, or a new ID where it has none".
+unfoldable pub dueId : Ledger → ℕ → ℕ → Node → ℕ
+dueId l p k n = pick (validAt l p k (n .number)) (idOr (nextId (l .given p)) (l .handle p (n .number))) invalid
 
 -- "A receive or transfer adds 1 for each time the handle is shown"; the release notice "is withdrawn if the sum rises".
-unfoldable pub ledgerGive : Ledger → ℕ → Node → Ledger
-ledgerGive l p n =
-    pick (l .lives (n .number))
+unfoldable pub ledgerGive : Ledger → ℕ → ℕ → Node → Ledger
+ledgerGive l p k n =
+    pick (validAt l p k (n .number))
     (record {
       book = l .book;
       seed = l .seed;
       accepted = l .accepted;
       maker = l .maker;
       lives = l .lives;
+      died = l .died;
       given = upd (l .given) p (givenAfter (l .handle p (n .number)) (l .given p));
-      handle = upd (l .handle) p (upd (l .handle p) (n .number) (handleOf (dueId l p n) (suc (count (l .handle p (n .number))))));
+      handle = upd (l .handle) p (upd (l .handle p) (n .number) (handleOf (dueId l p k n) (suc (count (l .handle p (n .number))))));
       queue = upd (l .queue) (n .owner) (keep (noRelease n) (l .queue (n .owner)));
     })
     l
 
 -- "each attached handle in order".
-abbrev pub ledgerGiveAll : Ledger → ℕ → List Node → Ledger
-ledgerGiveAll l p [] = l
-ledgerGiveAll l p (n ∷ ns) = ledgerGiveAll (ledgerGive l p n) p ns
+abbrev pub ledgerGiveAll : Ledger → ℕ → ℕ → List Node → Ledger
+ledgerGiveAll l p k [] = l
+ledgerGiveAll l p k (n ∷ ns) = ledgerGiveAll (ledgerGive l p k n) p k ns
 
-abbrev pub dueIds : Ledger → ℕ → List Node → List ℕ
-dueIds l p [] = []
-dueIds l p (n ∷ ns) = dueId l p n ∷ dueIds (ledgerGive l p n) p ns
+abbrev pub dueIds : Ledger → ℕ → ℕ → List Node → List ℕ
+dueIds l p k [] = []
+dueIds l p k (n ∷ ns) = dueId l p k n ∷ dueIds (ledgerGive l p k n) p k ns
 
 -- The queues anew.
 unfoldable pub ledgerQueues : Ledger → (ℕ → List Item) → Ledger
@@ -180,10 +211,15 @@ ledgerQueues l f =
       accepted = l .accepted;
       maker = l .maker;
       lives = l .lives;
+      died = l .died;
       handle = l .handle;
       given = l .given;
       queue = f;
     }
+
+-- The queue of p with its notices withdrawn that nothing keeps.
+abbrev pub ledgerCleared : Ledger → ℕ → Ledger
+ledgerCleared l p = ledgerQueues l (upd (l .queue) p (cleared (l .handle p) (l .queue p)))
 
 -- "messages by destination place": at each peer those for its own nodes.
 abbrev pub letters : ℕ → ℕ → List ℕ → List Node → List Node → List Item
@@ -201,15 +237,16 @@ ledgerSeed l t p x =
       accepted = l .accepted;
       maker = l .maker;
       lives = l .lives;
+      died = l .died;
       handle = l .handle;
       given = l .given;
       queue = l .queue;
     }
 
--- Receive: the first is taken out; of a message each attached handle is given. No run reaches `[]`: a receive with nothing queued is refused with 11.
+-- Receive: the first is taken out; of a message each attached handle is given, as of the command that sent it. No run reaches `[]`: a receive with nothing queued is refused with 11.
 abbrev pub ledgerReceive : Ledger → ℕ → List Item → Ledger
 ledgerReceive l p [] = l
-ledgerReceive l p (message k m ∷ rest) = ledgerGiveAll (ledgerQueues l (upd (l .queue) p rest)) p (m .carried)
+ledgerReceive l p (message k m ∷ rest) = ledgerCleared (ledgerGiveAll (ledgerQueues l (upd (l .queue) p rest)) p k (m .carried)) p
 ledgerReceive l p (destroyed k n ∷ rest) = ledgerQueues l (upd (l .queue) p rest)
 ledgerReceive l p (released k n ∷ rest) = ledgerQueues l (upd (l .queue) p rest)
 
@@ -232,12 +269,13 @@ ledgerDisconnect l p =
       maker = l .maker;
       given = l .given;
       lives = living;
+      died = λ n. pick (both (eqb (l .maker n) p) (l .lives n)) (l .accepted) (l .died n);
       handle = after;
       queue = λ q.
           pick (eqb p q) []
           (l .queue q
           ++ pick (ltb q peers)
-          (map (destroyed (l .accepted)) (byOwnId l p (λ n. both (l .lives n) (held (l .handle q n))))
+          (map (destroyed (l .accepted)) (byOwnId l p (λ n. both (l .lives n) (isTold (l .handle q) (l .queue q) (l .accepted) n)))
           ++ map (released (l .accepted)) (byOwnId l q (fallen living (l .handle) after)))
           []);
     }
@@ -251,6 +289,7 @@ ledgerCounted l =
       accepted = suc (l .accepted);
       maker = l .maker;
       lives = l .lives;
+      died = l .died;
       handle = l .handle;
       given = l .given;
       queue = l .queue;
@@ -268,7 +307,7 @@ enter l f (Disconnect p) = ledgerDisconnect (ledgerCounted l) (p .0)
 enter l f (Create p i) = ledgerCreate (ledgerCounted l) (p .0) (i .0)
 enter l f (Destroy p i) = let k = ledgerCounted l in onNode k (l .book .handle (p .0) (i .0)) (λ n c. ledgerDestroy k n)
 enter l f (Release p i) = let k = ledgerCounted l in onNode k (l .book .handle (p .0) (i .0)) (λ n c. ledgerRelease k (p .0) (i .0) n c)
-enter l f (Transfer p i q) = let k = ledgerCounted l in onNode k (l .book .handle (p .0) (i .0)) (λ n c. ledgerGive k (q .0) n)
+enter l f (Transfer p i q) = let k = ledgerCounted l in onNode k (l .book .handle (p .0) (i .0)) (λ n c. ledgerGive k (q .0) (suc (l .accepted)) n)
 enter l f (Send p z) =
     let k = l .book in
     let hs = nodesOf k (p .0) (attached f z) in
@@ -276,7 +315,7 @@ enter l f (Send p z) =
 enter l f (Receive p room) = ledgerReceive (ledgerCounted l) (p .0) (l .queue (p .0))
 enter l f (Quota p u) = l
 enter l f (Holders p i) = l
-enter l f (ShowSeed p room) = ledgerGiveAll (ledgerCounted l) (p .0) (seedNodes (l .seed (p .0)))
+enter l f (ShowSeed p room) = ledgerGiveAll (ledgerCounted l) (p .0) (suc (l .accepted)) (seedNodes (l .seed (p .0)))
 
 abbrev pub enterParsed : Ledger → List ℕ → Parsed → Ledger
 enterParsed l f (Refused n) = l
@@ -291,6 +330,7 @@ withBook l k =
       accepted = l .accepted;
       maker = l .maker;
       lives = l .lives;
+      died = l .died;
       handle = l .handle;
       given = l .given;
       queue = l .queue;
@@ -321,7 +361,7 @@ itemNumber (message k m) = k
 itemNumber (destroyed k n) = k
 itemNumber (released k n) = k
 
--- The ID by which p holds a node. It is asked only for the node of a message or notice that waits for p, and in a run p holds that node; so it is never the invalid one.
+-- The ID by which p holds a node. It is asked only for the node of the message or notice that stands first, and in a run p holds that node (FirstHeld.antt); so it is never the invalid one.
 abbrev pub ownName : Ledger → ℕ → Node → ℕ
 ownName l p n = idOr invalid (l .handle p (n .number))
 
@@ -332,7 +372,7 @@ dueItem l p [] = []
 dueItem l p (message k m ∷ rest) =
     0 ∷ 1 ∷ be 8 (ownName l p (m .to))
     ++ (m .user ∷ bit (any (ofCommand k) rest) ∷ be 2 (length (m .payload))
-    ++ (length (m .carried) ∷ idBytes (dueIds (ledgerQueues l (upd (l .queue) p rest)) p (m .carried)) ++ m .payload))
+    ++ (length (m .carried) ∷ idBytes (dueIds (ledgerQueues l (upd (l .queue) p rest)) p k (m .carried)) ++ m .payload))
 dueItem l p (destroyed k n ∷ rest) = 0 ∷ 2 ∷ be 8 (ownName l p n)
 dueItem l p (released k n ∷ rest) = 0 ∷ 3 ∷ be 8 (ownName l p n)
 
@@ -341,7 +381,7 @@ dueItem l p (released k n ∷ rest) = 0 ∷ 3 ∷ be 8 (ownName l p n)
 abbrev pub dueSeed : Ledger → ℕ → LedgerSeed → List ℕ
 dueSeed l p unset = []
 dueSeed l p (kept payload carried) =
-    0 ∷ 4 ∷ be 8 invalid ++ (l .book .user p ∷ 0 ∷ be 2 (length payload) ++ (length carried ∷ idBytes (dueIds l p carried) ++ payload))
+    0 ∷ 4 ∷ be 8 invalid ++ (l .book .user p ∷ 0 ∷ be 2 (length payload) ++ (length carried ∷ idBytes (dueIds l p (suc (l .accepted)) carried) ++ payload))
 
 -- "one byte with bit p set if peer p holds a handle to the node".
 abbrev pub holdersByte : Ledger → Node → ℕ
@@ -367,7 +407,7 @@ dueTo l (Disconnect p) a = a ≡ 0 ∷ []
 dueTo l (Create p i) a = a ≡ 0 ∷ []
 dueTo l (Destroy p i) a = a ≡ 0 ∷ []
 dueTo l (Release p i) a = a ≡ 0 ∷ []
-dueTo l (Transfer p i q) a = a ≡ onNodeBytes (l .book .handle (p .0) (i .0)) (λ n. 0 ∷ be 8 (dueId l (q .0) n))
+dueTo l (Transfer p i q) a = a ≡ onNodeBytes (l .book .handle (p .0) (i .0)) (λ n. 0 ∷ be 8 (dueId l (q .0) (suc (l .accepted)) n))
 dueTo l (Send p z) a = a ≡ 0 ∷ []
 dueTo l (Receive p room) a = a ≡ dueItem l (p .0) (l .queue (p .0))
 dueTo l (Quota p u) a = a ≡ 0 ∷ ofEach (queued (l .book) (p .0) (u .0)) ++ ofEach (leftOf (l .book) (p .0) (u .0))

@@ -10,7 +10,7 @@ use Rattle.laws.specs.Tests.{clash, Same, Same.same, Same.other, same?}
 use Rattle.laws.specs.Tables.{upd, upd-same, upd-other, upd-all}
 use Rattle.laws.specs.Weights.{all-imp, map-all}
 use Rattle.model.specs.Numbers.{slots, owner, peers}
-use Rattle.model.specs.State.{Life, Life.live, isLive, Handle, Handle.none, Handle.some, held, Entry, Entry.message, Entry.destroyed, Entry.released, State, freePlace, Seed, Seed.unset, Seed.kept, seedCarries, seeded}
+use Rattle.model.specs.State.{Life, Life.live, Life.dead, isLive, Handle, Handle.none, Handle.some, held, Entry, Entry.message, Entry.destroyed, Entry.released, State, freePlace, Seed, Seed.unset, Seed.kept, seedCarries, seeded}
 use Rattle.model.specs.Tables.{withHandles, withLives}
 use Rattle.model.specs.Lists.{any}
 use Rattle.model.specs.Occurs.{any-below}
@@ -19,7 +19,7 @@ use Rattle.model.specs.Notices.{mentions, Unnamed}
 use Rattle.model.specs.Sim.{called}
 use Rattle.model.specs.SimCreate.{absent-message, called-other, unheld-none, upd-apart, absent-list}
 use Rattle.model.specs.Ledger.{Ledger, Item.destroyed as destroyedItem, Item.released as releasedItem, ledgerCreate, LedgerSeed.kept as keptSeed}
-use Rattle.model.specs.LedgerSim.{itemOf, Handled, Lived, Follows, handled-put, seedOf}
+use Rattle.model.specs.LedgerSim.{itemOf, Handled, Lived, Dated, Follows, handled-put, seedOf}
 
 -- An entry that does not name the slot.
 item-other : (name : ℕ → ℕ) (s x : ℕ) (e : Entry) → mentions s e ≡ false → itemOf name e ≡ itemOf (upd name s x) e
@@ -83,6 +83,22 @@ module _ (name : ℕ → ℕ) (E s : ℕ) (apart : (s t : ℕ) → name s ≡ na
           below (same y) m = absurd (new t y)
           below (other y) m = omega (arith, y)
 
+  dated-create : {died : ℕ → ℕ} {life : ℕ → Life} → Dated name E died life → Dated (upd name s E) (suc E) died (upd life s live)
+  dated-create {died} {life} r = record { same = λ t k e. at t (same? s t) k e; entered = λ t k e. here t (same? s t) k e }
+    where
+      lives-now : (t k : ℕ) → s ≡ t → upd life s live t ≡ dead k → ⊥
+      lives-now t k z e =
+          let d : live ≡ dead k = rw (← z, upd-same) at e in
+          clash (ap isLive d)
+
+      at : (t : ℕ) → Same s t → (k : ℕ) → upd life s live t ≡ dead k → died (upd name s E t) ≡ k
+      at t (same z) k e = absurd (lives-now t k z e)
+      at t (other z) k e = rw (upd-other name s t E z) (r .same t k (rw (upd-other life s t live z) at e))
+
+      here : (t : ℕ) → Same s t → (k : ℕ) → upd life s live t ≡ dead (suc k) → upd name s E t < suc E
+      here t (same z) k e = absurd (lives-now t (suc k) z e)
+      here t (other z) k e = rw (upd-other name s t E z) (omega (arith, r .entered t k (rw (upd-other life s t live z) at e)))
+
   pub follows-create : (b : State) (l : Ledger) (p i : ℕ) → s ≡ p * slots + freePlace b p → owner s ≡ p → l .book .entered ≡ E → Follows name E b l → Unnamed b s →
       Follows (upd name s E) (suc E) (creates b p i) (ledgerCreate l p i)
   unfolding creates ledgerCreate withHandles withLives
@@ -93,6 +109,7 @@ module _ (name : ℕ → ℕ) (E s : ℕ) (apart : (s t : ℕ) → name s ≡ na
         given = r .given;
         handles = handled-create p (some i 1) (r .handles) (λ q. unheld-none (b .handle q s) (free .unheld q));
         lives = lived-create p (r .lives) (free .dead) o;
+        dates = dated-create (r .dates);
         seeds = λ q m. r .seeds q m ∙ seed-other name s E (b .seed q) (any-below (λ q. any (eqb s) (seedCarries (b .seed q))) peers q m (unfold seeded in free .unseeded));
         queues = λ q. r .queues q ∙ map-all (itemOf name) (itemOf (upd name s E)) (b .queue q) (all-imp _ _ (λ x z. item-other name s E x z) (b .queue q) (free .unqueued q));
       })

@@ -1,6 +1,6 @@
 -- Disconnect, alike on the bus and in the ledger: "drop the queue, destroy live nodes, release all handles".
 -- Assumes nothing.
-use Prim.Native.Nat.{ℕ, _<_}
+use Prim.Native.Nat.{ℕ, suc, _<_}
 use mathlib.Core.Path.{_≡_, refl, sym, ap, _∙_}
 use mathlib.Core.Bool.{Bool, true, false, not}
 use mathlib.Core.List.{List, [], _++_, map, map-map, map-append, append-assoc}
@@ -11,7 +11,7 @@ use Rattle.laws.specs.Tables.{upd, upd-same, upd-other, upd-rel}
 use Rattle.laws.specs.Weights.{all-imp}
 use Rattle.model.specs.Numbers.{peers, owner}
 use Rattle.model.specs.Lists.{both}
-use Rattle.model.specs.State.{Status.disconnected, Life, Life.dead, isLive, Handle, Handle.none, held, Entry.destroyed, Entry.released, messagesIn, State, byOwnerId, Seed.unset}
+use Rattle.model.specs.State.{Status.disconnected, Life, Life.dead, isLive, Handle, Handle.none, Entry.destroyed, Entry.released, messagesIn, concerned, State, byOwnerId, Seed.unset}
 use Rattle.model.specs.Tables.{withStatus, withHandles, withQueues, withCharges, withLives, withSeed}
 use Rattle.model.specs.Changes.{pushAll, atPeers, takeOut, withdraw, fell, releaseNotices, notifyAll, destroyNotices, destroyAll}
 use Rattle.model.specs.Effects.{disconnects}
@@ -20,9 +20,10 @@ use Rattle.model.specs.Rising.{owner-pass}
 use Rattle.model.specs.Told.{nothing-left}
 use Rattle.model.specs.Sim.{called}
 use Rattle.model.specs.IdsLaws.{Holding}
-use Rattle.model.specs.Ledger.{Item.destroyed as destroyedItem, Item.released as releasedItem, Ledger, fallen, byOwnId, ledgerDisconnect, LedgerSeed.unset as unsetSeed}
+use Rattle.model.specs.Ledger.{Item.destroyed as destroyedItem, Item.released as releasedItem, Ledger, isTold, fallen, byOwnId, ledgerDisconnect, LedgerSeed.unset as unsetSeed}
+use Rattle.model.specs.LedgerGive.{told-named}
 use Rattle.model.specs.ByOwnId.{later-distinct, by-own-id}
-use Rattle.model.specs.LedgerSim.{itemOf, Handled, Lived, Follows, lives-entered, handled-none, total-named, seedOf}
+use Rattle.model.specs.LedgerSim.{itemOf, Handled, Lived, Dated, Follows, lives-entered, handled-none, total-named, seedOf}
 
 -- The lives: the peer's nodes are destroyed.
 lived-disconnect : {name : ℕ → ℕ} {E : ℕ} {lives : ℕ → Bool} {maker : ℕ → ℕ} {life : ℕ → Life} (p k : ℕ) → Lived name E lives maker life →
@@ -46,6 +47,32 @@ lived-disconnect {name} {E} {lives} {maker} {life} p k r =
         at : Seen (eqb (owner s) p) → both (not (eqb (owner s) p)) true ≡ isLive (pick (both (eqb (owner s) p) true) (dead k) (life s))
         at (is-true f) = rw f refl
         at (is-false f) = rw f (sym e)
+
+dated-disconnect : {name : ℕ → ℕ} {E : ℕ} {lives : ℕ → Bool} {died maker : ℕ → ℕ} {life : ℕ → Life} (p k : ℕ) → Lived name E lives maker life → Dated name E died life →
+    Dated name E (λ n. pick (both (eqb (maker n) p) (lives n)) k (died n)) (λ s. pick (both (eqb (owner s) p) (isLive (life s))) (dead k) (life s))
+dated-disconnect {name} {E} {lives} {died} {maker} {life} p k v r =
+    record { same = λ s j e. at s (look (isLive (life s))) j e; entered = λ s j e. here s (look (isLive (life s))) j e }
+  where
+    nothing : (x : Bool) → both x false ≡ false
+    nothing true = refl
+    nothing false = refl
+
+    at : (s : ℕ) → Seen (isLive (life s)) → (j : ℕ) → pick (both (eqb (owner s) p) (isLive (life s))) (dead k) (life s) ≡ dead j → pick (both (eqb (maker (name s)) p) (lives (name s))) k (died (name s)) ≡ j
+    at s (is-false f) j e = rw (v .same s, f, nothing (eqb (maker (name s)) p)) (r .same s j (rw (f, nothing (eqb (owner s) p)) at e))
+    at s (is-true f) j e = rw (v .same s, f, v .makers s (lives-entered v s f)) (own (look (eqb (owner s) p)))
+      where
+        own : Seen (eqb (owner s) p) → pick (both (eqb (owner s) p) true) k (died (name s)) ≡ j
+        own (is-true g) =
+            let d : dead k ≡ dead j = rw (f, g) at e in
+            let y : k ≡ j = cc d in
+            rw g y
+        own (is-false g) =
+            let d : life s ≡ dead j = rw (f, g) at e in
+            clash (sym f ∙ ap isLive d)
+
+    here : (s : ℕ) → Seen (isLive (life s)) → (j : ℕ) → pick (both (eqb (owner s) p) (isLive (life s))) (dead k) (life s) ≡ dead (suc j) → name s < E
+    here s (is-true f) j e = lives-entered v s f
+    here s (is-false f) j e = r .entered s j (rw (f, nothing (eqb (owner s) p)) at e)
 
 -- The slots of q by ascending owner ID, of a bus x that has q's handles of b, and the ledger's nodes: where the tests are one and pass only what lives.
 listed : {name : ℕ → ℕ} (b x : State) (l : Ledger) (q : ℕ) (t u : ℕ → Bool) → Follows name (l .book .entered) b l → Holding b → x .handle q ≡ b .handle q →
@@ -107,7 +134,8 @@ notices-named : (name : ℕ → ℕ) (k : ℕ) (ds rs : List ℕ) (x : Bool) →
 notices-named name k ds rs true = rw (map-append, map-map, map-map, map-map, map-map) refl
 notices-named name k ds rs false = refl
 
-module _ {name : ℕ → ℕ} (b : State) (l : Ledger) (p : ℕ) (r : Follows name (l .book .entered) b l) (v : Holding b) where
+module _ {name : ℕ → ℕ} (b : State) (l : Ledger) (p : ℕ) (r : Follows name (l .book .entered) b l) (v : Holding b)
+    (apart : (s t : ℕ) → name s ≡ name t → s ≡ t) where
   abbrev after : ℕ → ℕ → Handle
   after = upd (l .handle) p (λ n. none)
 
@@ -122,10 +150,18 @@ module _ {name : ℕ → ℕ} (b : State) (l : Ledger) (p : ℕ) (r : Follows na
   unfolding takeOut withStatus withHandles withCharges withQueues destroyAll pushAll withLives withdraw
   handled = handled-none p (r .handles)
 
-  destroyed-listed : (q : ℕ) → byOwnId l p (λ n. both (l .lives n) (held (l .handle q n))) ≡ map (called name) (byOwnerId (b .handle) p (λ s. both (isLive (b .life s)) (held (b .handle q s))))
+  -- who is told
+  abbrev tells : ℕ → ℕ → Bool
+  tells q s = both (isLive (b .life s)) (concerned (b .handle q) (b .queue q) (b .accepted) s)
+
+  abbrev told : ℕ → ℕ → Bool
+  told q n = both (l .lives n) (isTold (l .handle q) (l .queue q) (l .accepted) n)
+
+  destroyed-listed : (q : ℕ) → byOwnId l p (told q) ≡ map (called name) (byOwnerId (b .handle) p (tells q))
   destroyed-listed q =
-      listed b b l p (λ s. both (isLive (b .life s)) (held (b .handle q s))) (λ n. both (l .lives n) (held (l .handle q n))) r v refl
-      (λ s. rw (r .lives .same s, r .handles .same q s) refl) (λ n e. both-true (l .lives n) (held (l .handle q n)) e .0)
+      listed b b l p (tells q) (told q) r v refl
+      (λ s. rw (r .lives .same s, r .accepted, r .queues q, told-named name apart (l .handle q) (b .handle q) (r .handles .same q) (b .accepted) s (b .queue q)) refl)
+      (λ n e. both-true (l .lives n) _ e .0)
 
   released-listed : (q : ℕ) → (p ≡ q → ⊥) → byOwnId l q (fallen living (l .handle) after) ≡ map (called name) (byOwnerId (leaving b p .handle) q (fell b (leaving b p)))
   released-listed q ne =
@@ -141,9 +177,9 @@ module _ {name : ℕ → ℕ} (b : State) (l : Ledger) (p : ℕ) (r : Follows na
   queue-at q (is-false e) =
       let ne = eqb-false p q e in
       unfold ledgerDisconnect destroyNotices releaseNotices in
-      rw (e, queue-other b p q ne, map-append, r .queues q, destroyed-listed q, released-listed q ne, r .accepted)
+      rw (e, destroyed-listed q, released-listed q ne, queue-other b p q ne, map-append, r .queues q, r .accepted)
       (ap (_++_ (map (itemOf name) (b .queue q)))
-      (notices-named name (b .accepted) (byOwnerId (b .handle) p (λ s. both (isLive (b .life s)) (held (b .handle q s)))) (byOwnerId (leaving b p .handle) q (fell b (leaving b p))) (ltb q peers)))
+      (notices-named name (b .accepted) (byOwnerId (b .handle) p (tells q)) (byOwnerId (leaving b p .handle) q (fell b (leaving b p))) (ltb q peers)))
 
   pub follows-disconnect : Follows name (l .book .entered) (withSeed (disconnects b p) p unset) (ledgerDisconnect l p)
   unfolding withSeed
@@ -156,5 +192,8 @@ module _ {name : ℕ → ℕ} (b : State) (l : Ledger) (p : ℕ) (r : Follows na
             upd-rel (λ q x y. q < peers → x ≡ seedOf name y) (l .seed) (b .seed) p unsetSeed unset (r .seeds) (λ m. refl);
         handles = unfold disconnects notifyAll ledgerDisconnect pushAll withQueues in handled;
         lives = unfold disconnects notifyAll ledgerDisconnect pushAll withQueues in lived;
+        dates =
+            unfold disconnects notifyAll ledgerDisconnect takeOut withStatus withHandles withCharges withQueues destroyAll pushAll withLives withdraw in
+            rw (r .accepted) (dated-disconnect p (b .accepted) (r .lives) (r .dates));
         queues = λ q. queue-at q (look (eqb p q));
       }

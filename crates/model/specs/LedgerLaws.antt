@@ -17,7 +17,7 @@ use Rattle.model.specs.State.{Handle.none, handleOf, held, idOr, total}
 use Rattle.model.specs.Requests.{destinations, attached}
 use Rattle.model.specs.Book.{Node, Noted.noted, Book, ownedBy, nodesOf, Fed, actingPeer, sizesOf}
 use Rattle.model.specs.Rising.{Sorted}
-use Rattle.model.specs.Ledger.{Item.destroyed, Item.released, Ledger, noRelease, outlasts, letters, LedgerSeed.unset, LedgerSeed.kept}
+use Rattle.model.specs.Ledger.{Item.destroyed, Item.released, Ledger, noRelease, brings, isTold, outlasts, cleared, letters, LedgerSeed.unset, LedgerSeed.kept}
 use Rattle.model.specs.Tally.{tally}
 use Rattle.model.specs.Rows.{bookOf, ledgerOf}
 use Rattle.model.specs.Happened.{Happened}
@@ -39,16 +39,19 @@ pub record DestroyDoes (b : Book) (l k : Ledger) (number p i : ℕ) : Type 0 whe
   pub named : b .handle p i ≡ noted node count
   pub own : node .owner ≡ p
   pub lived : l .lives (node .number) ≡ true
-  -- it is destroyed, and no other one
+  -- it is destroyed, by this command, and no other one
   pub dead : k .lives (node .number) ≡ false
+  pub date : k .died (node .number) ≡ number
   pub others : (m : ℕ) → (node .number ≡ m → ⊥) → k .lives m ≡ l .lives m
   -- ".. and leaves counts alone"
   pub handles : k .handle ≡ l .handle
   -- "Destroy queues a notice at every holder, owner included": one, behind what waits there; the node's release notice "is withdrawn if .. the node is destroyed"
   pub at-owner : k .queue p ≡ keep (noRelease node) (l .queue p) ++ (destroyed number node ∷ [])
   pub at-holder : (q : ℕ) → (p ≡ q → ⊥) → held (l .handle q (node .number)) ≡ true → k .queue q ≡ l .queue q ++ (destroyed number node ∷ [])
+  -- 02 No. 2: "a destruction also queues a notice at each peer with an earlier queued message that carries the node"
+  pub at-carrier : (q : ℕ) → (p ≡ q → ⊥) → q < peers → any (brings number (node .number)) (l .queue q) ≡ true → k .queue q ≡ l .queue q ++ (destroyed number node ∷ [])
   -- and none elsewhere
-  pub elsewhere : (q : ℕ) → (p ≡ q → ⊥) → held (l .handle q (node .number)) ≡ false → k .queue q ≡ l .queue q
+  pub elsewhere : (q : ℕ) → (p ≡ q → ⊥) → held (l .handle q (node .number)) ≡ false → any (brings number (node .number)) (l .queue q) ≡ false → k .queue q ≡ l .queue q
   -- no seed changes
   pub seeds : k .seed ≡ l .seed
 
@@ -70,8 +73,9 @@ pub record ReleaseDoes (b : Book) (l k : Ledger) (number p i : ℕ) : Type 0 whe
   -- "When the sum of counts over all peers falls to 1 from above on a live node, a release notice is queued at the owner."
   pub fell : l .lives (node .number) ≡ true → 1 < total (l .handle) (node .number) → total (k .handle) (node .number) ≡ 1 →
       k .queue (node .owner) ≡ l .queue (node .owner) ++ (released number node ∷ [])
-  -- "A notice is withdrawn when its holder's handle goes"; "Queued messages for the node are still delivered, until the owner's handle is gone; then they are dropped."
-  pub gone : count ≡ 1 → k .queue p ≡ keep (outlasts p node) (l .queue p)
+  -- "Queued messages for the node are still delivered, until the owner's handle is gone; then they are dropped."; then each destroy notice is withdrawn of which "the peer holds no handle and
+  -- no earlier message carrying the node is left" (02 No. 2)
+  pub gone : count ≡ 1 → k .queue p ≡ cleared (k .handle p) (keep (outlasts p node) (l .queue p))
   -- every other queue is as it was
   pub elsewhere : (q : ℕ) → (p ≡ q → count ≡ 1 → ⊥) →
       (node .owner ≡ q → l .lives (node .number) ≡ true → 1 < total (l .handle) (node .number) → total (k .handle) (node .number) ≡ 1 → ⊥) → k .queue q ≡ l .queue q
@@ -112,9 +116,9 @@ pub record ByIdOf (id : ℕ → ℕ) (P : ℕ → Type 0) (ns : List ℕ) : Type
   pub sound : All P ns
   pub complete : (n : ℕ) → P n → any (eqb n) ns ≡ true
 
--- At another peer q: notices of the nodes of p that lived and that q holds; then of the nodes of q, still alive, of which the sum fell to 1.
-abbrev pub DestroyedAt : Ledger → ℕ → ℕ → ℕ → Type 0
-DestroyedAt l p q n = (l .maker n ≡ p) × (l .lives n ≡ true) × (held (l .handle q n) ≡ true)
+-- At another peer q: notices of the nodes of p that lived and that q holds, or that an earlier message carries to q (02 No. 2); then of the nodes of q, still alive, of which the sum fell to 1.
+abbrev pub DestroyedAt : Ledger → ℕ → ℕ → ℕ → ℕ → Type 0
+DestroyedAt l number p q n = (l .maker n ≡ p) × (l .lives n ≡ true) × (isTold (l .handle q) (l .queue q) number n ≡ true)
 
 abbrev pub ReleasedAt : Ledger → Ledger → ℕ → ℕ → Type 0
 ReleasedAt l k q n = (l .maker n ≡ q) × (k .lives n ≡ true) × (1 < total (l .handle) n) × (total (k .handle) n ≡ 1)
@@ -126,13 +130,14 @@ pub record NoticesAt (l k : Ledger) (number p q : ℕ) : Type 0 where
   pub queue : k .queue q ≡
       l .queue q
       ++ (map (λ n. destroyed number (record { owner = p; number = n })) destroyed-nodes ++ map (λ n. released number (record { owner = q; number = n })) released-nodes)
-  pub destroyed-by-id : ByIdOf (λ n. idOr 0 (l .handle p n)) (DestroyedAt l p q) destroyed-nodes
+  pub destroyed-by-id : ByIdOf (λ n. idOr 0 (l .handle p n)) (DestroyedAt l number p q) destroyed-nodes
   pub released-by-id : ByIdOf (λ n. idOr 0 (l .handle q n)) (ReleasedAt l k q) released-nodes
 
 pub record DisconnectDoes (l k : Ledger) (number p : ℕ) : Type 0 where
   -- "Disconnect: drop the queue, destroy live nodes, release all handles."
   pub own : k .queue p ≡ []
   pub dead : (n : ℕ) → l .maker n ≡ p → k .lives n ≡ false
+  pub date : (n : ℕ) → l .maker n ≡ p → l .lives n ≡ true → k .died n ≡ number
   pub others-live : (n : ℕ) → (l .maker n ≡ p → ⊥) → k .lives n ≡ l .lives n
   pub handles : (n : ℕ) → k .handle p n ≡ none
   -- 02 No. 1: "disconnect drops the seed", and no other

@@ -17,7 +17,7 @@ use Rattle.frames.specs.declared.Command.the-variants.{Disconnect, Destroy, Rel
 use Rattle.frames.specs.Fields.{fields-command}
 use Rattle.frames.specs.Legal.{Sized}
 use Rattle.model.specs.Numbers.{peers}
-use Rattle.model.specs.Lists.{both, rising}
+use Rattle.model.specs.Lists.{both, either, any, rising}
 use Rattle.model.specs.State.{Handle, Handle.none, Handle.some, handleOf, held, idOr, total}
 use Rattle.model.specs.Requests.{destinations, attached}
 use Rattle.model.specs.Book.{Node, Book, ownedBy, nodesOf, Fed, feed, sizesOf}
@@ -25,7 +25,7 @@ use Rattle.model.specs.Coded.{coded}
 use Rattle.model.specs.Occurs.{both-true}
 use Rattle.model.specs.Rising.{rising-pass, rising-sorted}
 use Rattle.model.specs.RisingAll.{passing-le, rising-all}
-use Rattle.model.specs.Ledger.{Item, Item.destroyed, Item.released, Ledger, ledgerDestroy, outlasts, fallen, ledgerRelease, ledgerQueues, byOwnId, ledgerDisconnect, ledgerCounted, enter, withBook, ledgerSeed}
+use Rattle.model.specs.Ledger.{Item, Item.destroyed, Item.released, Ledger, brings, isTold, ledgerDestroy, outlasts, cleared, fallen, ledgerRelease, ledgerQueues, byOwnId, ledgerDisconnect, ledgerCounted, enter, withBook, ledgerSeed}
 use Rattle.model.specs.LedgerPassed.{Names}
 use Rattle.model.specs.LedgerGone.{cell-other}
 use Rattle.model.specs.Tally.{tally}
@@ -51,14 +51,23 @@ destroy-does l f g p i x o v peer =
       own = o;
       lived = v;
       dead = upd-same (l .lives) (n .number) false;
+      date = upd-same (l .died) (n .number) (suc (l .accepted));
       others = λ m z. upd-other (l .lives) (n .number) m false z;
       handles = refl;
       seeds = refl;
       at-owner = rw (eq-eqb (n .owner) (p .0) o, lt-ltb (p .0) peers (peer (p .0) (n .number) holds), holds) refl;
       at-holder = λ q z h. rw (ne-eqb (n .owner) q (λ y. z (sym o ∙ y)), lt-ltb q peers (peer q (n .number) h), h) refl;
-      elsewhere = λ q z h. rw (ne-eqb (n .owner) q (λ y. z (sym o ∙ y)), h) (nothing (ltb q peers) (l .queue q));
+      at-carrier = λ q z m h. rw (ne-eqb (n .owner) q (λ y. z (sym o ∙ y)), lt-ltb q peers m, brought q h) refl;
+      elsewhere = λ q z h c. rw (ne-eqb (n .owner) q (λ y. z (sym o ∙ y)), h, c) (nothing (ltb q peers) (l .queue q));
     })
   where
+    brought : (q : ℕ) → any (brings (suc (l .accepted)) (x .node .number)) (l .queue q) ≡ true → isTold (l .handle q) (l .queue q) (suc (l .accepted)) (x .node .number) ≡ true
+    brought q h = rw h (last (held (l .handle q (x .node .number))))
+      where
+        last : (t : Bool) → either t true ≡ true
+        last true = refl
+        last false = refl
+
     nothing : (t : Bool) (q : List Item) → q ++ pick (both t false) (destroyed (suc (l .accepted)) (x .node) ∷ []) [] ≡ q
     nothing true q = append-nil q
     nothing false q = append-nil q
@@ -94,7 +103,7 @@ module _ (l : Ledger) (f : List ℕ) (g : Book) (p : Peer) (i : HandleId) (x : N
   told q = both (ownedBy q n) (fallen (l .lives) (l .handle) less (n .number))
 
   abbrev queued : ℕ → List Item
-  queued q = pick (goes q) (keep (outlasts (p .0) n) (l .queue q)) (l .queue q) ++ pick (told q) (released (suc (l .accepted)) n ∷ []) []
+  queued q = pick (goes q) (cleared (less q) (keep (outlasts (p .0) n) (l .queue q))) (l .queue q) ++ pick (told q) (released (suc (l .accepted)) n ∷ []) []
 
   release-fell : l .lives (n .number) ≡ true → 1 < total (l .handle) (n .number) → total less (n .number) ≡ 1 →
       queued (n .owner) ≡ l .queue (n .owner) ++ (released (suc (l .accepted)) n ∷ [])
@@ -104,12 +113,12 @@ module _ (l : Ledger) (f : List ℕ) (g : Book) (p : Peer) (i : HandleId) (x : N
       unpinned (sym (eqb-true (p .0) (n .owner) (y .0))) v (eqb-true (x .count) 1 (y .1))) in
       rw (stays, eq-eqb (n .owner) (n .owner) refl, facts-fallen (l .lives) (l .handle) less (n .number) v m e) refl
 
-  release-gone : x .count ≡ 1 → queued (p .0) ≡ keep (outlasts (p .0) n) (l .queue (p .0))
+  release-gone : x .count ≡ 1 → queued (p .0) ≡ cleared (less (p .0)) (keep (outlasts (p .0) n) (l .queue (p .0)))
   release-gone e =
       let silent : told (p .0) ≡ false = never (told (p .0)) (λ z.
       let y = both-true (ownedBy (p .0) n) (fallen (l .lives) (l .handle) less (n .number)) z in
       unpinned (eqb-true (n .owner) (p .0) (y .0)) (fallen-facts (l .lives) (l .handle) less (n .number) (y .1) .0) e) in
-      rw (silent, eq-eqb (p .0) (p .0) refl, eq-eqb (x .count) 1 e) (append-nil (keep (outlasts (p .0) n) (l .queue (p .0))))
+      rw (silent, eq-eqb (p .0) (p .0) refl, eq-eqb (x .count) 1 e) (append-nil (cleared (less (p .0)) (keep (outlasts (p .0) n) (l .queue (p .0)))))
 
   release-elsewhere : (q : ℕ) → (p .0 ≡ q → x .count ≡ 1 → ⊥) →
       (n .owner ≡ q → l .lives (n .number) ≡ true → 1 < total (l .handle) (n .number) → total less (n .number) ≡ 1 → ⊥) → queued q ≡ l .queue q
@@ -206,8 +215,8 @@ module _ (l : Ledger) (f : List ℕ) (g : Book) (p : Peer) where
   abbrev living : ℕ → Bool
   living n = both (not (eqb (l .maker n) (p .0))) (l .lives n)
 
-  abbrev died : ℕ → ℕ → Bool
-  died q n = both (l .lives n) (held (l .handle q n))
+  abbrev dies : ℕ → ℕ → Bool
+  dies q n = both (l .lives n) (isTold (l .handle q) (l .queue q) (suc (l .accepted)) n)
 
   abbrev fell : ℕ → Bool
   fell = fallen living (l .handle) left
@@ -215,22 +224,22 @@ module _ (l : Ledger) (f : List ℕ) (g : Book) (p : Peer) where
   queue-at : (q : ℕ) → q < peers → (p .0 ≡ q → ⊥) →
       withBook (enter l f (Disconnect p)) g .queue q
       ≡ l .queue q
-      ++ (map (λ n. destroyed (suc (l .accepted)) (record { owner = p .0; number = n })) (listed l (p .0) (died q))
+      ++ (map (λ n. destroyed (suc (l .accepted)) (record { owner = p .0; number = n })) (listed l (p .0) (dies q))
       ++ map (λ n. released (suc (l .accepted)) (record { owner = q; number = n })) (listed l q fell))
   unfolding enter withBook ledgerDisconnect ledgerCounted byOwnId
   queue-at q b z =
       rw (ne-eqb (p .0) q z, lt-ltb q peers b)
       (ap₂ (λ (u v : List Item). l .queue q ++ (u ++ v))
-      (map-twice (destroyed (suc (l .accepted))) (λ n. record { owner = p .0; number = n }) (listed l (p .0) (died q)))
+      (map-twice (destroyed (suc (l .accepted))) (λ n. record { owner = p .0; number = n }) (listed l (p .0) (dies q)))
       (map-twice (released (suc (l .accepted))) (λ n. record { owner = q; number = n }) (listed l q fell)))
 
   module _ (nodes : NodesOf (l .book) l) (handles : (q : ℕ) → HandlesOf (l .book) l q) where
-    died-by-id : (q : ℕ) → ByIdOf (λ n. idOr 0 (l .handle (p .0) n)) (DestroyedAt l (p .0) q) (listed l (p .0) (died q))
+    died-by-id : (q : ℕ) → ByIdOf (λ n. idOr 0 (l .handle (p .0) n)) (DestroyedAt l (suc (l .accepted)) (p .0) q) (listed l (p .0) (dies q))
     died-by-id q =
-        by-id-as (λ n. idOr 0 (l .handle (p .0) n)) (λ n. (l .maker n ≡ p .0) × (died q n ≡ true)) (DestroyedAt l (p .0) q) (listed l (p .0) (died q))
-        (λ n z. let x = both-true (l .lives n) (held (l .handle q n)) (z .1) in (z .0, x .0, x .1))
+        by-id-as (λ n. idOr 0 (l .handle (p .0) n)) (λ n. (l .maker n ≡ p .0) × (dies q n ≡ true)) (DestroyedAt l (suc (l .accepted)) (p .0) q) (listed l (p .0) (dies q))
+        (λ n z. let x = both-true (l .lives n) (isTold (l .handle q) (l .queue q) (suc (l .accepted)) n) (z .1) in (z .0, x .0, x .1))
         (λ n z. (z .0, rw (z .1, z .2) refl))
-        (by-id l nodes (p .0) (handles (p .0)) (died q) (λ n e. both-true (l .lives n) (held (l .handle q n)) e .0))
+        (by-id l nodes (p .0) (handles (p .0)) (dies q) (λ n e. both-true (l .lives n) (isTold (l .handle q) (l .queue q) (suc (l .accepted)) n) e .0))
 
     still-lives : (n : ℕ) → fell n ≡ true → l .lives n ≡ true
     still-lives n e = both-true (not (eqb (l .maker n) (p .0))) (l .lives n) (fallen-facts living (l .handle) left n e .0) .1
@@ -249,13 +258,14 @@ module _ (l : Ledger) (f : List ℕ) (g : Book) (p : Peer) where
         record {
           own = rw (eq-eqb (p .0) (p .0) refl) refl;
           dead = λ n e. rw (eq-eqb (l .maker n) (p .0) e) refl;
+          date = λ n e v. rw (eq-eqb (l .maker n) (p .0) e, v) refl;
           others-live = λ n e. rw (ne-eqb (l .maker n) (p .0) e) refl;
           handles = λ n. rw upd-same refl;
           seeds = refl;
           others = λ q z. upd-other (l .handle) (p .0) q (λ n. none) z;
           at-others = λ q b z.
               record {
-                destroyed-nodes = listed l (p .0) (died q);
+                destroyed-nodes = listed l (p .0) (dies q);
                 released-nodes = listed l q fell;
                 queue = queue-at q b z;
                 destroyed-by-id = died-by-id q;

@@ -2,14 +2,14 @@
 -- may then be chosen again", and "release of a live node's owner handle at count 1" is refused.
 -- Assumes nothing.
 use Prim.Native.Nat.{ℕ, zero, suc, _-_, _<_}
-use mathlib.Core.Path.{_≡_, refl, sym, ap, _∙_}
+use mathlib.Core.Path.{_≡_, refl, sym, ap, ap₂, _∙_}
 use mathlib.Core.Bool.{Bool, true, false, not}
 use mathlib.Core.Logic.{_⊎_}
 use mathlib.Core.Logic._⊎_.{inl, inr}
 use mathlib.Core.List.{List, [], _∷_, _++_}
 use native.Mathlib.Omega.{arith}
 use lib.ListN.{length}
-use lib.Dec.{eqb}
+use lib.Dec.{eqb, ltb}
 use borrow.Author.Tests.{eq-eqb}
 use Rattle.laws.specs.Tests.{Seen, Seen.is-true, Seen.is-false, look, clash, Same, Same.same, Same.other, same?}
 use Rattle.laws.specs.Tables.{upd, upd-same, upd-other}
@@ -23,7 +23,7 @@ use Rattle.model.specs.Book.{Node, Book}
 use Rattle.model.specs.Claim.{bookAfter}
 use Rattle.model.specs.SimHandles.{some-none}
 use Rattle.model.specs.Sources.{story}
-use Rattle.model.specs.Ledger.{Item, Item.message as messageItem, Item.destroyed as destroyedItem, Item.released as releasedItem, Ledger, ledgerCreate, ledgerDestroy, ledgerRelease, dueId, ledgerGive, ledgerGiveAll, ledgerQueues, ledgerReceive, ledgerDisconnect, ledgerCounted, enter, withBook, ledgerAfter, LedgerSeed, seedNodes, ledgerSeed}
+use Rattle.model.specs.Ledger.{Item, Item.message as messageItem, Item.destroyed as destroyedItem, Item.released as releasedItem, Ledger, ledgerCreate, ledgerDestroy, ledgerRelease, validAt, dueId, ledgerGive, ledgerGiveAll, ledgerQueues, ledgerReceive, ledgerDisconnect, ledgerCounted, enter, withBook, ledgerAfter, LedgerSeed, seedNodes, ledgerSeed}
 use Rattle.model.specs.LedgerSim.{below}
 use Rattle.model.specs.LedgerPassed.{Passed}
 use Rattle.model.specs.LedgerGone.{cell-other, kept-of-node}
@@ -119,9 +119,9 @@ module _ (p n i : ℕ) where
       go (other z) y = still l (l .lives n) (after p n) (h .holds) (λ d. d) (cell-other (l .handle) q (m .number) (handleOf j (c - 1)) p n (λ x _. z x))
 
   -- A handle given: "the receiver's existing handle".
-  owns-give : (l : Ledger) (q : ℕ) (m : Node) → Owns l p n i → Owns (ledgerGive l q m) p n i
+  owns-give : (l : Ledger) (q k : ℕ) (m : Node) → Owns l p n i → Owns (ledgerGive l q k m) p n i
   unfolding ledgerGive dueId
-  owns-give l q m h = go (look (l .lives (m .number)))
+  owns-give l q k m h = go (look (validAt l q k (m .number)))
     where
       new : Handle
       new = handleOf (idOr (nextId (l .given q)) (l .handle q (m .number))) (suc (count (l .handle q (m .number))))
@@ -129,28 +129,36 @@ module _ (p n i : ℕ) where
       after : ℕ → ℕ → Handle
       after = upd (l .handle) q (upd (l .handle q) (m .number) new)
 
-      at : l .lives (m .number) ≡ true → q ≡ p → m .number ≡ n → StillOr l p n i → ((c : ℕ) × (after p n ≡ some i c)) ⊎ ((l .lives n ≡ false) × (after p n ≡ none))
-      at e z y (inr x) = clash (sym e ∙ ap (l .lives) y ∙ x .0)
+      -- "An owner whose own handle is gone is still shown the invalid ID"
+      shut : (l .lives n ≡ false) × (l .handle p n ≡ none) → validAt l p k n ≡ false
+      shut x = unfold validAt in rw (x .0, x .1, h .maker, eq-eqb p p refl) (nothing (ltb k (l .died n)))
+        where
+          nothing : (t : Bool) → both t false ≡ false
+          nothing true = refl
+          nothing false = refl
+
+      at : validAt l q k (m .number) ≡ true → q ≡ p → m .number ≡ n → StillOr l p n i → ((c : ℕ) × (after p n ≡ some i c)) ⊎ ((l .lives n ≡ false) × (after p n ≡ none))
+      at e z y (inr x) = clash (sym e ∙ ap₂ (λ (r t : ℕ). validAt l r k t) z y ∙ shut x)
       at e z y (inl x) =
           let f : l .handle q (m .number) ≡ some i (x .0) = rw (z, y) (x .1) in
           inl (suc (x .0), rw (← z, ← y, upd-same, upd-same, f) refl)
 
-      shared : l .lives (m .number) ≡ true → Same q p → Same (m .number) n → ((c : ℕ) × (after p n ≡ some i c)) ⊎ ((l .lives n ≡ false) × (after p n ≡ none))
+      shared : validAt l q k (m .number) ≡ true → Same q p → Same (m .number) n → ((c : ℕ) × (after p n ≡ some i c)) ⊎ ((l .lives n ≡ false) × (after p n ≡ none))
       shared e (same z) (same y) = at e z y (h .holds)
       shared e (same z) (other y) = still l (l .lives n) (after p n) (h .holds) (λ d. d) (cell-other (l .handle) q (m .number) new p n (λ _ x. y x))
       shared e (other z) y = still l (l .lives n) (after p n) (h .holds) (λ d. d) (cell-other (l .handle) q (m .number) new p n (λ x _. z x))
 
-      go : Seen (l .lives (m .number)) → Owns (ledgerGive l q m) p n i
+      go : Seen (validAt l q k (m .number)) → Owns (ledgerGive l q k m) p n i
       go (is-false e) = rw e h
       go (is-true e) = rw e (record { maker = h .maker; holds = shared e (same? q p) (same? (m .number) n) })
 
-  owns-gives : (l : Ledger) (q : ℕ) (ms : List Node) → Owns l p n i → Owns (ledgerGiveAll l q ms) p n i
-  owns-gives l q [] h = h
-  owns-gives l q (m ∷ ms) h = owns-gives (ledgerGive l q m) q ms (owns-give l q m h)
+  owns-gives : (l : Ledger) (q k : ℕ) (ms : List Node) → Owns l p n i → Owns (ledgerGiveAll l q k ms) p n i
+  owns-gives l q k [] h = h
+  owns-gives l q k (m ∷ ms) h = owns-gives (ledgerGive l q k m) q k ms (owns-give l q k m h)
 
   owns-receive : (l : Ledger) (q : ℕ) (xs : List Item) → Owns l p n i → Owns (ledgerReceive l q xs) p n i
   owns-receive l q [] h = h
-  owns-receive l q (messageItem k m ∷ xs) h = owns-gives _ q (m .carried) (owns-queues l (upd (l .queue) q xs) h)
+  owns-receive l q (messageItem k m ∷ xs) h = owns-queues _ _ (owns-gives _ q k (m .carried) (owns-queues l (upd (l .queue) q xs) h))
   owns-receive l q (destroyedItem k m ∷ xs) h = owns-queues l (upd (l .queue) q xs) h
   owns-receive l q (releasedItem k m ∷ xs) h = owns-queues l (upd (l .queue) q xs) h
 
@@ -181,15 +189,15 @@ module _ (p n i : ℕ) where
       rw (t .0 .named)
       (owns-release (ledgerCounted l) (q .0) (j .0) (t .0 .node) (t .0 .count) (unfold ledgerCounted in t .0 .handle) (t .0 .counted)
       (unfold ledgerCounted in λ z v e. t .1 (sym (t .0 .maker) ∙ z) v e) (owns-counted l h))
-  owns-command l f (Transfer q j r) t less h = rw (t .0 .named) (owns-give (ledgerCounted l) (r .0) (t .0 .node) (owns-counted l h))
+  owns-command l f (Transfer q j r) t less h = rw (t .0 .named) (owns-give (ledgerCounted l) (r .0) (suc (l .accepted)) (t .0 .node) (owns-counted l h))
   owns-command l f (Send q z) t less h = owns-seed _ (eqb (z .nd) 0) (q .0) _ (owns-queues (ledgerCounted l) _ (owns-counted l h))
   owns-command l f (Receive q room) t less h = owns-receive (ledgerCounted l) (q .0) (l .queue (q .0)) (owns-counted l h)
   owns-command l f (Quota q u) t less h = h
   owns-command l f (Holders q j) t less h = h
-  owns-command l f (ShowSeed q room) t less h = owns-gives (ledgerCounted l) (q .0) (seedNodes (l .seed (q .0))) (owns-counted l h)
+  owns-command l f (ShowSeed q room) t less h = owns-gives (ledgerCounted l) (q .0) (suc (l .accepted)) (seedNodes (l .seed (q .0))) (owns-counted l h)
 
 pub own-keeps : OwnKeeps
 own-keeps cs ds p n i c e f =
     let w = story (length cs) cs (omega arith) in
     let created : n < bookAfter cs .entered = below n (bookAfter cs .entered) (λ z. some-none (sym f ∙ w .follows .handles .fresh p n z)) in
-    kept-of-node (λ l. Owns l p n i) n (owns-book p n i) (owns-command p n i) cs ds created (record { maker = e; holds = inl (c, f) }) .holds
+    kept-of-node (λ l. Owns l p n i) n (owns-book p n i) (λ l f c g. owns-command p n i l f c) cs ds created (record { maker = e; holds = inl (c, f) }) .holds

@@ -1,7 +1,7 @@
 -- What each accepted command makes of the seeds: a send with no destinations sets the acting peer's, its disconnect drops it, and every other command leaves them all. So what holds of
 -- each seed that is set holds of every seed of a run.
 -- Assumes nothing.
-use Prim.Native.Nat.{ℕ, _≤_}
+use Prim.Native.Nat.{ℕ, suc, _≤_}
 use mathlib.Core.Path.{_≡_, refl, ap, _∙_}
 use mathlib.Core.List.{List, [], _∷_, _++_}
 use native.Mathlib.Omega.{arith}
@@ -21,7 +21,7 @@ use Rattle.model.specs.Book.{Node, Noted, Noted.blank, Noted.noted, node
 use Rattle.model.specs.Claim.{historyFrom}
 use Rattle.model.specs.Accepted.{Accepted}
 use Rattle.model.specs.History.{ledger-entered}
-use Rattle.model.specs.Ledger.{Item, Item.message, Item.destroyed, Item.released, LedgerSeed, LedgerSeed.unset, LedgerSeed.kept, seedNodes, Ledger, blankLedger, feedLedgerAll, ledgerCreate, ledgerDestroy, ledgerRelease, ledgerGive, ledgerGiveAll, ledgerQueues, ledgerSeed, ledgerReceive, ledgerDisconnect, ledgerCounted, onNode, enter, withBook, ledgerAfter}
+use Rattle.model.specs.Ledger.{Item, Item.message, Item.destroyed, Item.released, LedgerSeed, LedgerSeed.unset, LedgerSeed.kept, seedNodes, Ledger, blankLedger, feedLedgerAll, ledgerCreate, ledgerDestroy, ledgerRelease, validAt, ledgerGive, ledgerGiveAll, ledgerQueues, ledgerSeed, ledgerReceive, ledgerDisconnect, ledgerCounted, onNode, enter, withBook, ledgerAfter}
 use Rattle.model.specs.LedgerPassed.{ledger-kept}
 
 abbrev pub seedsAfter : Ledger → List ℕ → Command → ℕ → LedgerSeed
@@ -37,18 +37,18 @@ seedsAfter l f (Quota p u) = l .seed
 seedsAfter l f (Holders p i) = l .seed
 seedsAfter l f (ShowSeed p room) = l .seed
 
-give-seeds : (l : Ledger) (p : ℕ) (n : Node) → ledgerGive l p n .seed ≡ l .seed
+give-seeds : (l : Ledger) (p k : ℕ) (n : Node) → ledgerGive l p k n .seed ≡ l .seed
 unfolding ledgerGive
-give-seeds l p n = pick-all (λ (x : Ledger). x .seed ≡ l .seed) (l .lives (n .number)) _ l refl refl
+give-seeds l p k n = pick-all (λ (x : Ledger). x .seed ≡ l .seed) (validAt l p k (n .number)) _ l refl refl
 
-gives-seeds : (l : Ledger) (p : ℕ) (ns : List Node) → ledgerGiveAll l p ns .seed ≡ l .seed
-gives-seeds l p [] = refl
-gives-seeds l p (n ∷ ns) = gives-seeds (ledgerGive l p n) p ns ∙ give-seeds l p n
+gives-seeds : (l : Ledger) (p k : ℕ) (ns : List Node) → ledgerGiveAll l p k ns .seed ≡ l .seed
+gives-seeds l p k [] = refl
+gives-seeds l p k (n ∷ ns) = gives-seeds (ledgerGive l p k n) p k ns ∙ give-seeds l p k n
 
 receive-seeds : (l : Ledger) (p : ℕ) (xs : List Item) → ledgerReceive l p xs .seed ≡ l .seed
 unfolding ledgerQueues
 receive-seeds l p [] = refl
-receive-seeds l p (message k m ∷ xs) = gives-seeds (ledgerQueues l (upd (l .queue) p xs)) p (m .carried)
+receive-seeds l p (message k m ∷ xs) = gives-seeds (ledgerQueues l (upd (l .queue) p xs)) p k (m .carried)
 receive-seeds l p (destroyed k n ∷ xs) = refl
 receive-seeds l p (released k n ∷ xs) = refl
 
@@ -63,12 +63,12 @@ enter-seeds l f (Disconnect p) = unfold ledgerDisconnect in refl
 enter-seeds l f (Create p i) = unfold ledgerCreate in refl
 enter-seeds l f (Destroy p i) = on-node (ledgerCounted l) (l .book .handle (p .0) (i .0)) _ (l .seed) refl (λ n c. unfold ledgerDestroy in refl)
 enter-seeds l f (Release p i) = on-node (ledgerCounted l) (l .book .handle (p .0) (i .0)) _ (l .seed) refl (λ n c. unfold ledgerRelease in refl)
-enter-seeds l f (Transfer p i q) = on-node (ledgerCounted l) (l .book .handle (p .0) (i .0)) _ (l .seed) refl (λ n c. give-seeds (ledgerCounted l) (q .0) n)
+enter-seeds l f (Transfer p i q) = on-node (ledgerCounted l) (l .book .handle (p .0) (i .0)) _ (l .seed) refl (λ n c. give-seeds (ledgerCounted l) (q .0) (suc (l .accepted)) n)
 enter-seeds l f (Send p z) = unfold ledgerSeed ledgerQueues in refl
 enter-seeds l f (Receive p room) = receive-seeds (ledgerCounted l) (p .0) (l .queue (p .0))
 enter-seeds l f (Quota p u) = refl
 enter-seeds l f (Holders p i) = refl
-enter-seeds l f (ShowSeed p room) = gives-seeds (ledgerCounted l) (p .0) (seedNodes (l .seed (p .0)))
+enter-seeds l f (ShowSeed p room) = gives-seeds (ledgerCounted l) (p .0) (suc (l .accepted)) (seedNodes (l .seed (p .0)))
 
 -- What holds of the seeds before, of none, and of one that is set, holds of them after.
 pub seeds-kept : (Q : LedgerSeed → Type 0) (l : Ledger) (f : List ℕ) (c : Command) → ((p : ℕ) → Q (l .seed p)) → Q unset →

@@ -12,7 +12,7 @@ use Rattle.laws.specs.Tests.{Seen, Seen.is-true, Seen.is-false, look, clash, Sa
 use Rattle.laws.specs.Tables.{upd, upd-same, upd-other, upd-rel, upd-all}
 use Rattle.laws.specs.Sums.{sum-ext}
 use Rattle.model.specs.Numbers.{peers, owner}
-use Rattle.model.specs.State.{Life, isLive, Handle, Handle.none, held, count, Message, Entry, Entry.message, Entry.destroyed, Entry.released, State, total, Seed, Seed.unset, Seed.kept, seedCarries}
+use Rattle.model.specs.State.{Life, Life.dead, isLive, Handle, Handle.none, held, count, Message, Entry, Entry.message, Entry.destroyed, Entry.released, State, total, Seed, Seed.unset, Seed.kept, seedCarries}
 use Rattle.model.specs.Tables.{accept, withStatus, withUser, withSeed}
 use Rattle.model.specs.Changes.{reseed}
 use Rattle.model.specs.Effects.{opens}
@@ -52,11 +52,17 @@ pub record Lived (name : ℕ → ℕ) (E : ℕ) (lives : ℕ → Bool) (maker : 
   pub placed : (n : ℕ) → lives n ≡ true → (s : ℕ) × (name s ≡ n)
   pub makers : (s : ℕ) → name s < E → maker (name s) ≡ owner s
 
+-- When the destroyed nodes died: the number of the command that destroyed the node of the slot, which was entered then.
+pub record Dated (name : ℕ → ℕ) (E : ℕ) (died : ℕ → ℕ) (life : ℕ → Life) : Type 0 where
+  pub same : (s k : ℕ) → life s ≡ dead k → died (name s) ≡ k
+  pub entered : (s k : ℕ) → life s ≡ dead (suc k) → name s < E
+
 pub record Follows (name : ℕ → ℕ) (E : ℕ) (b : State) (l : Ledger) : Type 0 where
   pub accepted : l .accepted ≡ b .accepted
   pub given : (p : ℕ) → l .given p ≡ b .given p
   pub handles : Handled name E (l .handle) (b .handle)
   pub lives : Lived name E (l .lives) (l .maker) (b .life)
+  pub dates : Dated name E (l .died) (b .life)
   pub queues : (p : ℕ) → l .queue p ≡ map (itemOf name) (b .queue p)
   pub seeds : (p : ℕ) → p < peers → l .seed p ≡ seedOf name (b .seed p)
 
@@ -114,21 +120,21 @@ total-named {name} {E} {h} {g} r s = sum-ext (λ q. count (h q (name s))) (λ q.
 -- The book goes on beside the ledger; one more command is accepted.
 pub follows-book : {name : ℕ → ℕ} {E : ℕ} (b : State) (l : Ledger) (k : Book) → Follows name E b l → Follows name E b (withBook l k)
 unfolding withBook
-follows-book b l k r = record { accepted = r .accepted; given = r .given; handles = r .handles; lives = r .lives; queues = r .queues; seeds = r .seeds }
+follows-book b l k r = record { accepted = r .accepted; given = r .given; handles = r .handles; lives = r .lives; dates = r .dates; queues = r .queues; seeds = r .seeds }
 
 pub follows-accept : {name : ℕ → ℕ} {E : ℕ} (b : State) (l : Ledger) → Follows name E b l → Follows name E (accept b) (ledgerCounted l)
 unfolding accept ledgerCounted
-follows-accept b l r = record { accepted = ap suc (r .accepted); given = r .given; handles = r .handles; lives = r .lives; queues = r .queues; seeds = r .seeds }
+follows-accept b l r = record { accepted = ap suc (r .accepted); given = r .given; handles = r .handles; lives = r .lives; dates = r .dates; queues = r .queues; seeds = r .seeds }
 
 -- Open: the ledger sees nothing.
 pub follows-open : {name : ℕ → ℕ} {E : ℕ} (b : State) (l : Ledger) (p u : ℕ) → Follows name E b l → Follows name E (opens b p u) l
 unfolding opens withUser withStatus
-follows-open b l p u r = record { accepted = r .accepted; given = r .given; handles = r .handles; lives = r .lives; queues = r .queues; seeds = r .seeds }
+follows-open b l p u r = record { accepted = r .accepted; given = r .given; handles = r .handles; lives = r .lives; dates = r .dates; queues = r .queues; seeds = r .seeds }
 
 -- A seed set anew, or left.
 pub follows-seed : {name : ℕ → ℕ} {E : ℕ} (b : State) (l : Ledger) (t : Bool) (p : ℕ) (x : Seed) → Follows name E b l → Follows name E (reseed b t p x) (ledgerSeed l t p (seedOf name x))
 unfolding ledgerSeed
-follows-seed b l false p x r = record { accepted = r .accepted; given = r .given; handles = r .handles; lives = r .lives; queues = r .queues; seeds = r .seeds }
+follows-seed b l false p x r = record { accepted = r .accepted; given = r .given; handles = r .handles; lives = r .lives; dates = r .dates; queues = r .queues; seeds = r .seeds }
 follows-seed {name} b l true p x r =
     unfold withSeed in
     record {
@@ -136,6 +142,7 @@ follows-seed {name} b l true p x r =
       given = r .given;
       handles = r .handles;
       lives = r .lives;
+      dates = r .dates;
       queues = r .queues;
       seeds = upd-rel (λ q y z. q < peers → y ≡ seedOf name z) (l .seed) (b .seed) p _ x (r .seeds) (λ m. refl);
     }

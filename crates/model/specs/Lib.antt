@@ -32,6 +32,7 @@ pub mod SimIds
 pub mod Occurs
 pub mod Counts
 pub mod Rising
+pub mod Founded
 pub mod NoticesQueues
 pub mod NoticesTables
 pub mod NoticesEnds
@@ -102,6 +103,7 @@ pub mod DeliveredProof
 pub mod Noticed
 pub mod LedgerPassed
 pub mod LedgerSeeds
+pub mod FirstHeld
 pub mod LedgerGone
 pub mod LedgerOwn
 pub mod Lives
@@ -125,3 +127,7 @@ pub mod Seeds
 pub mod SeedsLast
 pub mod SeedsProof
 pub mod SeedsWorked
+pub mod ByOrder
+pub mod ByOrderTold
+pub mod ByOrderProof
+pub mod ByOrderWorked

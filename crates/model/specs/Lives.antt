@@ -27,7 +27,7 @@ use Rattle.model.specs.Accepted.{Accepted, Came, Came.left, Came.done, c
 use Rattle.model.specs.Coded.{code, actor, coded}
 use Rattle.model.specs.Standing.{did}
 use Rattle.model.specs.History.{history-append, run-next, book-next, book-left, book-noted, ledger-next, ledger-left, ledger-book, ledger-entered}
-use Rattle.model.specs.Ledger.{Item, Item.message, Item.destroyed, Item.released, Ledger, ledgerCreate, ledgerDestroy, ledgerRelease, ledgerGive, ledgerGiveAll, ledgerQueues, ledgerReceive, ledgerDisconnect, ledgerCounted, onNode, enter, withBook, ledgerAfter, seedNodes, ledgerSeed}
+use Rattle.model.specs.Ledger.{Item, Item.message, Item.destroyed, Item.released, Ledger, ledgerCreate, ledgerDestroy, ledgerRelease, validAt, ledgerGive, ledgerGiveAll, ledgerQueues, ledgerReceive, ledgerDisconnect, ledgerCounted, onNode, enter, withBook, ledgerAfter, seedNodes, ledgerSeed}
 use Rattle.model.specs.LedgerStep.{note-enters}
 use Rattle.model.specs.RowsRun.{entered-next}
 use Rattle.model.specs.Rows.{bookOf, ledgerOf}
@@ -73,20 +73,20 @@ module _ (n : ℕ) where
   lasts-same : (l m : Ledger) → m .maker ≡ l .maker → m .lives ≡ l .lives → Lasts l m n false
   lasts-same l m e f = record { maker = ap (λ (g : ℕ → ℕ). g n) e; lives = ap (λ (g : ℕ → Bool). g n) f ∙ both-yes (l .lives n) }
 
-  give-same : (l : Ledger) (p : ℕ) (x : Node) → (ledgerGive l p x .maker ≡ l .maker) × (ledgerGive l p x .lives ≡ l .lives)
+  give-same : (l : Ledger) (p k : ℕ) (x : Node) → (ledgerGive l p k x .maker ≡ l .maker) × (ledgerGive l p k x .lives ≡ l .lives)
   unfolding ledgerGive
-  give-same l p x = pick-all (λ (m : Ledger). (m .maker ≡ l .maker) × (m .lives ≡ l .lives)) (l .lives (x .number)) _ l (refl, refl) (refl, refl)
+  give-same l p k x = pick-all (λ (m : Ledger). (m .maker ≡ l .maker) × (m .lives ≡ l .lives)) (validAt l p k (x .number)) _ l (refl, refl) (refl, refl)
 
-  gives-same : (l : Ledger) (p : ℕ) (xs : List Node) → (ledgerGiveAll l p xs .maker ≡ l .maker) × (ledgerGiveAll l p xs .lives ≡ l .lives)
-  gives-same l p [] = (refl, refl)
-  gives-same l p (x ∷ xs) =
-      let y = give-same l p x in
-      let z = gives-same (ledgerGive l p x) p xs in
+  gives-same : (l : Ledger) (p k : ℕ) (xs : List Node) → (ledgerGiveAll l p k xs .maker ≡ l .maker) × (ledgerGiveAll l p k xs .lives ≡ l .lives)
+  gives-same l p k [] = (refl, refl)
+  gives-same l p k (x ∷ xs) =
+      let y = give-same l p k x in
+      let z = gives-same (ledgerGive l p k x) p k xs in
       (z .0 ∙ y .0, z .1 ∙ y .1)
 
   receive-same : (l : Ledger) (p : ℕ) (xs : List Item) → (ledgerReceive l p xs .maker ≡ l .maker) × (ledgerReceive l p xs .lives ≡ l .lives)
   receive-same l p [] = (refl, refl)
-  receive-same l p (message k m ∷ xs) = let y = gives-same (ledgerQueues l (upd (l .queue) p xs)) p (m .carried) in unfold ledgerQueues in (y .0, y .1)
+  receive-same l p (message k m ∷ xs) = let y = gives-same (ledgerQueues l (upd (l .queue) p xs)) p k (m .carried) in unfold ledgerQueues in (y .0, y .1)
   receive-same l p (destroyed k x ∷ xs) = unfold ledgerQueues in (refl, refl)
   receive-same l p (released k x ∷ xs) = unfold ledgerQueues in (refl, refl)
 
@@ -160,14 +160,14 @@ module _ (n : ℕ) where
       go (noted x c) = unfold ledgerRelease in lasts-same l _ refl refl
   lasts-command l f (Transfer q i r) p less e = go (l .book .handle (q .0) (i .0))
     where
-      go : (x : Noted) → Lasts l (onNode (ledgerCounted l) x (λ n c. ledgerGive (ledgerCounted l) (r .0) n)) n false
+      go : (x : Noted) → Lasts l (onNode (ledgerCounted l) x (λ n c. ledgerGive (ledgerCounted l) (r .0) (suc (l .accepted)) n)) n false
       go blank = lasts-same l _ refl refl
-      go (noted x c) = let y = give-same (ledgerCounted l) (r .0) x in lasts-same l _ (y .0) (y .1)
+      go (noted x c) = let y = give-same (ledgerCounted l) (r .0) (suc (l .accepted)) x in lasts-same l _ (y .0) (y .1)
   lasts-command l f (Send q z) p less e = unfold ledgerSeed ledgerQueues in lasts-same l _ refl refl
   lasts-command l f (Receive q room) p less e = let y = receive-same (ledgerCounted l) (q .0) (l .queue (q .0)) in lasts-same l _ (y .0) (y .1)
   lasts-command l f (Quota q u) p less e = lasts-same l l refl refl
   lasts-command l f (Holders q i) p less e = lasts-same l l refl refl
-  lasts-command l f (ShowSeed q room) p less e = let y = gives-same (ledgerCounted l) (q .0) (seedNodes (l .seed (q .0))) in lasts-same l _ (y .0) (y .1)
+  lasts-command l f (ShowSeed q room) p less e = let y = gives-same (ledgerCounted l) (q .0) (suc (l .accepted)) (seedNodes (l .seed (q .0))) in lasts-same l _ (y .0) (y .1)
 
 -- The frame says what the command is.
 ends-frame : (l : Ledger) (xs : List Fed) (x : Fed) (d : Command) (p n : ℕ) → l .book ≡ bookOf xs → x .number ≡ 0 → parse (x .frame) ≡ Read d → ends xs x p n ≡ endsBy n l d p

@@ -2,6 +2,7 @@
 -- Assumes nothing.
 use Prim.Native.Nat.{ℕ, suc}
 use mathlib.Core.Path.{_≡_, refl, ap, _∙_}
+use mathlib.Core.Bool.{true}
 use mathlib.Core.Logic.{_⊎_}
 use mathlib.Core.Logic._⊎_.{inl, inr}
 use mathlib.Core.List.{List, [], _∷_, _++_, map}
@@ -12,9 +13,9 @@ use Rattle.laws.specs.Tables.{upd-same, upd-other}
 use Rattle.ids.specs.declared.Peer.{Peer}
 use Rattle.frames.specs.declared.Command.the-variants.{Receive, ShowSeed}
 use Rattle.model.specs.Numbers.{invalid}
-use Rattle.model.specs.State.{isLive, Handle, Handle.some, count, Message, Entry, Entry.message, State, seedCarries}
+use Rattle.model.specs.State.{Handle, Handle.some, count, Message, Entry, Entry.message, State, seedCarries}
 use Rattle.model.specs.Tables.{accept, withGiven, withHandles, withQueues}
-use Rattle.model.specs.Changes.{takeOut, withdraw, shown, shownAll, give, giveAll}
+use Rattle.model.specs.Changes.{takeOut, withdraw, valid, shown, shownAll, give, giveAll, settled}
 use Rattle.model.specs.Effects.{receives, effect}
 use Rattle.model.specs.Step.{Call, step, run, answerOf}
 use Rattle.model.specs.Book.{Node, Noted.noted, Book, note, shownIds}
@@ -40,35 +41,35 @@ GivenFor h [] (s ∷ ss) = ⊥
 GivenFor h (i ∷ is) [] = ⊥
 GivenFor h (i ∷ is) (s ∷ ss) = ((i ≡ invalid) ⊎ ((c : ℕ) × (h s ≡ some i c))) × GivenFor h is ss
 
-keeps-id : (b : State) (p t s i c : ℕ) → b .handle p s ≡ some i c → (d : ℕ) × (give b p t .handle p s ≡ some i d)
+keeps-id : (b : State) (p k t s i c : ℕ) → b .handle p s ≡ some i c → (d : ℕ) × (give b p k t .handle p s ≡ some i d)
 unfolding give shown withdraw withGiven withHandles withQueues
-keeps-id b p t s i c e = go (look (isLive (b .life t))) (same? t s)
+keeps-id b p k t s i c e = go (look (valid b p k t)) (same? t s)
   where
-    go : Seen (isLive (b .life t)) → Same t s → (d : ℕ) × (give b p t .handle p s ≡ some i d)
+    go : Seen (valid b p k t) → Same t s → (d : ℕ) × (give b p k t .handle p s ≡ some i d)
     go (is-false z) w = (c, rw z e)
-    go (is-true z) (same w) = (suc c, rw (z, w, upd-same, upd-same, e) refl)
+    go (is-true z) (same w) = let y : valid b p k s ≡ true = rw (← w) z in (suc c, rw (w, y, upd-same, upd-same, e) refl)
     go (is-true z) (other w) = (c, rw (z, upd-same, upd-other (b .handle p) t s _ w) e)
 
-keeps-all : (b : State) (p : ℕ) (ts : List ℕ) (s i c : ℕ) → b .handle p s ≡ some i c → (d : ℕ) × (giveAll b p ts .handle p s ≡ some i d)
-keeps-all b p [] s i c e = (c, e)
-keeps-all b p (t ∷ ts) s i c e = let x = keeps-id b p t s i c e in keeps-all (give b p t) p ts s i (x .0) (x .1)
+keeps-all : (b : State) (p k : ℕ) (ts : List ℕ) (s i c : ℕ) → b .handle p s ≡ some i c → (d : ℕ) × (giveAll b p k ts .handle p s ≡ some i d)
+keeps-all b p k [] s i c e = (c, e)
+keeps-all b p k (t ∷ ts) s i c e = let x = keeps-id b p k t s i c e in keeps-all (give b p k t) p k ts s i (x .0) (x .1)
 
-given-one : (b : State) (p s : ℕ) → (shown b p s ≡ invalid) ⊎ ((c : ℕ) × (give b p s .handle p s ≡ some (shown b p s) c))
+given-one : (b : State) (p k s : ℕ) → (shown b p k s ≡ invalid) ⊎ ((c : ℕ) × (give b p k s .handle p s ≡ some (shown b p k s) c))
 unfolding give shown withdraw withGiven withHandles withQueues
-given-one b p s = go (look (isLive (b .life s)))
+given-one b p k s = go (look (valid b p k s))
   where
-    go : Seen (isLive (b .life s)) → (shown b p s ≡ invalid) ⊎ ((c : ℕ) × (give b p s .handle p s ≡ some (shown b p s) c))
+    go : Seen (valid b p k s) → (shown b p k s ≡ invalid) ⊎ ((c : ℕ) × (give b p k s .handle p s ≡ some (shown b p k s) c))
     go (is-false z) = inl (rw z refl)
     go (is-true z) = inr (suc (count (b .handle p s)), rw (z, upd-same, upd-same) refl)
 
-given-for : (b : State) (p : ℕ) (ss : List ℕ) → GivenFor (giveAll b p ss .handle p) (shownAll b p ss) ss
-given-for b p [] = tt
-given-for b p (s ∷ ss) = (go (given-one b p s), given-for (give b p s) p ss)
+given-for : (b : State) (p k : ℕ) (ss : List ℕ) → GivenFor (giveAll b p k ss .handle p) (shownAll b p k ss) ss
+given-for b p k [] = tt
+given-for b p k (s ∷ ss) = (go (given-one b p k s), given-for (give b p k s) p k ss)
   where
-    go : (shown b p s ≡ invalid) ⊎ ((c : ℕ) × (give b p s .handle p s ≡ some (shown b p s) c)) →
-        (shown b p s ≡ invalid) ⊎ ((c : ℕ) × (giveAll (give b p s) p ss .handle p s ≡ some (shown b p s) c))
+    go : (shown b p k s ≡ invalid) ⊎ ((c : ℕ) × (give b p k s .handle p s ≡ some (shown b p k s) c)) →
+        (shown b p k s ≡ invalid) ⊎ ((c : ℕ) × (giveAll (give b p k s) p k ss .handle p s ≡ some (shown b p k s) c))
     go (inl z) = inl z
-    go (inr z) = inr (keeps-all (give b p s) p ss s (shown b p s) (z .0) (z .1))
+    go (inr z) = inr (keeps-all (give b p k s) p k ss s (shown b p k s) (z .0) (z .1))
 
 shown-for : (name : ℕ → ℕ) (h : ℕ → Handle) (k : Book) (p : ℕ) → Handles name h (k .handle p) → (is ss : List ℕ) → GivenFor h is ss → ShownFor k p is (map (called name) ss)
 shown-for name h k p r [] [] g = tt
@@ -83,12 +84,12 @@ shown-for name h k p r (i ∷ is) (s ∷ ss) g = (go (g .0), shown-for name h k 
 -- An accepted receive of which a message is the first entry.
 module _ (cs : List Call) (c : Call) (p : Peer) (room : ℕ) (a : Accepted (run cs) c (Receive p room)) where
   module _ (n : ℕ) (m : Message) (q : List Entry) (e : run cs .queue (p .0) ≡ message n m ∷ q) where
-    handles-after : effect (run cs) (c .frame) (Receive p room) .handle ≡ giveAll (takeOut (run cs) (p .0) (m ∷ []) q) (p .0) (m .carried) .handle
-    unfolding effect accept
+    handles-after : effect (run cs) (c .frame) (Receive p room) .handle ≡ giveAll (takeOut (run cs) (p .0) (m ∷ []) q) (p .0) n (m .carried) .handle
+    unfolding effect accept settled withQueues
     handles-after =
         ap (λ (x : List Entry). receives (accept (run cs)) (p .0) x .handle) e
-        ∙ ap (λ (x : State). giveAll x (p .0) (m .carried) .handle) (out-accept (run cs) (p .0) (m ∷ []) q)
-        ∙ ap (λ (x : State). x .handle) (gives-accept (takeOut (run cs) (p .0) (m ∷ []) q) (p .0) (m .carried))
+        ∙ ap (λ (x : State). giveAll x (p .0) n (m .carried) .handle) (out-accept (run cs) (p .0) (m ∷ []) q)
+        ∙ ap (λ (x : State). x .handle) (gives-accept (takeOut (run cs) (p .0) (m ∷ []) q) (p .0) n (m .carried))
 
     pub attached-shown : (w : Story (suc (length cs)) cs) → ShownFor (bookAfter (cs ++ (c ∷ []))) (p .0) (shownIds (answerOf (step (run cs) c))) (map (called (w .name)) (m .carried))
     attached-shown w =
@@ -98,16 +99,16 @@ module _ (cs : List Call) (c : Call) (p : Peer) (room : ℕ) (a : Accepted (run 
         let sh = answer-shows b c (Receive p room) a r in
         let s = sim-command (w .name) b (c .frame) (Receive p room) (bookAfter cs) (answerOf (step b c)) (w .sim) r (a .legal) t sh (omega (arith, w .entered)) in
         let y : ReceiveShows b (p .0) (message n m ∷ q) (answerOf (step b c)) = rw e at sh in
-        let g : GivenFor (effect b (c .frame) (Receive p room) .handle (p .0)) (shownAll (takeOut b (p .0) (m ∷ []) q) (p .0) (m .carried)) (m .carried) =
-        rw handles-after (given-for (takeOut b (p .0) (m ∷ []) q) (p .0) (m .carried)) in
+        let g : GivenFor (effect b (c .frame) (Receive p room) .handle (p .0)) (shownAll (takeOut b (p .0) (m ∷ []) q) (p .0) n (m .carried)) (m .carried) =
+        rw handles-after (given-for (takeOut b (p .0) (m ∷ []) q) (p .0) n (m .carried)) in
         rw (book-noted cs c (Receive p room) a, y .1) (shown-for (w .name) (effect b (c .frame) (Receive p room) .handle (p .0)) (note (bookAfter cs) (c .frame) (answerOf (step b c)) (Receive p room)) (p .0) (s .handles (p .0))
-        (shownAll (takeOut b (p .0) (m ∷ []) q) (p .0) (m .carried)) (m .carried) g)
+        (shownAll (takeOut b (p .0) (m ∷ []) q) (p .0) n (m .carried)) (m .carried) g)
 
 -- An accepted reading of the seed: "enters the IDs that 0c shows as it does a receive's".
 module _ (cs : List Call) (c : Call) (p : Peer) (room : ℕ) (a : Accepted (run cs) c (ShowSeed p room)) where
-  seed-handles : effect (run cs) (c .frame) (ShowSeed p room) .handle ≡ giveAll (run cs) (p .0) (seedCarries (run cs .seed (p .0))) .handle
+  seed-handles : effect (run cs) (c .frame) (ShowSeed p room) .handle ≡ giveAll (run cs) (p .0) (suc (run cs .accepted)) (seedCarries (run cs .seed (p .0))) .handle
   unfolding effect accept
-  seed-handles = ap (λ (x : State). x .handle) (gives-accept (run cs) (p .0) (seedCarries (run cs .seed (p .0))))
+  seed-handles = ap (λ (x : State). x .handle) (gives-accept (run cs) (p .0) (suc (run cs .accepted)) (seedCarries (run cs .seed (p .0))))
 
   pub seed-shown : (w : Story (suc (length cs)) cs) →
       ShownFor (bookAfter (cs ++ (c ∷ []))) (p .0) (shownIds (answerOf (step (run cs) c))) (map (called (w .name)) (seedCarries (run cs .seed (p .0))))
@@ -118,7 +119,7 @@ module _ (cs : List Call) (c : Call) (p : Peer) (room : ℕ) (a : Accepted (run 
       let t = tested b (c .frame) (ShowSeed p room) (a .unrefused) in
       let sh = answer-shows b c (ShowSeed p room) a r in
       let s = sim-command (w .name) b (c .frame) (ShowSeed p room) (bookAfter cs) (answerOf (step b c)) (w .sim) r (a .legal) t sh (omega (arith, w .entered)) in
-      let g : GivenFor (effect b (c .frame) (ShowSeed p room) .handle (p .0)) (shownAll b (p .0) ss) ss = rw seed-handles (given-for b (p .0) ss) in
+      let g : GivenFor (effect b (c .frame) (ShowSeed p room) .handle (p .0)) (shownAll b (p .0) (suc (b .accepted)) ss) ss = rw seed-handles (given-for b (p .0) (suc (b .accepted)) ss) in
       rw (book-noted cs c (ShowSeed p room) a, sh)
       (shown-for (w .name) (effect b (c .frame) (ShowSeed p room) .handle (p .0)) (note (bookAfter cs) (c .frame) (answerOf (step b c)) (ShowSeed p room)) (p .0) (s .handles (p .0))
-      (shownAll b (p .0) ss) ss g)
+      (shownAll b (p .0) (suc (b .accepted)) ss) ss g)

@@ -15,7 +15,7 @@ use Rattle.frames.specs.Frame.{opcode}
 use Rattle.answers.specs.Answer.{noticeBytes, receivedBytes, contentsOf, answerBytes}
 use Rattle.answers.specs.AnswerLaws.{message-kind, destroyed-kind, released-kind}
 use Rattle.model.specs.Numbers.{owner, invalid}
-use Rattle.model.specs.State.{Handle, held, idOr, Entry, Entry.message, Entry.destroyed, Entry.released, State, total}
+use Rattle.model.specs.State.{isLive, Handle, held, idOr, Entry, Entry.message, Entry.destroyed, Entry.released, State, total}
 use Rattle.model.specs.Replies.{showsMessage, shows}
 use Rattle.model.specs.Step.{Call, step, run, answerOf}
 use Rattle.model.specs.Book.{Node, Noted.noted, Book, actingPeer, Fed}
@@ -27,6 +27,7 @@ use Rattle.model.specs.Tested.{tested}
 use Rattle.model.specs.Coded.{coded}
 use Rattle.model.specs.Notices.{Stands}
 use Rattle.model.specs.NoticesProof.{noted as always-noted}
+use Rattle.model.specs.FirstHeld.{notice-held}
 use Rattle.model.specs.Shown.{receive-bytes}
 use Rattle.model.specs.Sim.{called}
 use Rattle.model.specs.SimHandles.{some-of}
@@ -90,10 +91,10 @@ module _ (cs : List Call) (c : Call) (p : Peer) (room : ℕ) (a : Accepted (run 
   unfolding answerBytes contentsOf receivedBytes noticeBytes
   tells-destroyed k s es e =
       let st : Stands (b .handle) (b .life) (p .0) (destroyed k s) = (rw e at (always-noted cs .stands (p .0))) .0 in
-      let x = shown-named s 2 (st .1) (receive-bytes b c p room a (destroyed k s ∷ es) e) in
+      let x = shown-named s 2 (notice-held cs (p .0) k s es e) (receive-bytes b c p room a (destroyed k s ∷ es) e) in
       record {
         notice = record { number = k; node = called (w .name) s; rest = map (itemOf (w .name)) es; first = w .follows .queues (p .0) ∙ rw e refl; count = x .0; named = x .1 };
-        dead = w .follows .lives .same s ∙ st .0;
+        dead = w .follows .lives .same s ∙ ap isLive (st .0);
       }
 
   tells-released : (k s : ℕ) (es : List Entry) → b .queue (p .0) ≡ released k s ∷ es → TellsReleased (ledgerAfter cs) (bookAfter cs) (p .0) (numAt answer 2 8)

@@ -10,7 +10,7 @@ use Rattle.laws.specs.Weights.{load, All}
 use Rattle.frames.specs.Frame.{mostIds}
 use Rattle.quota.specs.Charges.{users}
 use Rattle.model.specs.Numbers.{peers, nodes, owner}
-use Rattle.model.specs.State.{Status, Status.unopened, Status.opened, Life, isLive, Handle, held, count, Entry, Entry.message, Entry.destroyed, Entry.released, Seed, seedCarries, State, noUser, total, names, seeded}
+use Rattle.model.specs.State.{Status, Status.unopened, Status.opened, Life, Life.dead, isLive, Handle, held, count, Entry, Entry.message, Entry.destroyed, Entry.released, Seed, seedCarries, State, noUser, total, names, seeded}
 
 -- How often a list has the slot s.
 abbrev pub times : ℕ → List ℕ → ℕ
@@ -31,11 +31,11 @@ Carried ss = (length ss ≤ mostIds) × All (λ s. s < nodes) ss
 
 -- An entry in the queue of the peer q.
 -- A message: its destination is q's own node, and q holds it ("until the owner's handle is gone; then they are dropped").
--- A destroy notice: the node is dead, and q holds it ("Destroy queues a notice at every holder"; "A notice is withdrawn when its holder's handle goes").
+-- A destroy notice: the command that queued it destroyed the node (that it is founded: Founded.antt).
 -- A release notice: the node is q's own, it lives, and its sum of counts is 1 ("It is withdrawn if the sum rises or the node is destroyed").
 abbrev pub Stands : (ℕ → ℕ → Handle) → (ℕ → Life) → ℕ → Entry → Type 0
 Stands h l q (message n m) = (owner (m .to) ≡ q) × (held (h q (m .to)) ≡ true) × Carried (m .carried)
-Stands h l q (destroyed n s) = (isLive (l s) ≡ false) × (held (h q s) ≡ true)
+Stands h l q (destroyed n s) = (l s ≡ dead n) × (s < nodes)
 Stands h l q (released n s) = (isLive (l s) ≡ true) × (owner s ≡ q) × (total h s ≡ 1)
 
 -- Over the tables: statuses, users, handles, lives, queues, seeds.

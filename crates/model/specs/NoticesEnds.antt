@@ -13,7 +13,7 @@ use Rattle.laws.specs.Weights.{All, all-imp}
 use Rattle.quota.specs.Charges.{users}
 use Rattle.model.specs.Numbers.{peers, nodes, owner}
 use Rattle.model.specs.Lists.{both}
-use Rattle.model.specs.State.{Status, Status.unopened, Status.opened, Status.disconnected, Life, Life.dead, isLive, Handle, Handle.none, held, count, Entry, Entry.message, Entry.destroyed, Entry.released, State, noUser, total, byOwnerId}
+use Rattle.model.specs.State.{Status, Status.unopened, Status.opened, Status.disconnected, Life, Life.dead, isLive, Handle, Handle.none, held, count, Entry, Entry.message, Entry.destroyed, Entry.released, State, noUser, total, byOwnerId, concerned}
 use Rattle.model.specs.Tables.{withStatus, withUser, withHandles, withQueues, withLives}
 use Rattle.model.specs.Changes.{withdraw, destroyNotices, destroyAll}
 use Rattle.model.specs.Notices.{noticeFor, noticesFor, Stands, Noted}
@@ -58,9 +58,9 @@ module _ (b : State) (p : ℕ) (t : ℕ → Bool) (k : ℕ) where
       go (is-true z) = let x = both-true (eqb (owner s) p) (t s) z in absurd (d (eqb-true (owner s) p (x .0)) (x .1))
       go (is-false z) = rw z
 
-  pub noted-lives : Noted b → ((q : ℕ) → All (Without p t) (b .queue q)) → Noted (withLives b lives)
+  pub noted-lives : Noted b → ((s : ℕ) → owner s ≡ p → t s ≡ true → isLive (b .life s) ≡ true) → ((q : ℕ) → All (Without p t) (b .queue q)) → Noted (withLives b lives)
   unfolding withLives
-  noted-lives n a =
+  noted-lives n alive a =
       record {
         present = n .present;
         absent = n .absent;
@@ -74,7 +74,7 @@ module _ (b : State) (p : ℕ) (t : ℕ → Bool) (k : ℕ) where
     where
       one : (q : ℕ) (e : Entry) → Stands (b .handle) (b .life) q e × Without p t e → Stands (b .handle) lives q e
       one q (message j m) z = z .0
-      one q (destroyed j s) z = (lives-stays s (z .0 .0), z .0 .1)
+      one q (destroyed j s) z = (lives-kept s (λ o e. no (rw (z .0 .0)) (alive s o e)) ∙ z .0 .0, z .0 .1)
       one q (released j s) z = (rw (lives-kept s (z .1)) (z .0 .0), z .0 .1, z .0 .2)
 
 -- No notice stands for a live node whose release notice was withdrawn.
@@ -88,19 +88,19 @@ none-stands b p t q s n a l o e =
     one : (x : Entry) → Stands (b .handle) (b .life) q x × Without p t x → Seen (noticeFor s x) → noticeFor s x ≡ false
     one x z (is-false y) = y
     one (message j m) z (is-true y) = clash (sym y)
-    one (destroyed j u) z (is-true y) = no (rw (eqb-true u s y) at (z .0 .0)) l
+    one (destroyed j u) z (is-true y) = no (rw (← eqb-true u s y) (rw (z .0 .0))) l
     one (released j u) z (is-true y) = let v : u ≡ s = eqb-true u s y in absurd (z .1 (rw v o) (rw v e))
 
 -- Live nodes of the owner p are destroyed.
 pub noted-destroyAll : (b : State) (p : ℕ) (t : ℕ → Bool) → Noted b → ((s : ℕ) → owner s ≡ p → t s ≡ true → isLive (b .life s) ≡ true) → Noted (destroyAll b p t)
 unfolding destroyAll destroyNotices
 noted-destroyAll b p t n alive =
-    noted-pushAll c (destroyed (b .accepted)) (λ q. byOwnerId (b .handle) p (λ s. both (t s) (held (b .handle q s)))) m (λ s u. refl)
-    (λ q. all-imp (λ s. (both (t s) (held (b .handle q s)) ≡ true) × (owner s ≡ p))
+    noted-pushAll c (destroyed (b .accepted)) (λ q. byOwnerId (b .handle) p (λ s. both (t s) (concerned (b .handle q) (b .queue q) (b .accepted) s))) m (λ s u. refl)
+    (λ q. all-imp (λ s. (both (t s) (concerned (b .handle q) (b .queue q) (b .accepted) s) ≡ true) × (owner s ≡ p))
     (λ s. Stands (c .handle) (c .life) q (destroyed (b .accepted) s) × (noticesFor s (c .queue q) ≡ 0))
-    (λ s z. fresh q s (both-true (t s) (held (b .handle q s)) (z .0)) (z .1)) (byOwnerId (b .handle) p (λ s. both (t s) (held (b .handle q s))))
-    (owner-pass (b .handle) p (λ s. both (t s) (held (b .handle q s)))))
-    (λ q. owner-once (b .handle) p (λ s. both (t s) (held (b .handle q s))))
+    (λ s z. fresh q s (both-true (t s) (concerned (b .handle q) (b .queue q) (b .accepted) s) (z .0) .0) (z .1)) (byOwnerId (b .handle) p (λ s. both (t s) (concerned (b .handle q) (b .queue q) (b .accepted) s)))
+    (owner-pass (b .handle) p (λ s. both (t s) (concerned (b .handle q) (b .queue q) (b .accepted) s))))
+    (λ q. owner-once (b .handle) p (λ s. both (t s) (concerned (b .handle q) (b .queue q) (b .accepted) s)))
   where
     w : State
     w = withdraw b p t
@@ -115,11 +115,11 @@ noted-destroyAll b p t n alive =
     without = withdraw-without b p t n
 
     m : Noted c
-    m = unfold withdraw withQueues in noted-lives w p t (b .accepted) v without
+    m = unfold withdraw withQueues in noted-lives w p t (b .accepted) v alive without
 
-    fresh : (q s : ℕ) → (t s ≡ true) × (held (b .handle q s) ≡ true) → owner s ≡ p →
+    fresh : (q s : ℕ) → t s ≡ true → owner s ≡ p →
         Stands (c .handle) (c .life) q (destroyed (b .accepted) s) × (noticesFor s (c .queue q) ≡ 0)
-    fresh q s z o = unfold withLives withdraw withQueues in ((lives-dead b p t (b .accepted) s o (z .0), z .1), none-stands w p t q s v (without q) (alive s o (z .0)) o (z .0))
+    fresh q s z o = unfold withLives withdraw withQueues in ((rw (eq-eqb (owner s) p o, z) refl, n .holders (owner s) s (n .owned s (alive s o z)) .1), none-stands w p t q s v (without q) (alive s o z) o z)
 
 -- A peer with an empty queue and no live node of its own leaves.
 pub noted-leave : (b : State) (p : ℕ) → Noted b → b .status p ≡ opened → b .queue p ≡ [] → ((s : ℕ) → isLive (b .life s) ≡ true → owner s ≡ p → ⊥) →
@@ -160,7 +160,7 @@ noted-leave b p n op empty d =
 
     one : (q : ℕ) → (p ≡ q → ⊥) → (e : Entry) → Stands (b .handle) (b .life) q e → Stands g (b .life) q e
     one q z (message k m) a = (a .0, rw (upd-other (b .handle) p q (λ s. none) z) (a .1), a .2)
-    one q z (destroyed k s) a = (a .0, rw (upd-other (b .handle) p q (λ s. none) z) (a .1))
+    one q z (destroyed k s) a = a
     one q z (released k s) a = (a .0, a .1, same-total q s z (a .0) (a .1) (a .2) ∙ a .2)
 
     st : (q : ℕ) → Same p q → All (Stands g (b .life) q) (b .queue q)

@@ -17,7 +17,7 @@ use Rattle.model.specs.Numbers.{peers, owner}
 use Rattle.model.specs.Lists.{both}
 use Rattle.model.specs.State.{isLive, Handle, held, Message, Entry, Entry.message, Entry.destroyed, Entry.released, messagesIn, State, total, byOwnerId}
 use Rattle.model.specs.Tables.{withQueues, withQueue, withCharges, accept}
-use Rattle.model.specs.Changes.{push, pushAll, atPeers, takeOut, notReleased, withdraw, dropped, remains, forget, fell, notify, releaseNotices, notifyAll, arriving, deliver}
+use Rattle.model.specs.Changes.{push, pushAll, atPeers, takeOut, notReleased, withdraw, dropped, remains, forget, fell, notify, releaseNotices, notifyAll, arriving, deliver, stays, settle, settled}
 use Rattle.model.specs.Notices.{times, noticeFor, noticesFor, Carried, Stands, Noted}
 use Rattle.model.specs.Occurs.{no, both-true, keep-imp, load-none, load-keep, times-all}
 use Rattle.model.specs.Rising.{owner-pass, owner-once}
@@ -83,12 +83,25 @@ withdraw-without b p t n q = go (same? p q)
         rw (upd-other (b .queue) p q (keep (notReleased t) (b .queue p)) z) (all-imp (Stands (b .handle) (b .life) q) (Without p t) (elsewhere z) (b .queue q) (n .stands q))
 
 -- What p's queue has that needs its handle to s goes.
+-- What is left of p's queue, settled by any handles h.
+pub noted-left : (b : State) (p s : ℕ) (h : ℕ → Handle) → Noted b → Noted (takeOut b p (keep (dropped p s) (messagesIn (b .queue p))) (settle h (keep (remains p s) (b .queue p))))
+unfolding settle
+noted-left b p s h n =
+    let q = keep (remains p s) (b .queue p) in
+    noted-out b p (keep (dropped p s) (messagesIn (b .queue p))) (keep (stays h q) q) n
+    (all-keep (Stands (b .handle) (b .life) p) (stays h q) q (all-keep (Stands (b .handle) (b .life) p) (remains p s) (b .queue p) (n .stands p)))
+    (λ t. omega (arith, load-keep (noticeFor t) (λ e. 1) (stays h q) q, load-keep (noticeFor t) (λ e. 1) (remains p s) (b .queue p), n .once p t))
+
+pub noted-settled : (b : State) (p : ℕ) → Noted b → Noted (settled b p)
+unfolding settled settle
+noted-settled b p n =
+    noted-queue b p (keep (stays (b .handle p) (b .queue p)) (b .queue p)) n (all-keep (Stands (b .handle) (b .life) p) (stays (b .handle p) (b .queue p)) (b .queue p) (n .stands p))
+    (λ t. omega (arith, load-keep (noticeFor t) (λ e. 1) (stays (b .handle p) (b .queue p)) (b .queue p), n .once p t))
+
 pub noted-forget : (b : State) (p s : ℕ) → Noted b → Noted (forget b p s)
 unfolding forget
 noted-forget b p s n =
-    noted-out b p (keep (dropped p s) (messagesIn (b .queue p))) (keep (remains p s) (b .queue p)) n
-    (all-keep (Stands (b .handle) (b .life) p) (remains p s) (b .queue p) (n .stands p))
-    (λ t. omega (arith, load-keep (noticeFor t) (λ e. 1) (remains p s) (b .queue p), n .once p t))
+    noted-left b p s (b .handle p) n
 
 -- One more notice for each slot of a list without repetition, for which no notice stands.
 pub once-append : (make : ℕ → Entry) → ((s t : ℕ) → noticeFor s (make t) ≡ eqb t s) → (q : List Entry) (new : List ℕ) → ((s : ℕ) → noticesFor s q ≤ 1) →
@@ -135,7 +148,7 @@ fell-none a b s q n old e = load-none (noticeFor s) (λ x. 1) (b .queue q) (go (
     one : (x : Entry) → Stands (b .handle) (b .life) q x → Lone (a .handle) x → Seen (noticeFor s x) → noticeFor s x ≡ false
     one x st old (is-false z) = z
     one (message k m) st old (is-true z) = clash (sym z)
-    one (destroyed k t) st old (is-true z) = no (rw (eqb-true t s z) at (st .0)) (f .0)
+    one (destroyed k t) st old (is-true z) = no (rw (← eqb-true t s z) (rw (st .0))) (f .0)
     one (released k t) st old (is-true z) = let y : total (a .handle) s ≡ 1 = rw (eqb-true t s z) at old in absurd (omega (arith, f .1))
 
     go : (xs : List Entry) → All (Stands (b .handle) (b .life) q) xs → All (Lone (a .handle)) xs → All (λ x. noticeFor s x ≡ false) xs

@@ -8,11 +8,11 @@ use lib.Dec.{eqb}
 use borrow.Author.Tests.{eqb-false, eq-eqb, not-true}
 use Rattle.laws.specs.Tests.{Seen, Seen.is-true, Seen.is-false, look, Same, Same.same, Same.other, same?, clash}
 use Rattle.laws.specs.Tables.{upd, upd-same, upd-other, upd-all}
-use Rattle.laws.specs.Weights.{All, all-imp}
+use Rattle.laws.specs.Weights.{All, all-imp, all-keep, keep}
 use Rattle.model.specs.Numbers.{nodes, owner}
 use Rattle.model.specs.State.{Status.opened, Life.live, isLive, Handle, Handle.none, handleOf, held, count, Entry, Entry.message, Entry.destroyed, Entry.released, State, total}
 use Rattle.model.specs.Tables.{withGiven, withHandles, withHandle, withQueues, withCharges, withLives}
-use Rattle.model.specs.Changes.{takeOut, withdraw, shown, give, dropped, remains, forget}
+use Rattle.model.specs.Changes.{takeOut, withdraw, shown, give, dropped, remains, forget, valid, stays, settle}
 use Rattle.model.specs.Notices.{noticeFor, Stands, Noted}
 use Rattle.model.specs.Occurs.{no, keep-imp, all-both}
 use Rattle.model.specs.Counts.{put, put-all, put-other, total-other}
@@ -48,7 +48,7 @@ noted-put b p s i c n op ls u =
 
     one : (q : ℕ) (e : Entry) → Stands (b .handle) (b .life) q e × Unreleased s e → Stands (put (b .handle) p s x) (b .life) q e
     one q (message k m) z = (z .0 .0, grows q (m .to) (z .0 .1), z .0 .2)
-    one q (destroyed k t) z = (z .0 .0, grows q t (z .0 .1))
+    one q (destroyed k t) z = z .0
     one q (released k t) z = (z .0 .0, z .0 .1, total-other (b .handle) p s x t (z .1) ∙ z .0 .2)
 
 -- No release notice for a dead node, or for one whose sum is not 1; none that was withdrawn.
@@ -69,28 +69,30 @@ unreleased-withdraw b s n q = all-imp (Without (owner s) (eqb s)) (Unreleased s)
     one (released k t) z = λ y. z (ap owner (sym y)) (eq-eqb s t y)
 
 -- A handle is given.
-pub noted-give : (b : State) (p s : ℕ) → Noted b → b .status p ≡ opened → s < nodes → Noted (give b p s)
+pub noted-give : (b : State) (p asOf s : ℕ) → Noted b → b .status p ≡ opened → s < nodes → Noted (give b p asOf s)
 unfolding give withdraw withQueues withHandles withGiven
-noted-give b p s n op ls = go (look (isLive (b .life s)))
+noted-give b p asOf s n op ls = go (look (valid b p asOf s))
   where
-    go : Seen (isLive (b .life s)) → Noted (give b p s)
+    go : Seen (valid b p asOf s) → Noted (give b p asOf s)
     go (is-false e) = rw e n
     go (is-true e) =
-        rw e (noted-put (withdraw b (owner s) (eqb s)) p s (shown b p s) (count (b .handle p s)) (noted-withdraw b (owner s) (eqb s) n) op ls (unreleased-withdraw b s n))
+        rw e (noted-put (withdraw b (owner s) (eqb s)) p s (shown b p asOf s) (count (b .handle p s)) (noted-withdraw b (owner s) (eqb s) n) op ls (unreleased-withdraw b s n))
 
 -- No entry at the peer needs its handle to s.
 abbrev pub Needless : ℕ → Entry → Type 0
 Needless s (message n m) = s ≡ m .to → ⊥
-Needless s (destroyed n t) = s ≡ t → ⊥
+Needless s (destroyed n t) = Unit {0}
 Needless s (released n t) = Unit {0}
 
-pub forget-needless : (b : State) (p s : ℕ) → Noted b → All (Needless s) (forget b p s .queue p)
-unfolding forget takeOut withCharges withQueues
-forget-needless b p s n = rw upd-same (keep-imp (Stands (b .handle) (b .life) p) (Needless s) (remains p s) one (b .queue p) (n .stands p))
+pub forget-needless : (b : State) (p s : ℕ) (h : ℕ → Handle) → Noted b → All (Needless s) (settle h (keep (remains p s) (b .queue p)))
+unfolding settle
+forget-needless b p s h n =
+    let q = keep (remains p s) (b .queue p) in
+    all-keep (Needless s) (stays h q) q (keep-imp (Stands (b .handle) (b .life) p) (Needless s) (remains p s) one (b .queue p) (n .stands p))
   where
     one : (e : Entry) → remains p s e ≡ true → Stands (b .handle) (b .life) p e → Needless s e
     one (message k m) z a = λ y. no (not-true (dropped p s m) z) (rw (eq-eqb (owner s) p (ap owner y ∙ a .0), eq-eqb (m .to) s (sym y)))
-    one (destroyed k t) z a = λ y. no (not-true (eqb t s) z) (eq-eqb t s (sym y))
+    one (destroyed k t) z a = tt
     one (released k t) z a = tt
 
 -- A handle goes.
@@ -118,12 +120,12 @@ noted-drop b p s n d a u =
 
     here : (e : Entry) → Stands (b .handle) (b .life) p e × (Needless s e × Unreleased s e) → Stands (put (b .handle) p s none) (b .life) p e
     here (message k m) z = (z .0 .0, rw (put-other (b .handle) p s none p (m .to) (z .1 .0)) (z .0 .1), z .0 .2)
-    here (destroyed k t) z = (z .0 .0, rw (put-other (b .handle) p s none p t (z .1 .0)) (z .0 .1))
+    here (destroyed k t) z = z .0
     here (released k t) z = lone p t (z .0) (z .1 .1)
 
     there : (q : ℕ) → (p ≡ q → ⊥) → (e : Entry) → Stands (b .handle) (b .life) q e × Unreleased s e → Stands (put (b .handle) p s none) (b .life) q e
     there q y (message k m) z = (z .0 .0, rw (upd-other (b .handle) p q (upd (b .handle p) s none) y) (z .0 .1), z .0 .2)
-    there q y (destroyed k t) z = (z .0 .0, rw (upd-other (b .handle) p q (upd (b .handle p) s none) y) (z .0 .1))
+    there q y (destroyed k t) z = z .0
     there q y (released k t) z = lone q t (z .0) (z .1)
 
     st : (q : ℕ) → Same p q → All (Stands (put (b .handle) p s none) (b .life) q) (b .queue q)

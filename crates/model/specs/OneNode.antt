@@ -17,9 +17,9 @@ use Rattle.frames.specs.declared.Command.the-variants.{Open, Disconnect, Create
 use Rattle.frames.specs.Frame.{opcode, idAt}
 use Rattle.frames.specs.Fields.{fields-command}
 use Rattle.model.specs.Numbers.{nextId}
-use Rattle.model.specs.State.{isLive, Handle, Handle.none, Handle.some, handleOf, count, idOr, Entry, Entry.message, Entry.destroyed, Entry.released, State, slot, seedCarries}
+use Rattle.model.specs.State.{Handle, Handle.none, Handle.some, handleOf, count, idOr, Entry, Entry.message, Entry.destroyed, Entry.released, State, slot, seedCarries}
 use Rattle.model.specs.Tables.{accept, withStatus, withUser, withGiven, withHandle, withHandles, withQueues, withCharges, withLives, withSeed}
-use Rattle.model.specs.Changes.{pushAll, takeOut, withdraw, shown, givenAfter, give, giveAll, forget, notify, notifyAll, destroyAll, deliver}
+use Rattle.model.specs.Changes.{pushAll, takeOut, withdraw, valid, shown, givenAfter, give, giveAll, settled, forget, notify, notifyAll, destroyAll, deliver}
 use Rattle.model.specs.Effects.{opens, creates, destroys, releases, releasesHandle, disconnects, receives, effect}
 use Rattle.model.specs.Step.{Call, step, run, answerOf}
 use Rattle.model.specs.Book.{Node, Noted, Noted.blank, Noted.noted, Book, noteCreate, Fed, note, actingPeer}
@@ -93,11 +93,11 @@ given-old b p s h n g = go (h s) refl
     go none e = inr (n + 1, omega arith, omega (arith, g .0))
     go (some i c) e = g .1 s i c e
 
-grown-give : (b a : State) (p s : ℕ) → Grown b a → Grown b (give a p s)
+grown-give : (b a : State) (p k s : ℕ) → Grown b a → Grown b (give a p k s)
 unfolding give shown withdraw withGiven withHandles withQueues
-grown-give b a p s g = go (look (isLive (a .life s)))
+grown-give b a p k s g = go (look (valid a p k s))
   where
-    go : Seen (isLive (a .life s)) → Grown b (give a p s)
+    go : Seen (valid a p k s) → Grown b (give a p k s)
     go (is-false e) = rw e g
     go (is-true e) =
         rw e
@@ -105,14 +105,14 @@ grown-give b a p s g = go (look (isLive (a .life s)))
         (from-set b p (a .handle p) (a .given p) (givenAfter (a .handle p s) (a .given p)) s (idOr (nextId (a .given p)) (a .handle p s)) (suc (count (a .handle p s))) (g p)
         (given-le (a .handle p s) (a .given p)) (given-old b p s (a .handle p) (a .given p) (g p))))
 
-grown-gives : (b a : State) (p : ℕ) (ss : List ℕ) → Grown b a → Grown b (giveAll a p ss)
-grown-gives b a p [] g = g
-grown-gives b a p (s ∷ ss) g = grown-gives b (give a p s) p ss (grown-give b a p s g)
+grown-gives : (b a : State) (p k : ℕ) (ss : List ℕ) → Grown b a → Grown b (giveAll a p k ss)
+grown-gives b a p k [] g = g
+grown-gives b a p k (s ∷ ss) g = grown-gives b (give a p k s) p k ss (grown-give b a p k s g)
 
 grown-receive : (b a : State) (p : ℕ) (q : List Entry) → Grown b a → Grown b (receives a p q)
-unfolding takeOut withCharges withQueues
+unfolding settled takeOut withCharges withQueues
 grown-receive b a p [] g = g
-grown-receive b a p (message n m ∷ q) g = grown-gives b (takeOut a p (m ∷ []) q) p (m .carried) g
+grown-receive b a p (message n m ∷ q) g = grown-gives b (takeOut a p (m ∷ []) q) p n (m .carried) g
 grown-receive b a p (destroyed n s ∷ q) g = g
 grown-receive b a p (released n s ∷ q) g = g
 
@@ -174,13 +174,13 @@ grown-effect b f (Disconnect p) n = unfold withSeed in grown-disconnect b (accep
 grown-effect b f (Create p i) n = absurd (n (p .0) (i .0) (refl, refl))
 grown-effect b f (Destroy p i) n = grown-destroy b (accept b) (p .0) (slot b (p .0) (i .0)) (grown-same b)
 grown-effect b f (Release p i) n = grown-release b (accept b) (p .0) (slot b (p .0) (i .0)) (b .handle (p .0) (slot b (p .0) (i .0))) refl (grown-same b)
-grown-effect b f (Transfer p i q) n = grown-give b (accept b) (q .0) (slot b (p .0) (i .0)) (grown-same b)
+grown-effect b f (Transfer p i q) n = grown-give b (accept b) (q .0) (suc (b .accepted)) (slot b (p .0) (i .0)) (grown-same b)
 grown-effect b f (Send p z) n =
     pick-all (Grown b) (eqb (z .nd) 0) _ _ (unfold withSeed deliver pushAll withCharges withQueues in grown-same b) (unfold deliver pushAll withCharges withQueues in grown-same b)
 grown-effect b f (Receive p room) n = grown-receive b (accept b) (p .0) (b .queue (p .0)) (grown-same b)
 grown-effect b f (Quota p u) n = grown-same b
 grown-effect b f (Holders p i) n = grown-same b
-grown-effect b f (ShowSeed p room) n = grown-gives b (accept b) (p .0) (seedCarries (b .seed (p .0))) (grown-same b)
+grown-effect b f (ShowSeed p room) n = grown-gives b (accept b) (p .0) (suc (b .accepted)) (seedCarries (b .seed (p .0))) (grown-same b)
 
 given-effect : (b : State) (f : List ℕ) (k : Command) (q : ℕ) → b .given q ≤ effect b f k .given q
 unfolding effect accept

@@ -11,7 +11,8 @@ use Rattle.laws.specs.Weights.{All}
 use Rattle.frames.specs.declared.Command.{Command}
 use Rattle.frames.specs.declared.Command.the-variants.{Open, Disconnect, Create, Destroy, Release, Transfer, Send, Receive, Quota, Holders, ShowSeed}
 use Rattle.frames.specs.Frame.{payloadOf}
-use Rattle.model.specs.State.{isLive, held, Entry, Entry.message, Entry.destroyed, Entry.released, State, slot, total}
+use Rattle.model.specs.Lists.{any}
+use Rattle.model.specs.State.{isLive, held, Entry, Entry.message, Entry.destroyed, Entry.released, earlier, State, slot, total}
 use Rattle.model.specs.Requests.{destinations, attached}
 
 -- The number of the accepted command that queued an entry.
@@ -27,11 +28,11 @@ pub data Later {A : Type 0} (gone new : A → Type 0) : List A → List A → Ty
   leaves : {e : A} {q r : List A} → gone e → Later gone new q r → Later gone new (e ∷ q) r
 
 -- Why an entry leaves the queue of p unreceived, from the state b before a command to the state a after it. A message is dropped:
--- "Queued messages for the node are still delivered, until the owner's handle is gone". A notice is withdrawn "when its holder's handle goes",
--- a release notice also "if the sum rises or the node is destroyed".
+-- "Queued messages for the node are still delivered, until the owner's handle is gone". A destroy notice "is now withdrawn as soon as the peer holds no handle and no earlier message carrying
+-- the node is left" (02 No. 2), a release notice when the handle goes and "if the sum rises or the node is destroyed".
 abbrev pub Lapsed : State → State → ℕ → Entry → Type 0
 Lapsed b a p (message n m) = held (a .handle p (m .to)) ≡ false
-Lapsed b a p (destroyed n s) = held (a .handle p s) ≡ false
+Lapsed b a p (destroyed n s) = (held (a .handle p s) ≡ false) × (any (earlier n s) (a .queue p) ≡ false)
 Lapsed b a p (released n s) = (held (a .handle p s) ≡ false) ⊎ ((total (b .handle) s < total (a .handle) s) ⊎ (isLive (a .life s) ≡ false))
 
 -- What a command queues carries its own number, the next one.

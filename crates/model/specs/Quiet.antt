@@ -11,9 +11,9 @@ use Rattle.laws.specs.Weights.{keep}
 use Rattle.laws.specs.Loads.{keep-every}
 use Rattle.model.specs.Numbers.{peers, owner}
 use Rattle.model.specs.Lists.{both}
-use Rattle.model.specs.State.{Life, isLive, Handle, held, Message, Entry, Entry.message, Entry.destroyed, Entry.released, messagesIn, State, byOwnerId}
+use Rattle.model.specs.State.{Life, isLive, Handle, held, Message, Entry, Entry.message, Entry.destroyed, Entry.released, messagesIn, State, byOwnerId, concerned}
 use Rattle.model.specs.Tables.{accept, withGiven, withHandles, withQueues, withQueue, withLives}
-use Rattle.model.specs.Changes.{pushAll, atPeers, notReleased, withdraw, give, giveAll, fell, notify, releaseNotices, notifyAll, destroyNotices, destroyAll}
+use Rattle.model.specs.Changes.{pushAll, atPeers, notReleased, withdraw, give, giveAll, fell, notify, releaseNotices, notifyAll, destroyNotices, destroyAll, valid, stays, settle, settled}
 
 pub record Quiet (b c : State) : Type 0 where
   pub messages : (q : ℕ) → messagesIn (c .queue q) ≡ messagesIn (b .queue q)
@@ -90,14 +90,23 @@ unfolding withdraw
 quiet-withdraw b p t =
     quiet-queue b p (keep (notReleased t) (b .queue p)) (messages-keep (notReleased t) (λ m. true) (λ n m. refl) (b .queue p) ∙ keep-every (messagesIn (b .queue p)))
 
-pub quiet-give : (b : State) (p s : ℕ) → Quiet b (give b p s)
-unfolding give
-quiet-give b p s =
-    pick-all (Quiet b) (isLive (b .life s)) _ b (quiet-then (quiet-then (quiet-given b _) (quiet-handles _ p _)) (quiet-withdraw _ (owner s) (eqb s))) (quiet-same b)
+pub settle-messages : (h : ℕ → Handle) (q : List Entry) → messagesIn (settle h q) ≡ messagesIn q
+unfolding settle
+settle-messages h q = messages-keep (stays h q) (λ m. true) (λ n m. refl) q ∙ keep-every (messagesIn q)
 
-pub quiet-giveAll : (b : State) (p : ℕ) (ss : List ℕ) → Quiet b (giveAll b p ss)
-quiet-giveAll b p [] = quiet-same b
-quiet-giveAll b p (s ∷ ss) = quiet-then (quiet-give b p s) (quiet-giveAll (give b p s) p ss)
+pub quiet-settled : (b : State) (p : ℕ) → Quiet b (settled b p)
+unfolding settled settle
+quiet-settled b p =
+    quiet-queue b p _ (messages-keep (stays (b .handle p) (b .queue p)) (λ m. true) (λ n m. refl) (b .queue p) ∙ keep-every (messagesIn (b .queue p)))
+
+pub quiet-give : (b : State) (p asOf s : ℕ) → Quiet b (give b p asOf s)
+unfolding give
+quiet-give b p asOf s =
+    pick-all (Quiet b) (valid b p asOf s) _ b (quiet-then (quiet-then (quiet-given b _) (quiet-handles _ p _)) (quiet-withdraw _ (owner s) (eqb s))) (quiet-same b)
+
+pub quiet-giveAll : (b : State) (p asOf : ℕ) (ss : List ℕ) → Quiet b (giveAll b p asOf ss)
+quiet-giveAll b p asOf [] = quiet-same b
+quiet-giveAll b p asOf (s ∷ ss) = quiet-then (quiet-give b p asOf s) (quiet-giveAll (give b p asOf s) p asOf ss)
 
 pub quiet-notify : (a b : State) (s : ℕ) → Quiet b (notify a b s)
 unfolding notify
@@ -115,4 +124,4 @@ unfolding destroyAll destroyNotices
 quiet-destroyAll b p t =
     quiet-then (quiet-then (quiet-withdraw b p t) (quiet-lives _ _))
     (quiet-pushAll _ (atPeers (destroyNotices b p t)) (λ q.
-    at-peers-silent (destroyNotices b p t) q (destroyed-silent (b .accepted) (byOwnerId (b .handle) p (λ s. both (t s) (held (b .handle q s)))))))
+    at-peers-silent (destroyNotices b p t) q (destroyed-silent (b .accepted) (byOwnerId (b .handle) p (λ s. both (t s) (concerned (b .handle q) (b .queue q) (b .accepted) s))))))

@@ -1,6 +1,6 @@
 -- The reply of each command that is not refused: the kind of answer with its contents, and beside it the IDs and the payload of a message.
 -- Assumes nothing.
-use Prim.Native.Nat.{ℕ, _^_}
+use Prim.Native.Nat.{ℕ, suc, _^_}
 use mathlib.Core.Bool.{Bool, false}
 use mathlib.Core.List.{List, [], _∷_}
 use lib.ListN.{length}
@@ -47,12 +47,12 @@ showsMessage b p n m rest =
             nb = length (m .payload);
             nh = length (m .carried);
           }));
-      ids = shownAll (takeOut b p (m ∷ []) rest) p (m .carried);
+      ids = shownAll (takeOut b p (m ∷ []) rest) p n (m .carried);
       payload = m .payload;
     }
 
--- "or 02 and an ID (node destroyed); or 03 and an ID (node released)": the peer's own ID of the node. In a run it is never the invalid one: a notice stands only while its peer holds the
--- node. And no run reaches `[]`: a receive with nothing queued is refused with 11.
+-- "or 02 and an ID (node destroyed); or 03 and an ID (node released)": the peer's own ID of the node, the one of now. In a run it is never the invalid one: a notice that stands first is for
+-- a node that its peer holds (FirstHeld.antt). And no run reaches `[]`: a receive with nothing queued is refused with 11.
 abbrev pub shows : State → ℕ → List Entry → Reply
 shows b p [] = plain isDone
 shows b p (message n m ∷ q) = showsMessage b p n m q
@@ -65,7 +65,7 @@ showsSeed b p unset = plain isDone
 showsSeed b p (kept payload carried) =
     record {
       answer = isReceived (aSeed (record { to = record { 0 = invalid }; user = record { 0 = b .user p }; flag = false; nb = length payload; nh = length carried }));
-      ids = shownAll b p carried;
+      ids = shownAll b p (suc (b .accepted)) carried;
       payload = payload;
     }
 
@@ -79,7 +79,7 @@ reply b f (Disconnect p) = plain isDone
 reply b f (Create p i) = plain isDone
 reply b f (Destroy p i) = plain isDone
 reply b f (Release p i) = plain isDone
-reply b f (Transfer p i q) = plain (isTransferred (record { 0 = shown b (q .0) (slot b (p .0) (i .0)) }))
+reply b f (Transfer p i q) = plain (isTransferred (record { 0 = shown b (q .0) (suc (b .accepted)) (slot b (p .0) (i .0)) }))
 reply b f (Send p z) = plain isDone
 reply b f (Receive p room) = shows b (p .0) (b .queue (p .0))
 reply b f (Quota p u) = plain (isQuota (balanceOf (b .charges (p .0)) u))

@@ -42,7 +42,7 @@ notices-few b q n = omega (arith, notices-sum nodes (b .queue q) within, sum-one
   where
     one : (e : Entry) → Stands (b .handle) (b .life) q e → Within nodes e
     one (message k m) a = tt
-    one (destroyed k s) a = n .holders q s (a .1) .1
+    one (destroyed k s) a = a .1
     one (released k s) a = n .holders q s (rw (a .1) at (n .owned s (a .0))) .1
 
     within : All (Within nodes) (b .queue q)

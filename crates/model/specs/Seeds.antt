@@ -1,7 +1,7 @@
 -- 02 No. 1, the seed message, of histories alone: frames, numbers and answers, with their book and ledger, and no word of the state. What 0c shows is the last accepted 07 with nd 0 of its
 -- peer: sizes and payload to the byte, and of each attached ID the node that it named then. 0c is refused with 11 exactly where there is no such 07.
 -- Assumes nothing.
-use Prim.Native.Nat.{ℕ, _+_, _-_, _*_, _^_, _<_}
+use Prim.Native.Nat.{ℕ, suc, _+_, _-_, _*_, _^_, _<_}
 use mathlib.Core.Path.{_≡_}
 use mathlib.Core.Bool.{Bool, true, false, not}
 use mathlib.Core.Logic.{_⊎_}
@@ -79,8 +79,8 @@ pub record SeedShown (xs : List Fed) (x : Fed) (p : ℕ) (s : LastSeed xs p) : T
   pub nb : numAt (x .answer) 12 2 ≡ shortAt (s .set .frame) 4
   pub nh : getD (x .answer) 14 0 ≡ getD (s .set .frame) 3 0
   pub payload : drop (15 + 8 * getD (x .answer) 14 0) (x .answer) ≡ payloadOf (s .set .frame)
-  -- "Attached handles follow the receive rule each time it is shown": of each place the node that the ID there named when the seed was set
-  pub ids : AttachedShown (ledgerOf xs) (bookOf xs) p (shownIds (x .answer)) (nodesThen xs p s)
+  -- "Attached handles follow the receive rule each time it is shown", as of the command 0c itself (02 No. 2, "a seed shows it from the destruction on"): of each place the node that the ID there named when the seed was set
+  pub ids : AttachedShown (ledgerOf xs) (bookOf xs) p (suc (ledgerOf xs .accepted)) (shownIds (x .answer)) (nodesThen xs p s)
   -- all ones exactly where that node was dead then or has been destroyed since
   pub dead-then : (i : ℕ) (n : Node) → AtOnePlace i n (shownIds (x .answer)) (nodesThen xs p s) → livedThen xs p s n ≡ false → i ≡ invalid
   pub ended-since : (i : ℕ) (n : Node) → AtOnePlace i n (shownIds (x .answer)) (nodesThen xs p s) → endedSince xs p s n ≡ true → i ≡ invalid

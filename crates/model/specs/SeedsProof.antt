@@ -9,7 +9,7 @@ use mathlib.Core.List.{List, [], _∷_, _++_, map, append-assoc, append-nil}
 use native.Mathlib.Omega.{arith}
 use lib.ListN.{length, getD, length-map}
 use lib.Dec.{eqb}
-use borrow.Author.Tests.{eqb-true}
+use borrow.Author.Tests.{eqb-true, le-ltb}
 use Rattle.laws.specs.Tests.{clash, Same, Same.same, Same.other, same?}
 use Rattle.laws.specs.Tables.{upd-same}
 use Rattle.laws.specs.Weights.{All, all-append}
@@ -20,7 +20,7 @@ use Rattle.frames.specs.Frame.{opcode, shortAt, payloadOf}
 use Rattle.frames.specs.Fields.{fields-command}
 use Rattle.frames.specs.Legal.{payload-length}
 use Rattle.model.specs.Numbers.{invalid}
-use Rattle.model.specs.Lists.{both}
+use Rattle.model.specs.Lists.{both, either}
 use Rattle.model.specs.State.{Seed, Seed.unset as unsetSlots, Seed.kept as keptSlots, seedCarries, start}
 use Rattle.model.specs.Requests.{attached}
 use Rattle.model.specs.Step.{Call, step, run, answerOf}
@@ -36,7 +36,7 @@ use Rattle.model.specs.Sim.{called}
 use Rattle.model.specs.SimRun.{ready, shows}
 use Rattle.model.specs.History.{history-append, book-noted, ledger-book}
 use Rattle.model.specs.Sources.{Story, story}
-use Rattle.model.specs.Ledger.{LedgerSeed.unset, LedgerSeed.kept, seedNodes, Ledger, dueIds, dueSeed, ledgerAfter}
+use Rattle.model.specs.Ledger.{LedgerSeed.unset, LedgerSeed.kept, seedNodes, Ledger, validAt, dueIds, dueSeed, ledgerAfter}
 use Rattle.model.specs.LedgerSim.{seedOf, seed-nodes}
 use Rattle.model.specs.LedgerGive.{shown-all-due}
 use Rattle.model.specs.LedgerSeeds.{seeds-small}
@@ -58,20 +58,30 @@ use Rattle.model.specs.Lives.{made-lives, endedIn}
 use Rattle.model.specs.ShowsNames.{named-held}
 use Rattle.model.specs.ShowsAnew.{creates?, create-fresh}
 use Rattle.model.specs.Seeds.{setsSeed, LastSeed, nodesThen, endedSince, livedThen, SeedShown, ShowsLastSeed}
+use Rattle.model.specs.LedgerGone.{died-before}
 use Rattle.model.specs.SeedsLast.{seed-is-last, last-or-unset}
 
+-- As of a command that is not yet accepted a node is shown exactly if it lives.
+pub valid-live : (l : Ledger) (p n : ℕ) → l .died n ≤ l .accepted → validAt l p (suc (l .accepted)) n ≡ l .lives n
+unfolding validAt
+valid-live l p n past = rw (le-ltb (suc (l .accepted)) (l .died n) (omega (arith, past))) (go (l .lives n))
+  where
+    go : (x : Bool) → either x false ≡ x
+    go true = refl
+    go false = refl
+
 -- A place of two lists.
-at-all : (P : Node → Type 0) (i : ℕ) (n : Node) (is : List ℕ) (ns : List Node) → AtOnePlace i n is ns → All P ns → P n
+pub at-all : (P : Node → Type 0) (i : ℕ) (n : Node) (is : List ℕ) (ns : List Node) → AtOnePlace i n is ns → All P ns → P n
 at-all P i n [] ns a h = absurd a
 at-all P i n (j ∷ is) [] a h = absurd a
 at-all P i n (j ∷ is) (m ∷ ns) (inl z) h = subst P (z .1) (h .0)
 at-all P i n (j ∷ is) (m ∷ ns) (inr z) h = at-all P i n is ns z (h .1)
 
 -- The nodes of IDs are those that the book has noted.
-abbrev NotedAs : Book → ℕ → Node → Type 0
+abbrev pub NotedAs : Book → ℕ → Node → Type 0
 NotedAs k p n = (j : ℕ) × (c : ℕ) × (k .handle p j ≡ noted n c)
 
-nodes-noted : (k : Book) (p : ℕ) (is : List ℕ) → All (NotedAs k p) (nodesOf k p is)
+pub nodes-noted : (k : Book) (p : ℕ) (is : List ℕ) → All (NotedAs k p) (nodesOf k p is)
 nodes-noted k p [] = tt
 nodes-noted k p (i ∷ is) = all-append (NotedAs k p) (nodeIn (k .handle p i)) (nodesOf k p is) (one (k .handle p i) refl) (nodes-noted k p is)
   where
@@ -236,18 +246,19 @@ module _ (cs : List Call) (c : Call) (p : Peer) (room : ℕ) (a : Accepted (run 
   small : length body ≤ 512
   small = rw is-set at (seeds-small cs (p .0))
 
-  shown-bytes : answer ≡ bytes 4 invalid (l .book .user (p .0)) 0 (length body) (length ns) (dueIds l (p .0) ns) body
+  shown-bytes : answer ≡ bytes 4 invalid (l .book .user (p .0)) 0 (length body) (length ns) (dueIds l (p .0) (suc (l .accepted)) ns) body
   shown-bytes = answers-due cs c (ShowSeed p room) (a .read) (a .number) ∙ ap (dueSeed l (p .0)) is-set
 
-  ids-due : shownIds answer ≡ dueIds l (p .0) ns
+  ids-due : shownIds answer ≡ dueIds l (p .0) (suc (l .accepted)) ns
   ids-due =
       shows (run cs) c (ShowSeed p room) a (ready cs (w .ids))
-      ∙ sym (shown-all-due (w .sim .apart) (run cs) l (p .0) ss (w .follows))
-      ∙ ap (dueIds l (p .0)) ns-are
+      ∙ sym (shown-all-due (w .sim .apart) (run cs) l (p .0) (suc (run cs .accepted)) ss (w .follows))
+      ∙ ap₂ (λ (j : ℕ) (z : List Node). dueIds l (p .0) (suc j) z) (sym (w .follows .accepted)) ns-are
 
-  shown : AttachedShown l (bookAfter cs) (p .0) (shownIds answer) ns
+  shown : AttachedShown l (bookAfter cs) (p .0) (suc (l .accepted)) (shownIds answer) ns
   shown =
-      attached-shown l (bookAfter cs) (p .0) (ledger-small cs w (p .0)) (ledger-few cs w (p .0)) (ledger-same cs w (p .0)) ns few (shownIds answer) (ids-due ∙ due-each l (p .0) ns)
+      attached-shown l (bookAfter cs) (p .0) (ledger-small cs w (p .0)) (ledger-few cs w (p .0)) (ledger-same cs w (p .0)) (suc (l .accepted)) ns few (shownIds answer)
+      (ids-due ∙ due-each l (p .0) (suc (l .accepted)) ns)
 
   abbrev AtPlace : ℕ → Node → Type 0
   AtPlace i n = AtOnePlace i n (shownIds (answerOf (step (run cs) c))) (nodesThen (historyFrom start cs) (p .0) s)
@@ -259,6 +270,10 @@ module _ (cs : List Call) (c : Call) (p : Peer) (room : ℕ) (a : Accepted (run 
   lives-now i n at =
       let t = noted-then i n at in
       ap (λ (z : List Fed). ledgerOf z .lives (n .number)) (s .place) ∙ lives-since (p .0) (t .0) n (t .1) (s .before) (s .set ∷ s .after) cut (t .2)
+
+  -- "a seed shows it from the destruction on"
+  valid-now : (i : ℕ) (n : Node) → AtPlace i n → validAt l (p .0) (suc (l .accepted)) (n .number) ≡ both (livedThen hs (p .0) s n) (not (endedSince hs (p .0) s n))
+  valid-now i n at = valid-live l (p .0) (n .number) (died-before cs (n .number)) ∙ lives-now i n at
 
   book-then : bookOf (hs ++ (x ∷ [])) ≡ bookAfter (cs ++ (c ∷ []))
   book-then = sym (ap bookOf next)
@@ -310,7 +325,7 @@ module _ (cs : List Call) (c : Call) (p : Peer) (room : ℕ) (a : Accepted (run 
   seed-shown-whole =
       let f = set-frame (s .before) (s .set) when-set (p .0) (s .sets) in
       let nh : getD answer 14 0 ≡ length ns = rw shown-bytes (bytes-nh 4 _ _ _ _ _ _ _) in
-      let long : length (dueIds l (p .0) ns) ≡ length ns = ap length (due-each l (p .0) ns) ∙ length-map ns _ in
+      let long : length (dueIds l (p .0) (suc (l .accepted)) ns) ≡ length ns = ap length (due-each l (p .0) (suc (l .accepted)) ns) ∙ length-map ns _ in
       record {
         kind = rw shown-bytes refl;
         destination = rw shown-bytes (bytes-to 4 _ _ _ _ _ _ _ (omega arith));
@@ -318,11 +333,11 @@ module _ (cs : List Call) (c : Call) (p : Peer) (room : ℕ) (a : Accepted (run 
         flag = rw shown-bytes (bytes-flag 4 _ _ _ _ _ _ _);
         nb = rw shown-bytes (bytes-nb 4 _ _ _ _ _ _ _ (omega (arith, small))) ∙ f .0;
         nh = nh ∙ f .1;
-        payload = rw (nh, ← long) (rw shown-bytes (bytes-payload 4 invalid (l .book .user (p .0)) 0 (length body) (length ns) (dueIds l (p .0) ns) body));
+        payload = rw (nh, ← long) (rw shown-bytes (bytes-payload 4 invalid (l .book .user (p .0)) 0 (length body) (length ns) (dueIds l (p .0) (suc (l .accepted)) ns) body));
         ids = shown;
-        dead-then = λ i n at z. shown .destroyed-invalid i n at (lives-now i n at ∙ dead-first (livedThen hs (p .0) s n) (endedSince hs (p .0) s n) z);
-        ended-since = λ i n at z. shown .destroyed-invalid i n at (lives-now i n at ∙ dead-second (livedThen hs (p .0) s n) (endedSince hs (p .0) s n) z);
-        all-ones = λ i n at z. either-dead (livedThen hs (p .0) s n) (endedSince hs (p .0) s n) (sym (lives-now i n at) ∙ shown .invalid-destroyed i n at z);
+        dead-then = λ i n at z. shown .destroyed-invalid i n at (valid-now i n at ∙ dead-first (livedThen hs (p .0) s n) (endedSince hs (p .0) s n) z);
+        ended-since = λ i n at z. shown .destroyed-invalid i n at (valid-now i n at ∙ dead-second (livedThen hs (p .0) s n) (endedSince hs (p .0) s n) z);
+        all-ones = λ i n at z. either-dead (livedThen hs (p .0) s n) (endedSince hs (p .0) s n) (sym (valid-now i n at) ∙ shown .invalid-destroyed i n at z);
         named = λ i n at v. let y = shown-named i n at v in (y .0, ap (λ (k : Book). k .handle (p .0) i) book-then ∙ y .1);
         never-another = λ i d n m at e. never-other i d n m at e;
         chosen-again = λ i n at us vs y e k. never-chosen i n at us vs y e k;

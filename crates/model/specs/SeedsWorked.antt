@@ -17,7 +17,7 @@ use Rattle.model.specs.Numbers.{invalid}
 use Rattle.model.specs.State.{start, slotOf, total, heldByAny, named, seeded, counts, freePlace, byOwnerId}
 use Rattle.model.specs.Refusals.{placesAt, fits, refusesOpen, refusesCreate, refusesDestroy, refusesRelease, refusesSend, refusesReceive, refusesSeed, refusal}
 use Rattle.model.specs.Tables.{withStatus, withUser, withGiven, withHandles, withQueues, withCharges, withSeed, withLives, accept}
-use Rattle.model.specs.Changes.{pushAll, takeOut, withdraw, shown, give, forget, fell, notify, destroyNotices, destroyAll, arriving, deliver}
+use Rattle.model.specs.Changes.{pushAll, takeOut, withdraw, valid, shown, give, settle, settled, forget, fell, notify, destroyNotices, destroyAll, arriving, deliver}
 use Rattle.model.specs.Effects.{opens, creates, destroys, releases, effect}
 use Rattle.model.specs.Replies.{showsSeed, reply}
 use Rattle.model.specs.Step.{carryOut, finish, step, runFrom}
@@ -49,7 +49,7 @@ abbrev pub reading : Fed
 reading = accepted (showSeed 0 17) (showsAs 0 (invalid ∷ 12 ∷ []) (51 ∷ []))
 
 pub happened : Happened (history ++ (reading ∷ []))
-unfolding upd sumTo build first be numAt idAt shortAt parseSizes parseSend frameLength parseOpen parseCreate parseRest parseOther parse sendId payloadOf othersAll allowsAll idBytes headerBytes messageBytes noticeBytes receivedBytes contentsOf answerBytes answerAfter outcomeOf least rising start slotOf total heldByAny named seeded counts freePlace byOwnerId placesAt fits refusesOpen refusesCreate refusesDestroy refusesRelease refusesSend refusesReceive refusesSeed refusal withStatus withUser withGiven withHandles withQueues withCharges withSeed withLives accept pushAll takeOut withdraw shown give forget fell notify destroyNotices destroyAll arriving deliver opens creates destroys releases effect showsSeed reply carryOut finish step runFrom historyFrom
+unfolding upd sumTo build first be numAt idAt shortAt parseSizes parseSend frameLength parseOpen parseCreate parseRest parseOther parse sendId payloadOf othersAll allowsAll idBytes headerBytes messageBytes noticeBytes receivedBytes contentsOf answerBytes answerAfter outcomeOf least rising start slotOf total heldByAny named seeded counts freePlace byOwnerId placesAt fits refusesOpen refusesCreate refusesDestroy refusesRelease refusesSend refusesReceive refusesSeed refusal withStatus withUser withGiven withHandles withQueues withCharges withSeed withLives accept pushAll takeOut withdraw valid shown give settle settled forget fell notify destroyNotices destroyAll arriving deliver opens creates destroys releases effect showsSeed reply carryOut finish step runFrom historyFrom
 happened = record { calls = calls (map (λ (x : Fed). x .frame) (history ++ (reading ∷ []))); same = refl }
 
 abbrev pub last : LastSeed history 0

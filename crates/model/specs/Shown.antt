@@ -39,17 +39,17 @@ finish-answer b out v h =
     rw (le-ltb (length out) answerSize h) (take-append-seam (bytesOf (v .reply)) (drop (length (bytesOf (v .reply))) out))
 
 -- Each attached handle is shown as one ID.
-pub shown-length : (b : State) (p : ℕ) (ss : List ℕ) → length (shownAll b p ss) ≡ length ss
-shown-length b p [] = refl
-shown-length b p (s ∷ ss) = ap suc (shown-length (give b p s) p ss)
+pub shown-length : (b : State) (p asOf : ℕ) (ss : List ℕ) → length (shownAll b p asOf ss) ≡ length ss
+shown-length b p asOf [] = refl
+shown-length b p asOf (s ∷ ss) = ap suc (shown-length (give b p asOf s) p asOf ss)
 
-seed-ids : (b : State) (p : ℕ) (x : Seed) → (x ≡ unset → ⊥) → length (seedCarries x) ≤ 8 → All (λ i. i < 256 ^ 8) (shownAll b p (seedCarries x)) →
-    shownIds (bytesOf (showsSeed b p x)) ≡ shownAll b p (seedCarries x)
+seed-ids : (b : State) (p : ℕ) (x : Seed) → (x ≡ unset → ⊥) → length (seedCarries x) ≤ 8 → All (λ i. i < 256 ^ 8) (shownAll b p (suc (b .accepted)) (seedCarries x)) →
+    shownIds (bytesOf (showsSeed b p x)) ≡ shownAll b p (suc (b .accepted)) (seedCarries x)
 unfolding showsSeed
 seed-ids b p unset d few h = absurd (d refl)
 seed-ids b p (kept payload carried) d few h =
-    let ids = shownAll b p carried in
-    let k : length carried ≡ length ids = sym (shown-length b p carried) in
+    let ids = shownAll b p (suc (b .accepted)) carried in
+    let k : length carried ≡ length ids = sym (shown-length b p (suc (b .accepted)) carried) in
     let few8 : length ids ≤ 8 = omega arith in
     rw seed-count (seed-ids-at _ ids payload few8 h)
 
@@ -59,8 +59,8 @@ module _ (b : State) (c : Call) where
   answer-bytes k a = ap answerOf (a .result) ∙ finish-answer b (c .buffer) _ (a .large)
 
   -- Transfer answers the ID shown at the destination.
-  pub transfer-answers : (p : Peer) (i : HandleId) (q : Peer) → Accepted b c (Transfer p i q) → shown b (q .0) (slot b (p .0) (i .0)) < 256 ^ 8 →
-      answeredId (answerOf (step b c)) ≡ shown b (q .0) (slot b (p .0) (i .0))
+  pub transfer-answers : (p : Peer) (i : HandleId) (q : Peer) → Accepted b c (Transfer p i q) → shown b (q .0) (suc (b .accepted)) (slot b (p .0) (i .0)) < 256 ^ 8 →
+      answeredId (answerOf (step b c)) ≡ shown b (q .0) (suc (b .accepted)) (slot b (p .0) (i .0))
   unfolding reply
   transfer-answers p i q a h = rw (answer-bytes (Transfer p i q) a) (transferred-id _ [] [] h)
 
@@ -75,12 +75,12 @@ module _ (b : State) (c : Call) where
       unfolding showsMessage
       receive-message = rw (receive-bytes (message n m ∷ rest) e, message-kind)
 
-      pub receive-shows : length (m .carried) ≤ 8 → All (λ i. i < 256 ^ 8) (shownAll (takeOut b (p .0) (m ∷ []) rest) (p .0) (m .carried)) →
-          shownIds (answerOf (step b c)) ≡ shownAll (takeOut b (p .0) (m ∷ []) rest) (p .0) (m .carried)
+      pub receive-shows : length (m .carried) ≤ 8 → All (λ i. i < 256 ^ 8) (shownAll (takeOut b (p .0) (m ∷ []) rest) (p .0) n (m .carried)) →
+          shownIds (answerOf (step b c)) ≡ shownAll (takeOut b (p .0) (m ∷ []) rest) (p .0) n (m .carried)
       unfolding showsMessage
       receive-shows l h =
-          let ids = shownAll (takeOut b (p .0) (m ∷ []) rest) (p .0) (m .carried) in
-          let k : length (m .carried) ≡ length ids = sym (shown-length (takeOut b (p .0) (m ∷ []) rest) (p .0) (m .carried)) in
+          let ids = shownAll (takeOut b (p .0) (m ∷ []) rest) (p .0) n (m .carried) in
+          let k : length (m .carried) ≡ length ids = sym (shown-length (takeOut b (p .0) (m ∷ []) rest) (p .0) n (m .carried)) in
           let few : length ids ≤ 8 = omega arith in
           rw (receive-bytes (message n m ∷ rest) e, message-count) (message-ids _ ids (m .payload) few h)
 
@@ -93,7 +93,7 @@ module _ (b : State) (c : Call) where
 
   -- A seed reading answers the IDs of what the seed carries.
   pub seed-shows : (p : Peer) (room : ℕ) → Accepted b c (ShowSeed p room) → length (seedCarries (b .seed (p .0))) ≤ 8 →
-      All (λ i. i < 256 ^ 8) (shownAll b (p .0) (seedCarries (b .seed (p .0)))) → shownIds (answerOf (step b c)) ≡ shownAll b (p .0) (seedCarries (b .seed (p .0)))
+      All (λ i. i < 256 ^ 8) (shownAll b (p .0) (suc (b .accepted)) (seedCarries (b .seed (p .0)))) → shownIds (answerOf (step b c)) ≡ shownAll b (p .0) (suc (b .accepted)) (seedCarries (b .seed (p .0)))
   unfolding reply
   seed-shows p room a few h = ap shownIds (answer-bytes (ShowSeed p room) a) ∙ seed-ids b (p .0) (b .seed (p .0)) (λ e. absurd (unset-refused e)) few h
     where

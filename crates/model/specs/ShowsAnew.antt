@@ -30,7 +30,7 @@ use Rattle.model.specs.SimCreate.{not-held}
 use Rattle.model.specs.Sources.{story}
 use Rattle.model.specs.Ledger.{ledgerAfter}
 use Rattle.model.specs.LedgerSim.{held-entered}
-use Rattle.model.specs.LedgerGone.{gone-for-good}
+use Rattle.model.specs.LedgerGone.{maker-for-good, own-gone-for-good}
 use Rattle.model.specs.LedgerOwn.{StillOr, own-keeps}
 use Rattle.model.specs.Rows.{bookOf, ledgerOf}
 use Rattle.model.specs.RowsRun.{noted-entered, entered-grows}
@@ -123,9 +123,10 @@ freed cs ds p i n c e fresh =
     go (inl y) = let z = held-named (cs ++ ds) p (n .number) i (y .0) (y .1) in absurd (fresh .1 (z .0) (y .0) (z .1))
     go (inr y) = y
 
--- The node was created and destroyed, and p has no handle to it; so it stays.
+-- The node was created by p and destroyed, and p has no handle to it; so it stays.
 record Ended (xs : List Fed) (p : ℕ) (n : Node) : Type 0 where
   entered : n .number < bookOf xs .entered
+  maker : ledgerOf xs .maker (n .number) ≡ p
   dead : ledgerOf xs .lives (n .number) ≡ false
   unheld : ledgerOf xs .handle p (n .number) ≡ none
 
@@ -134,14 +135,20 @@ ended p i n =
     of-cut (λ us vs ws. NamedIn us p i n → Fresh ws p i → Ended ws p n)
     (λ cs ds a fresh.
     let f = freed cs ds p i n (a .0) (a .1) fresh in
-    record { entered = omega (arith, noted-entered cs p i n (a .0) (a .1), entered-grows cs ds); dead = f .0; unheld = f .1 })
+    let e = noted-entered cs p i n (a .0) (a .1) in
+    record {
+      entered = omega (arith, e, entered-grows cs ds);
+      maker = maker-for-good cs ds p (n .number) e (chosen-own cs p i n (a .0) (a .1) (fresh .0));
+      dead = f .0;
+      unheld = f .1;
+    })
 
 ended-stays : (p : ℕ) (n : Node) (xs ys : List Fed) → Happened (xs ++ ys) → Ended xs p n → Ended (xs ++ ys) p n
 ended-stays p n =
     of-cut (λ us vs ws. Ended us p n → Ended ws p n)
     (λ cs ds h.
-    let g = gone-for-good cs ds p (n .number) (h .entered) (h .dead) (h .unheld) in
-    record { entered = omega (arith, h .entered, entered-grows cs ds); dead = g .dead; unheld = g .unheld })
+    let g = own-gone-for-good cs ds p (n .number) (h .entered) (record { maker = h .maker; dead = h .dead; unheld = h .unheld }) in
+    record { entered = omega (arith, h .entered, entered-grows cs ds); maker = g .maker; dead = g .dead; unheld = g .unheld })
 
 -- No ID of the peer names it.
 ended-unnamed : (p i : ℕ) (n : Node) (xs : List Fed) → Happened xs → Ended xs p n → NamedIn xs p i n → ⊥

@@ -1,5 +1,5 @@
--- What an answer shows is what the book has noted: an ID that is shown at a peer for a node names that node in the book, before the command or after it. And a peer holds every node of
--- which something waits for it, in book and ledger alike.
+-- What an answer shows is what the book has noted: an ID that is shown at a peer for a node names that node in the book, before the command or after it. And a peer holds the node
+-- of the item that stands first for it, in book and ledger alike.
 -- Assumes nothing.
 use Prim.Native.Nat.{ℕ, suc, _^_, _<_}
 use mathlib.Core.Path.{_≡_, refl, sym, ap, ap₂, subst, _∙_}
@@ -12,8 +12,6 @@ use lib.ListN.{length, getD}
 use borrow.Author.Tests.{eq-eqb}
 use Rattle.laws.specs.Tables.{upd-same}
 use Rattle.laws.specs.Bytes.{be, numAt, num-at}
-use Rattle.laws.specs.Weights.{All, all-imp}
-use Rattle.laws.specs.Loads.{all-map}
 use Rattle.ids.specs.declared.HandleId.{HandleId}
 use Rattle.frames.specs.declared.Command.{Command}
 use Rattle.frames.specs.declared.Command.the-variants.{Open, Disconnect, Create, Destroy, Release, Transfer, Send, Receive, Quota, Holders, ShowSeed}
@@ -28,6 +26,7 @@ use Rattle.model.specs.Accepted.{Accepted, accepted-call}
 use Rattle.model.specs.Coded.{coded, destination as transfer-peer}
 use Rattle.model.specs.Notices.{Stands}
 use Rattle.model.specs.NoticesProof.{noted as always-noted}
+use Rattle.model.specs.FirstHeld.{notice-held}
 use Rattle.model.specs.Sim.{called}
 use Rattle.model.specs.Sources.{Story, story, book-noted}
 use Rattle.model.specs.Ledger.{Letter, Item, Item.message as messageItem, Item.destroyed as destroyedItem, Item.released as releasedItem, Ledger, ownName, dueItem, ledgerAfter, LedgerSeed.kept as keptSeed, seedNodes}
@@ -79,25 +78,23 @@ module _ (cs : List Call) (p : ℕ) where
       let f : run cs .handle p (x .0) ≡ some i c = sym (w .follows .handles .same p (x .0)) ∙ ap (l .handle p) (x .1) ∙ e in
       (called (w .name) (x .0), w .sim .handles p .noted-at (x .0) i c f)
 
-  -- A peer holds every node of which something waits for it.
-  pub queue-held : All (λ x. (i : ℕ) × HoldsAs k l p i (nodeOf x)) (l .queue p)
-  queue-held =
-      let w = story (length cs) cs (omega arith) in
-      let b = run cs in
-      rw (w .follows .queues p)
-      (all-map (λ x. (i : ℕ) × HoldsAs k l p i (nodeOf x)) (itemOf (w .name)) (b .queue p)
-      (all-imp (Stands (b .handle) (b .life) p) (λ e. (i : ℕ) × HoldsAs k l p i (nodeOf (itemOf (w .name) e))) (entry-held w) (b .queue p) (always-noted cs .stands p)))
+  -- A peer holds the node of the item that stands first.
+  pub first-held : (x : Item) (rest : List Item) → l .queue p ≡ x ∷ rest → (i : ℕ) × HoldsAs k l p i (nodeOf x)
+  first-held x rest e = let w = story (length cs) cs (omega arith) in go w (run cs .queue p) refl (sym (w .follows .queues p) ∙ e)
     where
       slot-held : (w : Story (length cs) cs) (s : ℕ) → held (run cs .handle p s) ≡ true → (i : ℕ) × HoldsAs k l p i (called (w .name) s)
       slot-held w s h = let y = some-of (run cs .handle p s) h in (y .0, at-slot w s (y .0) (y .1) (y .2))
 
-      entry-held : (w : Story (length cs) cs) (e : Entry) → Stands (run cs .handle) (run cs .life) p e → (i : ℕ) × HoldsAs k l p i (nodeOf (itemOf (w .name) e))
-      entry-held w (message n m) st = slot-held w (m .to) (st .1)
-      entry-held w (destroyed n s) st = slot-held w s (st .1)
-      entry-held w (released n s) st = slot-held w s (rw (st .1) at (always-noted cs .owned s (st .0)))
+      entry-held : (w : Story (length cs) cs) (d : Entry) (q : List Entry) → run cs .queue p ≡ d ∷ q → Stands (run cs .handle) (run cs .life) p d → (i : ℕ) × HoldsAs k l p i (nodeOf (itemOf (w .name) d))
+      entry-held w (message n m) q z st = slot-held w (m .to) (st .1)
+      entry-held w (destroyed n s) q z st = slot-held w s (notice-held cs p n s q z)
+      entry-held w (released n s) q z st = slot-held w s (rw (st .1) at (always-noted cs .owned s (st .0)))
 
-  first-held : (x : Item) (rest : List Item) → l .queue p ≡ x ∷ rest → (i : ℕ) × HoldsAs k l p i (nodeOf x)
-  first-held x rest e = (rw e at queue-held) .0
+      go : (w : Story (length cs) cs) (q : List Entry) → run cs .queue p ≡ q → map (itemOf (w .name)) q ≡ x ∷ rest → (i : ℕ) × HoldsAs k l p i (nodeOf x)
+      go w [] z y = absurd (omega (arith, ap length y))
+      go w (d ∷ q) z y =
+          let f : itemOf (w .name) d ≡ x = cc y in
+          subst (λ (u : Item). (i : ℕ) × HoldsAs k l p i (nodeOf u)) f (entry-held w d q z ((rw z at (always-noted cs .stands p)) .0))
 
 -- The ID behind the kind, where the first item is about a node that p holds.
 id-at : (kind i : ℕ) (rest : List ℕ) → i < 256 ^ 8 → numAt (0 ∷ kind ∷ be 8 i ++ rest) 2 8 ≡ i

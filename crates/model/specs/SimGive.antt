@@ -1,20 +1,21 @@
 -- A handle that is given, by a transfer or a receive, alike on the bus and in the book.
 -- Assumes nothing.
+use Rattle.model.specs.Lists.{both, either}
 use Prim.Native.Nat.{ℕ, zero, suc, _+_, _*_, _≤_, _<_}
 use mathlib.Core.Path.{_≡_, refl, sym, _∙_}
-use mathlib.Core.Bool.{true}
+use mathlib.Core.Bool.{true, Bool}
 use mathlib.Core.List.{List, [], _∷_, map}
 use native.Mathlib.Omega.{arith}
 use lib.ListN.{length}
 use lib.Dec.{eqb}
 use borrow.Author.Tests.{ne-eqb}
-use Rattle.laws.specs.Tests.{pick, Seen, Seen.is-true, Seen.is-false, look, Same, Same.same, Same.other, same?}
+use Rattle.laws.specs.Tests.{pick, Seen, Seen.is-true, Seen.is-false, look, Same, Same.same, Same.other, same?, clash}
 use Rattle.laws.specs.Tables.{upd, upd-same, upd-other, upd-rel, upd-all}
 use Rattle.laws.specs.Weights.{All}
 use Rattle.model.specs.Numbers.{nodes, owner, invalid, nextId}
-use Rattle.model.specs.State.{isLive, Handle, Handle.none, Handle.some, handleOf, count, idOr, messagesIn, State}
+use Rattle.model.specs.State.{isLive, Handle, Handle.none, Handle.some, handleOf, count, idOr, messagesIn, State, Life, Life.live, Life.dead, livedAt}
 use Rattle.model.specs.Tables.{withGiven, withHandles, withQueues}
-use Rattle.model.specs.Changes.{notReleased, withdraw, shown, givenAfter, give, giveAll, shownAll}
+use Rattle.model.specs.Changes.{notReleased, withdraw, shown, givenAfter, give, giveAll, shownAll, valid}
 use Rattle.model.specs.Book.{Noted, Noted.blank, Noted.noted, countOf, Book, putHandle, raise, learn}
 use Rattle.model.specs.Sim.{called, told, Handles, Sim}
 use Rattle.model.specs.SimHandles.{some-none, handles-set, one-slot}
@@ -45,7 +46,7 @@ ids-set h n m s i c ok l new small t i′ d = go (same? s t) c
         ((λ j g. omega (arith, r .0 j g)), r .1)
 
 -- What is shown of a handle x to a peer that has been given n.
-module _ {N : ℕ} (name : ℕ → ℕ) (b : State) (k : Book) (p s : ℕ) (r : Sim N name b k) (ok : Ids b) (l : s < nodes) (low : b .given p < enough) where
+module _ {N : ℕ} (name : ℕ → ℕ) (b : State) (k : Book) (p asOf s : ℕ) (r : Sim N name b k) (ok : Ids b) (l : s < nodes) (low : b .given p < enough) where
   record Known (x : Handle) : Type 0 where
     valid : idOr (nextId (b .given p)) x ≡ invalid → ⊥
     counts : countOf (k .handle p (idOr (nextId (b .given p)) x)) ≡ count x
@@ -74,11 +75,11 @@ module _ {N : ℕ} (name : ℕ → ℕ) (b : State) (k : Book) (p s : ℕ) (r : 
         one-place = λ t d f. one-slot name (r .apart) (b .handle p) (k .handle p) (r .handles p) s t i c d e f;
       }
 
-  pub sim-give : Sim N name (give b p s) (pick (eqb (shown b p s) invalid) k (raise k p (shown b p s) (called name s)))
+  pub sim-give : Sim N name (give b p asOf s) (pick (eqb (shown b p asOf s) invalid) k (raise k p (shown b p asOf s) (called name s)))
   unfolding give shown withdraw withGiven withHandles withQueues putHandle
-  sim-give = go (look (isLive (b .life s))) (known-of (b .handle p s) refl)
+  sim-give = go (look (valid b p asOf s)) (known-of (b .handle p s) refl)
     where
-      go : Seen (isLive (b .life s)) → Known (b .handle p s) → Sim N name (give b p s) (pick (eqb (shown b p s) invalid) k (raise k p (shown b p s) (called name s)))
+      go : Seen (valid b p asOf s) → Known (b .handle p s) → Sim N name (give b p asOf s) (pick (eqb (shown b p asOf s) invalid) k (raise k p (shown b p asOf s) (called name s)))
       go (is-false f) w = rw f r
       go (is-true f) w =
           rw (f, ne-eqb (idOr (nextId (b .given p)) (b .handle p s)) invalid (w .valid))
@@ -99,16 +100,25 @@ module _ {N : ℕ} (name : ℕ → ℕ) (b : State) (k : Book) (p s : ℕ) (r : 
           })
 
   -- Where the node lives, the ID shown is not the invalid one.
-  pub shown-valid : isLive (b .life s) ≡ true → shown b p s ≡ invalid → ⊥
+  pub shown-valid : valid b p asOf s ≡ true → shown b p asOf s ≡ invalid → ⊥
   unfolding shown
   shown-valid f e = known-of (b .handle p s) refl .valid (rw f at e)
 
+-- A live node is shown, as of any number.
+live-shown : (n : ℕ) (x : Life) (c : Bool) → isLive x ≡ true → both (livedAt n x) (either (isLive x) c) ≡ true
+live-shown n live c e = refl
+live-shown n (dead k) c e = clash (sym e)
+
+pub live-valid : (b : State) (p n s : ℕ) → isLive (b .life s) ≡ true → valid b p n s ≡ true
+unfolding valid
+live-valid b p n s e = live-shown n (b .life s) _ e
+
 -- What is shown has 8 bytes.
-pub shown-small : (b : State) (p s : ℕ) → Ids b → b .given p < enough → shown b p s < 18446744073709551616
+pub shown-small : (b : State) (p asOf s : ℕ) → Ids b → b .given p < enough → shown b p asOf s < 18446744073709551616
 unfolding shown
-shown-small b p s ok low = go (look (isLive (b .life s))) (b .handle p s) refl
+shown-small b p asOf s ok low = go (look (valid b p asOf s)) (b .handle p s) refl
   where
-    go : Seen (isLive (b .life s)) → (x : Handle) → b .handle p s ≡ x → pick (isLive (b .life s)) (idOr (nextId (b .given p)) (b .handle p s)) invalid < 18446744073709551616
+    go : Seen (valid b p asOf s) → (x : Handle) → b .handle p s ≡ x → pick (valid b p asOf s) (idOr (nextId (b .given p)) (b .handle p s)) invalid < 18446744073709551616
     go (is-false f) x e = rw f (omega arith)
     go (is-true f) none e = rw (f, e) (omega arith)
     go (is-true f) (some i c) e = rw (f, e) (omega (arith, ok p s i c e .1))
@@ -125,11 +135,11 @@ id-given h n s ok low = go (h s) refl
     go (some i c) e = ok s i c e
 
 -- The IDs after a handle was given, and how many have been.
-pub ids-give : (b : State) (p s : ℕ) → Ids b → b .given p < enough → Ids (give b p s)
+pub ids-give : (b : State) (p asOf s : ℕ) → Ids b → b .given p < enough → Ids (give b p asOf s)
 unfolding give shown withdraw withGiven withHandles withQueues
-ids-give b p s ok low = go (look (isLive (b .life s)))
+ids-give b p asOf s ok low = go (look (valid b p asOf s))
   where
-    go : Seen (isLive (b .life s)) → Ids (give b p s)
+    go : Seen (valid b p asOf s) → Ids (give b p asOf s)
     go (is-false e) = rw e ok
     go (is-true e) =
         let x = id-given (b .handle p) (b .given p) s (ok p) low in
@@ -138,30 +148,30 @@ ids-give b p s ok low = go (look (isLive (b .life s)))
         (ids-set (b .handle p) (b .given p) (givenAfter (b .handle p s) (b .given p)) s (idOr (nextId (b .given p)) (b .handle p s)) (suc (count (b .handle p s))) (ok p)
         (given-le (b .handle p s) (b .given p) .0) (x .0) (x .1)))
 
-pub given-give : (b : State) (p s q : ℕ) → give b p s .given q ≤ b .given q + 1
+pub given-give : (b : State) (p asOf s q : ℕ) → give b p asOf s .given q ≤ b .given q + 1
 unfolding give shown withdraw withGiven withHandles withQueues
-given-give b p s q = go (look (isLive (b .life s)))
+given-give b p asOf s q = go (look (valid b p asOf s))
   where
-    go : Seen (isLive (b .life s)) → give b p s .given q ≤ b .given q + 1
+    go : Seen (valid b p asOf s) → give b p asOf s .given q ≤ b .given q + 1
     go (is-false e) = rw e (omega arith)
     go (is-true e) = rw e (upd-all (λ q n. n ≤ b .given q + 1) (b .given) p _ (λ q. omega arith) (given-le (b .handle p s) (b .given p) .1) q)
 
 -- Handles given one after another.
-pub sim-gives : {N : ℕ} (name : ℕ → ℕ) (b : State) (k : Book) (p : ℕ) (ss : List ℕ) → Sim N name b k → Ids b → All (λ s. s < nodes) ss →
-    b .given p + length ss < enough → Sim N name (giveAll b p ss) (learn k p (shownAll b p ss) (map (called name) ss))
-sim-gives name b k p [] r ok l low = r
-sim-gives name b k p (s ∷ ss) r ok l low =
-    sim-gives name (give b p s) _ p ss (sim-give name b k p s r ok (l .0) (omega arith)) (ids-give b p s ok (omega arith)) (l .1) (omega (arith, given-give b p s p))
+pub sim-gives : {N : ℕ} (name : ℕ → ℕ) (b : State) (k : Book) (p asOf : ℕ) (ss : List ℕ) → Sim N name b k → Ids b → All (λ s. s < nodes) ss →
+    b .given p + length ss < enough → Sim N name (giveAll b p asOf ss) (learn k p (shownAll b p asOf ss) (map (called name) ss))
+sim-gives name b k p asOf [] r ok l low = r
+sim-gives name b k p asOf (s ∷ ss) r ok l low =
+    sim-gives name (give b p asOf s) _ p asOf ss (sim-give name b k p asOf s r ok (l .0) (omega arith)) (ids-give b p asOf s ok (omega arith)) (l .1) (omega (arith, given-give b p asOf s p))
 
-pub shown-all-small : (b : State) (p : ℕ) (ss : List ℕ) → Ids b → b .given p + length ss < enough → All (λ i. i < 18446744073709551616) (shownAll b p ss)
-shown-all-small b p [] ok low = tt
-shown-all-small b p (s ∷ ss) ok low =
-    (shown-small b p s ok (omega arith), shown-all-small (give b p s) p ss (ids-give b p s ok (omega arith)) (omega (arith, given-give b p s p)))
+pub shown-all-small : (b : State) (p asOf : ℕ) (ss : List ℕ) → Ids b → b .given p + length ss < enough → All (λ i. i < 18446744073709551616) (shownAll b p asOf ss)
+shown-all-small b p asOf [] ok low = tt
+shown-all-small b p asOf (s ∷ ss) ok low =
+    (shown-small b p asOf s ok (omega arith), shown-all-small (give b p asOf s) p asOf ss (ids-give b p asOf s ok (omega arith)) (omega (arith, given-give b p asOf s p)))
 
-pub ids-gives : (b : State) (p : ℕ) (ss : List ℕ) → Ids b → b .given p + length ss < enough → Ids (giveAll b p ss)
-ids-gives b p [] ok low = ok
-ids-gives b p (s ∷ ss) ok low = ids-gives (give b p s) p ss (ids-give b p s ok (omega arith)) (omega (arith, given-give b p s p))
+pub ids-gives : (b : State) (p asOf : ℕ) (ss : List ℕ) → Ids b → b .given p + length ss < enough → Ids (giveAll b p asOf ss)
+ids-gives b p asOf [] ok low = ok
+ids-gives b p asOf (s ∷ ss) ok low = ids-gives (give b p asOf s) p asOf ss (ids-give b p asOf s ok (omega arith)) (omega (arith, given-give b p asOf s p))
 
-pub given-gives : (b : State) (p : ℕ) (ss : List ℕ) (q : ℕ) → giveAll b p ss .given q ≤ b .given q + length ss
-given-gives b p [] q = omega arith
-given-gives b p (s ∷ ss) q = omega (arith, given-gives (give b p s) p ss q, given-give b p s q)
+pub given-gives : (b : State) (p asOf : ℕ) (ss : List ℕ) (q : ℕ) → giveAll b p asOf ss .given q ≤ b .given q + length ss
+given-gives b p asOf [] q = omega arith
+given-gives b p asOf (s ∷ ss) q = omega (arith, given-gives (give b p asOf s) p asOf ss q, given-give b p asOf s q)

@@ -1,6 +1,6 @@
 -- The IDs of every peer stay below what it has been given, and every ID has 8 bytes, if frames are bytes.
 -- Assumes nothing.
-use Prim.Native.Nat.{ℕ, _+_, _-_, _*_, _^_, _≤_, _<_}
+use Prim.Native.Nat.{ℕ, _+_, _-_, _*_, _^_, _≤_, _<_, suc}
 use mathlib.Core.Path.{_≡_, refl, sym}
 use mathlib.Core.List.{List, [], _∷_}
 use native.Mathlib.Omega.{arith}
@@ -14,7 +14,7 @@ use Rattle.frames.specs.Legal.{Legal}
 use Rattle.model.specs.Numbers.{slots}
 use Rattle.model.specs.State.{Handle.some, handleOf, Entry, Entry.message, Entry.destroyed, Entry.released, messagesIn, State, slot, freePlace, seedCarries}
 use Rattle.model.specs.Tables.{accept, withStatus, withUser, withHandles, withHandle, withQueues, withCharges, withLives, withSeed}
-use Rattle.model.specs.Changes.{pushAll, takeOut, withdraw, forget, fell, notify, notifyAll, destroyAll, deliver}
+use Rattle.model.specs.Changes.{pushAll, takeOut, withdraw, forget, fell, notify, notifyAll, destroyAll, deliver, settled}
 use Rattle.model.specs.Effects.{opens, creates, destroys, releases, disconnects, receives, effect}
 use Rattle.model.specs.Tested.{Tested}
 use Rattle.model.specs.Notices.{Carried}
@@ -58,9 +58,9 @@ unfolding disconnects notifyAll destroyAll takeOut pushAll withdraw withStatus w
 ids-disconnect b p ok = upd-all (λ q h. IdsAt h (b .given q)) (b .handle) p _ ok (λ s i c e. some-none (sym e))
 
 ids-receives : (b : State) (p : ℕ) (q : List Entry) → Ids b → b .given p + 8 < enough → All (λ m. Carried (m .carried)) (messagesIn q) → Ids (receives b p q)
-unfolding takeOut withCharges withQueues
+unfolding settled takeOut withCharges withQueues
 ids-receives b p [] ok few a = ok
-ids-receives b p (message n m ∷ q) ok few a = ids-gives (takeOut b p (m ∷ []) q) p (m .carried) ok (omega (arith, a .0 .0))
+ids-receives b p (message n m ∷ q) ok few a = ids-gives (takeOut b p (m ∷ []) q) p n (m .carried) ok (omega (arith, a .0 .0))
 ids-receives b p (destroyed n s ∷ q) ok few a = ok
 ids-receives b p (released n s ∷ q) ok few a = ok
 
@@ -89,11 +89,11 @@ ids-command b f (Destroy p i) r l t s = unfold destroys destroyAll pushAll withd
 ids-command b f (Release p i) r l t s =
     let x = held-at-slot b (p .0) (i .0) (t .holds) in
     rw (x .1) (ids-release (accept b) (p .0) (slot b (p .0) (i .0)) (i .0) (x .0) (r .ids) (x .1))
-ids-command b f (Transfer p i q) r l t s = ids-give (accept b) (q .0) (slot b (p .0) (i .0)) (r .ids) (omega (arith, r .few (q .0)))
+ids-command b f (Transfer p i q) r l t s = ids-give (accept b) (q .0) (suc (b .accepted)) (slot b (p .0) (i .0)) (r .ids) (omega (arith, r .few (q .0)))
 ids-command b f (Send p z) r l t s =
     pick-all Ids (eqb (z .nd) 0) _ _ (unfold withSeed deliver pushAll withCharges withQueues in r .ids) (unfold deliver pushAll withCharges withQueues in r .ids)
 ids-command b f (Receive p room) r l t s = ids-receives (accept b) (p .0) (b .queue (p .0)) (r .ids) (r .few (p .0)) (r .carried (p .0))
 ids-command b f (Quota p u) r l t s = r .ids
 ids-command b f (Holders p i) r l t s = r .ids
 ids-command b f (ShowSeed p room) r l t s =
-    ids-gives (accept b) (p .0) (seedCarries (b .seed (p .0))) (r .ids) (omega (arith, r .few (p .0), r .seeds (p .0) .0))
+    ids-gives (accept b) (p .0) (suc (b .accepted)) (seedCarries (b .seed (p .0))) (r .ids) (omega (arith, r .few (p .0), r .seeds (p .0) .0))

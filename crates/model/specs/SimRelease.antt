@@ -1,7 +1,7 @@
 -- Release, destroy, disconnect, open and notices, alike on the bus and in the book.
 -- Assumes nothing.
 use Prim.Native.Nat.{ℕ, _-_, _<_}
-use mathlib.Core.Path.{_≡_, refl, ap}
+use mathlib.Core.Path.{_≡_, refl, ap, _∙_}
 use mathlib.Core.Bool.{Bool, not}
 use mathlib.Core.List.{[], map}
 use native.Mathlib.Omega.{arith}
@@ -13,12 +13,12 @@ use Rattle.laws.specs.Weights.{load-split, keep, keep-map}
 use Rattle.model.specs.Numbers.{nodes}
 use Rattle.model.specs.State.{isLive, Status.disconnected, Handle.none, Handle.some, handleOf, Message, messagesIn, State}
 use Rattle.model.specs.Tables.{withStatus, withUser, withHandles, withHandle, withQueues, withLives, accept}
-use Rattle.model.specs.Changes.{pushAll, takeOut, withdraw, dropped, remains, forget, fell, notify, notifyAll, destroyAll}
+use Rattle.model.specs.Changes.{pushAll, takeOut, withdraw, dropped, remains, forget, fell, notify, notifyAll, destroyAll, settle}
 use Rattle.model.specs.Effects.{opens, destroys, releases, disconnects}
 use Rattle.model.specs.Book.{notedOf, Book, weight, by, putHandle, toDropped, noteOpen, drops, dropFor, noteRelease, dropHandles, noteDisconnect}
 use Rattle.model.specs.Sim.{called, told, Handles, Sim}
 use Rattle.model.specs.SimHandles.{handles-set, one-slot, handles-none}
-use Rattle.model.specs.Quiet.{messages-keep, quiet-accept, quiet-notify, quiet-notifyAll, quiet-destroyAll}
+use Rattle.model.specs.Quiet.{messages-keep, quiet-accept, quiet-notify, quiet-notifyAll, quiet-destroyAll, settle-messages}
 use Rattle.model.specs.SimQueues.{sim-quiet, sim-dropped}
 
 -- One more command is accepted.
@@ -65,15 +65,16 @@ drops-is name apart p s m = rw (eqb-apart name apart (m .to) s)
 pub sim-forget : {N : ℕ} (name : ℕ → ℕ) (b : State) (k : Book) (p s : ℕ) → Sim N name b k → Sim N name (forget b p s) (dropFor k p (called name s))
 unfolding forget dropFor
 sim-forget name b k p s r =
-    let stays : messagesIn (keep (remains p s) (b .queue p)) ≡ keep (λ m. not (dropped p s m)) (messagesIn (b .queue p))
-    = messages-keep (remains p s) (λ m. not (dropped p s m)) (λ n m. refl) (b .queue p) in
+    let left = settle (b .handle p) (keep (remains p s) (b .queue p)) in
+    let stays : messagesIn left ≡ keep (λ m. not (dropped p s m)) (messagesIn (b .queue p))
+    = settle-messages (b .handle p) (keep (remains p s) (b .queue p)) ∙ messages-keep (remains p s) (λ m. not (dropped p s m)) (λ n m. refl) (b .queue p) in
     let out : keep (drops p (called name s)) (k .queue p) ≡ map (told name) (keep (dropped p s) (messagesIn (b .queue p)))
     = rw (r .queues p) (keep-map (told name) (drops p (called name s)) (dropped p s) (messagesIn (b .queue p)) (drops-is name (r .apart) p s)) in
-    let rest : keep (λ m. not (drops p (called name s) m)) (k .queue p) ≡ map (told name) (messagesIn (keep (remains p s) (b .queue p)))
+    let rest : keep (λ m. not (drops p (called name s) m)) (k .queue p) ≡ map (told name) (messagesIn left)
     = rw (r .queues p, stays)
     (keep-map (told name) (λ m. not (drops p (called name s) m)) (λ m. not (dropped p s m)) (messagesIn (b .queue p)) (λ m. ap not (drops-is name (r .apart) p s m))) in
     rw (out, rest)
-    (sim-dropped name b k p (keep (dropped p s) (messagesIn (b .queue p))) (keep (remains p s) (b .queue p)) r
+    (sim-dropped name b k p (keep (dropped p s) (messagesIn (b .queue p))) left r
     (λ u w. rw (← out, ← rest) (load-split (by u) (weight w) (drops p (called name s)) (k .queue p))))
 
 -- Release: the count falls by 1.

@@ -23,7 +23,7 @@ use Rattle.model.specs.Tested.{tested}
 use Rattle.model.specs.Accepted.{Accepted, Came, Came.left, Came.done, came, run-append}
 use Rattle.model.specs.Notices.{Carried, Stands}
 use Rattle.model.specs.NoticesFree.{free-unnamed}
-use Rattle.model.specs.NoticesProof.{noted as always-noted}
+use Rattle.model.specs.NoticesProof.{noted as always-noted, founded}
 use Rattle.model.specs.BoundsProof.{given-bound}
 use Rattle.model.specs.Shown.{transfer-answers, receive-message, receive-shows, receive-destroyed, receive-released, seed-shows}
 use Rattle.model.specs.SimHandles.{handles-none, some-none}
@@ -45,7 +45,7 @@ ready cs ok =
       few = λ p. omega (arith, given-bound cs p);
       carried = λ p. carried-all (run cs) p (run cs .queue p) (always-noted cs .stands p);
       seeds = always-noted cs .seeds;
-      free = λ s. free-unnamed (run cs) s (always-noted cs);
+      free = λ s. free-unnamed (run cs) s (always-noted cs) (founded cs);
     }
 
 -- What an accepted call's answer shows.
@@ -56,7 +56,7 @@ shows-receive b c p room a r [] e = absurd (omega (arith, rw e at (tested b (c .
 shows-receive b c p room a r (message n m ∷ q) e =
     let k = rw e at (r .carried (p .0)) in (
       receive-message b c p room a n m q e,
-      receive-shows b c p room a n m q e (k .0 .0) (shown-all-small (takeOut b (p .0) (m ∷ []) q) (p .0) (m .carried) (r .ids) (omega (arith, r .few (p .0), k .0 .0))),
+      receive-shows b c p room a n m q e (k .0 .0) (shown-all-small (takeOut b (p .0) (m ∷ []) q) (p .0) n (m .carried) (r .ids) (omega (arith, r .few (p .0), k .0 .0))),
     )
 shows-receive b c p room a r (destroyed n s ∷ q) e = receive-destroyed b c p room a n s q e
 shows-receive b c p room a r (released n s ∷ q) e = receive-released b c p room a n s q e
@@ -67,13 +67,13 @@ shows b c (Disconnect p) a r = tt
 shows b c (Create p i) a r = tt
 shows b c (Destroy p i) a r = tt
 shows b c (Release p i) a r = tt
-shows b c (Transfer p i q) a r = transfer-answers b c p i q a (shown-small b (q .0) _ (r .ids) (omega (arith, r .few (q .0))))
+shows b c (Transfer p i q) a r = transfer-answers b c p i q a (shown-small b (q .0) (suc (b .accepted)) _ (r .ids) (omega (arith, r .few (q .0))))
 shows b c (Send p z) a r = tt
 shows b c (Receive p room) a r = shows-receive b c p room a r (b .queue (p .0)) refl
 shows b c (Quota p u) a r = tt
 shows b c (Holders p i) a r = tt
 shows b c (ShowSeed p room) a r =
-    seed-shows b c p room a (r .seeds (p .0) .0) (shown-all-small b (p .0) (seedCarries (b .seed (p .0))) (r .ids) (omega (arith, r .few (p .0), r .seeds (p .0) .0)))
+    seed-shows b c p room a (r .seeds (p .0) .0) (shown-all-small b (p .0) (suc (b .accepted)) (seedCarries (b .seed (p .0))) (r .ids) (omega (arith, r .few (p .0), r .seeds (p .0) .0)))
 
 -- A chosen ID is read from 8 bytes.
 pub small : (c : Call) (k : Command) → Fields (c .frame) k → Small k

@@ -1,6 +1,6 @@
 -- Every accepted command, alike on the bus and in the book.
 -- Assumes nothing.
-use Prim.Native.Nat.{ℕ, _+_, _*_, _<_}
+use Prim.Native.Nat.{ℕ, suc, _+_, _*_, _<_}
 use mathlib.Core.Path.{_≡_, refl, ap, _∙_}
 use mathlib.Core.Bool.{true, false, not}
 use mathlib.Core.List.{List, [], _∷_, map}
@@ -20,14 +20,15 @@ use Rattle.model.specs.Numbers.{slots, invalid, peers}
 use Rattle.model.specs.Requests.{destinations, attached}
 use Rattle.model.specs.State.{isLive, Message, Entry, Entry.message, Entry.destroyed, Entry.released, messagesIn, State, slot, freePlace, counts, Seed, Seed.unset, Seed.kept, seedCarries}
 use Rattle.model.specs.Tables.{accept, withGiven, withHandles, withQueues, withCharges, withSeed}
-use Rattle.model.specs.Changes.{takeOut, withdraw, shown, shownAll, give, giveAll, deliver, reseed}
+use Rattle.model.specs.Changes.{takeOut, withdraw, shown, shownAll, give, giveAll, deliver, reseed, valid, settled}
 use Rattle.model.specs.Effects.{receives, effect}
 use Rattle.model.specs.Book.{Book, answeredId, answersMessage, shownIds, note, noteReceive, noteSend, noteSeed, nodesOf}
 use Rattle.model.specs.Tested.{Tested}
 use Rattle.model.specs.Notices.{Carried, Unnamed}
+use Rattle.model.specs.Quiet.{quiet-settled}
 use Rattle.model.specs.Sim.{told, Sim, called}
-use Rattle.model.specs.SimQueues.{sim-received}
-use Rattle.model.specs.SimGive.{Ids, enough, sim-give, shown-valid, sim-gives}
+use Rattle.model.specs.SimQueues.{sim-received, sim-quiet}
+use Rattle.model.specs.SimGive.{Ids, enough, sim-give, shown-valid, sim-gives, live-valid}
 use Rattle.model.specs.SimRelease.{sim-accept, sim-release, sim-destroy, sim-open, sim-disconnect}
 use Rattle.model.specs.SimCreate.{sim-create}
 use Rattle.model.specs.SimSend.{held-at-slot, noted-at-slot, sim-send, nodes-of-slots}
@@ -35,7 +36,7 @@ use Rattle.model.specs.SimSend.{held-at-slot, noted-at-slot, sim-send, n
 -- What the answer a of an accepted command shows of the bus b before it: a transfer the ID at the destination, a receive its message's IDs, or that it is no message.
 abbrev pub ReceiveShows : State → ℕ → List Entry → List ℕ → Type 0
 ReceiveShows b p [] a = answersMessage a ≡ false
-ReceiveShows b p (message n m ∷ q) a = (answersMessage a ≡ true) × (shownIds a ≡ shownAll (takeOut b p (m ∷ []) q) p (m .carried))
+ReceiveShows b p (message n m ∷ q) a = (answersMessage a ≡ true) × (shownIds a ≡ shownAll (takeOut b p (m ∷ []) q) p n (m .carried))
 ReceiveShows b p (destroyed n s ∷ q) a = answersMessage a ≡ false
 ReceiveShows b p (released n s ∷ q) a = answersMessage a ≡ false
 
@@ -45,12 +46,12 @@ Shows b (Disconnect p) a = Unit {0}
 Shows b (Create p i) a = Unit {0}
 Shows b (Destroy p i) a = Unit {0}
 Shows b (Release p i) a = Unit {0}
-Shows b (Transfer p i q) a = answeredId a ≡ shown b (q .0) (slot b (p .0) (i .0))
+Shows b (Transfer p i q) a = answeredId a ≡ shown b (q .0) (suc (b .accepted)) (slot b (p .0) (i .0))
 Shows b (Send p z) a = Unit {0}
 Shows b (Receive p room) a = ReceiveShows b (p .0) (b .queue (p .0)) a
 Shows b (Quota p u) a = Unit {0}
 Shows b (Holders p i) a = Unit {0}
-Shows b (ShowSeed p room) a = shownIds a ≡ shownAll b (p .0) (seedCarries (b .seed (p .0)))
+Shows b (ShowSeed p room) a = shownIds a ≡ shownAll b (p .0) (suc (b .accepted)) (seedCarries (b .seed (p .0)))
 
 -- What the relation needs to know of the bus: its IDs; that few have been given; that a message carries few slots; that a slot which does not count is named by nothing.
 pub record Ready (b : State) : Type 0 where
@@ -80,17 +81,17 @@ renamed name b k (Holders p i) = name
 renamed name b k (ShowSeed p room) = name
 
 -- The number of accepted commands shows in nothing that a peer is given.
-give-accept : (b : State) (p s : ℕ) → give (accept b) p s ≡ accept (give b p s)
-unfolding give accept shown withdraw withGiven withHandles withQueues
-give-accept b p s = go (look (isLive (b .life s)))
+give-accept : (b : State) (p asOf s : ℕ) → give (accept b) p asOf s ≡ accept (give b p asOf s)
+unfolding give accept valid shown withdraw withGiven withHandles withQueues
+give-accept b p asOf s = go (look (valid b p asOf s))
   where
-    go : Seen (isLive (b .life s)) → give (accept b) p s ≡ accept (give b p s)
+    go : Seen (valid b p asOf s) → give (accept b) p asOf s ≡ accept (give b p asOf s)
     go (is-true e) = rw e
     go (is-false e) = rw e
 
-pub gives-accept : (b : State) (p : ℕ) (ss : List ℕ) → giveAll (accept b) p ss ≡ accept (giveAll b p ss)
-gives-accept b p [] = refl
-gives-accept b p (s ∷ ss) = ap (λ (x : State). giveAll x p ss) (give-accept b p s) ∙ gives-accept (give b p s) p ss
+pub gives-accept : (b : State) (p asOf : ℕ) (ss : List ℕ) → giveAll (accept b) p asOf ss ≡ accept (giveAll b p asOf ss)
+gives-accept b p asOf [] = refl
+gives-accept b p asOf (s ∷ ss) = ap (λ (x : State). giveAll x p asOf ss) (give-accept b p asOf s) ∙ gives-accept (give b p asOf s) p asOf ss
 
 pub out-accept : (b : State) (p : ℕ) (ms : List Message) (q : List Entry) → takeOut (accept b) p ms q ≡ accept (takeOut b p ms q)
 unfolding takeOut accept withCharges withQueues
@@ -98,14 +99,14 @@ out-accept b p ms q = refl
 
 -- Receive: the first message goes to received, and the IDs shown name its nodes.
 sim-receive : {N : ℕ} (name : ℕ → ℕ) (b : State) (k : Book) (p n : ℕ) (m : Message) (q : List Entry) (a : List ℕ) → Sim N name b k → Ready b → b .queue p ≡ message n m ∷ q →
-    Carried (m .carried) → shownIds a ≡ shownAll (takeOut b p (m ∷ []) q) p (m .carried) →
-    Sim N name (giveAll (takeOut (accept b) p (m ∷ []) q) p (m .carried)) (noteReceive k p (shownIds a) (k .queue p))
+    Carried (m .carried) → shownIds a ≡ shownAll (takeOut b p (m ∷ []) q) p n (m .carried) →
+    Sim N name (settled (giveAll (takeOut (accept b) p (m ∷ []) q) p n (m .carried)) p) (noteReceive k p (shownIds a) (k .queue p))
 unfolding takeOut withCharges withQueues
 sim-receive {N} name b k p n m q a r ready e c f =
     let x : k .queue p ≡ told name m ∷ map (told name) (messagesIn q) = rw (r .queues p, e) in
     let t : Sim N name (takeOut b p (m ∷ []) q) _ = sim-received name b k p (m ∷ []) q r (λ u w. rw x (omega arith)) in
-    let g = sim-gives name (takeOut b p (m ∷ []) q) _ p (m .carried) t (ready .ids) (c .1) (omega (arith, ready .few p, c .0)) in
-    rw (out-accept b p (m ∷ []) q, gives-accept (takeOut b p (m ∷ []) q) p (m .carried), x, f) (sim-accept _ g)
+    let g = sim-gives name (takeOut b p (m ∷ []) q) _ p n (m .carried) t (ready .ids) (c .1) (omega (arith, ready .few p, c .0)) in
+    sim-quiet _ _ (rw (out-accept b p (m ∷ []) q, gives-accept (takeOut b p (m ∷ []) q) p n (m .carried), x, f) (sim-accept _ g)) (quiet-settled _ p) (unfold settled withQueues in refl)
 
 received-first : (b : State) (p : ℕ) (q : List Entry) → b .queue p ≡ q → All (λ m. Carried (m .carried)) (messagesIn (b .queue p)) → All (λ m. Carried (m .carried)) (messagesIn q)
 received-first b p q e a = rw e at a
@@ -179,10 +180,11 @@ sim-command name b f (Release p i) k a w ready legal tested shows more =
     rw (x .1) (sim-release name (accept b) k (p .0) (slot b (p .0) (i .0)) (i .0) (x .0) (sim-accept b w) (tested .holds) (unfold accept in x .1))
 sim-command name b f (Transfer p i q) k a w ready legal tested shows more =
     let s = slot b (p .0) (i .0) in
+    let n = suc (b .accepted) in
     let y = noted-at-slot name b k w (p .0) (i .0) (tested .holds) in
-    let v : shown b (q .0) s ≡ invalid → ⊥ = shown-valid name b k (q .0) s w (ready .ids) (tested .holds) (omega (arith, ready .few (q .0))) (tested .lives) in
-    let g = sim-give name b k (q .0) s w (ready .ids) (tested .holds) (omega (arith, ready .few (q .0))) in
-    rw (y .1, shows, give-accept b (q .0) s) (sim-accept (give b (q .0) s) (rw (ne-eqb (shown b (q .0) s) invalid v) at g))
+    let v : shown b (q .0) n s ≡ invalid → ⊥ = shown-valid name b k (q .0) n s w (ready .ids) (tested .holds) (omega (arith, ready .few (q .0))) (live-valid b (q .0) n s (tested .lives)) in
+    let g = sim-give name b k (q .0) n s w (ready .ids) (tested .holds) (omega (arith, ready .few (q .0))) in
+    rw (y .1, shows, give-accept b (q .0) n s) (sim-accept (give b (q .0) n s) (rw (ne-eqb (shown b (q .0) n s) invalid v) at g))
 sim-command {N} name b f (Send p z) k a w ready legal tested shows more = seeded-or (look (eqb (z .nd) 0))
   where
     hs : List ℕ
@@ -204,5 +206,5 @@ sim-command name b f (Holders p i) k a w ready legal tested shows more = w
 sim-command name b f (ShowSeed p room) k a w ready legal tested shows more =
     let ss = seedCarries (b .seed (p .0)) in
     let c = ready .seeds (p .0) in
-    let g = sim-gives name b k (p .0) ss w (ready .ids) (c .1) (omega (arith, ready .few (p .0), c .0)) in
-    rw (gives-accept b (p .0) ss, shows, w .seeds (p .0) (omega (arith, legal))) (sim-accept _ g)
+    let g = sim-gives name b k (p .0) (suc (b .accepted)) ss w (ready .ids) (c .1) (omega (arith, ready .few (p .0), c .0)) in
+    rw (gives-accept b (p .0) (suc (b .accepted)) ss, shows, w .seeds (p .0) (omega (arith, legal))) (sim-accept _ g)

@@ -22,7 +22,7 @@ use Rattle.frames.specs.Frame.{sendId, payloadOf}
 use Rattle.frames.specs.Fields.{fields-command}
 use Rattle.model.specs.Numbers.{slots, nodes}
 use Rattle.model.specs.Lists.{either, any}
-use Rattle.model.specs.State.{Message, Entry, Entry.message, Entry.destroyed, Entry.released, State, start, slot, freePlace}
+use Rattle.model.specs.State.{Life.dead, Message, Entry, Entry.message, Entry.destroyed, Entry.released, State, start, slot, freePlace}
 use Rattle.model.specs.Requests.{destinations, attached}
 use Rattle.model.specs.Tables.{accept}
 use Rattle.model.specs.Step.{Call, step, runFrom, run, answerOf}
@@ -260,6 +260,9 @@ story-run {N} cs (c ∷ ds) w room =
     let x = story-step cs c w (omega arith) in
     rw (append-assoc cs (c ∷ []) ds) at (story-run {N = N} (cs ++ (c ∷ [])) ds x (rw (length-append cs (c ∷ [])) (omega arith)))
 
+first-dead : (k : ℕ) → dead 0 ≡ dead k → 0 ≡ k
+first-dead k e = cc e
+
 story-start : (N : ℕ) → Story N []
 unfolding start empty runFrom historyFrom feedAll feedLedgerAll blankLedger
 story-start N =
@@ -282,6 +285,7 @@ story-start N =
             given = λ p. refl;
             handles = record { same = λ p s. refl; fresh = λ p n l. refl; placed = λ p n e. clash (sym e) };
             lives = record { same = λ s. refl; fresh = λ n l. refl; placed = λ n e. clash (sym e); makers = λ s l. absurd (omega arith) };
+            dates = record { same = λ s k e. first-dead k e; entered = λ s k e. absurd (omega (arith, first-dead (suc k) e)) };
             queues = λ p. refl;
             seeds = λ p l. refl;
           };

@@ -1,6 +1,6 @@
 -- "peer never opened", "that peer disconnected", "open of an open peer": how a peer stands, by the frames that came back with 0 and nothing else.
 -- Assumes nothing.
-use Prim.Native.Nat.{ℕ, _-_}
+use Prim.Native.Nat.{ℕ, suc, _-_}
 use mathlib.Core.Path.{_≡_, refl, ap, _∙_}
 use mathlib.Core.Bool.{Bool}
 use mathlib.Core.List.{List, [], _∷_}
@@ -14,7 +14,7 @@ use Rattle.frames.specs.Frame.{opcode}
 use Rattle.model.specs.Lists.{both}
 use Rattle.model.specs.State.{Status, Status.unopened, Status.opened, Status.disconnected, Handle, Handle.none, Handle.some, handleOf, Entry, Entry.message, Entry.destroyed, Entry.released, State, start, slot, seedCarries}
 use Rattle.model.specs.Tables.{accept, withStatus, withUser, withHandles, withHandle, withQueues, withCharges, withLives, withSeed}
-use Rattle.model.specs.Changes.{pushAll, takeOut, withdraw, give, forget, notifyAll, destroyAll, deliver, giveAll}
+use Rattle.model.specs.Changes.{pushAll, takeOut, withdraw, give, settled, forget, notifyAll, destroyAll, deliver, giveAll}
 use Rattle.model.specs.Effects.{opens, creates, destroys, releases, releasesHandle, disconnects, receives, effect}
 use Rattle.model.specs.Step.{Call, step, runFrom, run}
 use Rattle.model.specs.Book.{Fed, actingPeer}
@@ -55,9 +55,9 @@ release-status b p s (some i c) =
     ∙ pick-all (λ (y : State). y .status ≡ b .status) (eqb c 1) (forget less p s) less (unfold forget takeOut withCharges withQueues withHandles in refl) (unfold withHandles in refl)
 
 receive-status : (b : State) (p : ℕ) (q : List Entry) → receives (accept b) p q .status ≡ b .status
-unfolding accept takeOut withCharges withQueues
+unfolding settled accept takeOut withCharges withQueues
 receive-status b p [] = refl
-receive-status b p (message n m ∷ q) = quiet-giveAll (takeOut (accept b) p (m ∷ []) q) p (m .carried) .status
+receive-status b p (message n m ∷ q) = quiet-giveAll (takeOut (accept b) p (m ∷ []) q) p n (m .carried) .status
 receive-status b p (destroyed n s ∷ q) = refl
 receive-status b p (released n s ∷ q) = refl
 
@@ -70,7 +70,8 @@ stood-effect b f (Create q i) p = unfold creates withHandles withLives accept in
 stood-effect b f (Destroy q i) p = unfold destroys destroyAll pushAll withQueues withLives withdraw accept in refl
 stood-effect b f (Release q i) p = ap (λ (g : ℕ → Status). g p) (release-status b (q .0) (slot b (q .0) (i .0)) (b .handle (q .0) (slot b (q .0) (i .0))))
 stood-effect b f (Transfer q i t) p =
-    let e : give (accept b) (t .0) (slot b (q .0) (i .0)) .status ≡ b .status = unfold accept in quiet-give (accept b) (t .0) (slot b (q .0) (i .0)) .status in
+    let n = suc (b .accepted) in
+    let e : give (accept b) (t .0) n (slot b (q .0) (i .0)) .status ≡ b .status = unfold accept in quiet-give (accept b) (t .0) n (slot b (q .0) (i .0)) .status in
     ap (λ (g : ℕ → Status). g p) e
 stood-effect b f (Send q z) p =
     pick-all (λ (y : State). y .status p ≡ b .status p) (eqb (z .nd) 0) _ _ (unfold withSeed deliver withCharges pushAll withQueues accept in refl)
@@ -79,7 +80,9 @@ stood-effect b f (Receive q room) p = ap (λ (g : ℕ → Status). g p) (receive
 stood-effect b f (Quota q u) p = refl
 stood-effect b f (Holders q i) p = refl
 stood-effect b f (ShowSeed q room) p =
-    let e : giveAll (accept b) (q .0) (seedCarries (b .seed (q .0))) .status ≡ b .status = unfold accept in quiet-giveAll (accept b) (q .0) (seedCarries (b .seed (q .0))) .status in
+    let n = suc (b .accepted) in
+    let ss = seedCarries (b .seed (q .0)) in
+    let e : giveAll (accept b) (q .0) n ss .status ≡ b .status = unfold accept in quiet-giveAll (accept b) (q .0) n ss .status in
     ap (λ (g : ℕ → Status). g p) e
 
 stood-call : (b : State) (c : Call) (p : ℕ) → step b c .state .status p ≡ standsAfter (b .status p) (fed c (step b c)) p

@@ -3,13 +3,13 @@
 use Prim.Native.Nat.{ℕ, zero, suc, _+_, _*_}
 use mathlib.Core.Bool.{Bool, true, false, not}
 use mathlib.Core.List.{List, [], _∷_, map}
-use lib.Dec.{eqb}
+use lib.Dec.{eqb, ltb}
 use Rattle.laws.specs.Sums.{sumTo}
 use Rattle.laws.specs.Search.{first}
 use Rattle.quota.specs.declared.Charges.{Charges}
 use Rattle.quota.specs.Charges.{users, freshCharges}
 use Rattle.model.specs.Numbers.{peers, slots, nodes, owner}
-use Rattle.model.specs.Lists.{either, any, anyBelow, rising}
+use Rattle.model.specs.Lists.{both, either, any, anyBelow, rising}
 
 -- A peer was never opened, is open, or has disconnected.
 pub data Status : Type 0 where
@@ -21,6 +21,11 @@ pub data Status : Type 0 where
 pub data Life : Type 0 where
   live : Life
   dead : ℕ → Life
+
+-- The node was not yet destroyed when the command n was accepted: "invalid only if the destruction came before the message".
+abbrev pub livedAt : ℕ → Life → Bool
+livedAt n live = true
+livedAt n (dead k) = ltb n k
 
 abbrev pub isLive : Life → Bool
 isLive live = true
@@ -72,6 +77,16 @@ messagesIn [] = []
 messagesIn (message n m ∷ q) = m ∷ messagesIn q
 messagesIn (destroyed n s ∷ q) = messagesIn q
 messagesIn (released n s ∷ q) = messagesIn q
+
+-- "an earlier queued message that carries the node": one that was queued before the command n.
+abbrev pub earlier : ℕ → ℕ → Entry → Bool
+earlier n s (message k m) = both (ltb k n) (any (eqb s) (m .carried))
+earlier n s (destroyed k t) = false
+earlier n s (released k t) = false
+
+-- A peer with the handles h and the queue q is told that the command n destroyed the node s: it holds a handle, or an earlier message carries the node.
+abbrev pub concerned : (ℕ → Handle) → List Entry → ℕ → ℕ → Bool
+concerned h q n s = either (held (h s)) (any (earlier n s) q)
 
 -- A peer's seed (02 No. 1): none was set, or its payload bytes and the slots of its attached handles.
 pub data Seed : Type 0 where

@@ -17,7 +17,7 @@ use Rattle.model.specs.Lists.{least, rising}
 use Rattle.model.specs.State.{start, slotOf, total, heldByAny, named, counts, freePlace, byOwnerId, seeded}
 use Rattle.model.specs.Refusals.{placesAt, fits, refusesOpen, refusesDisconnect, refusesCreate, refusesDestroy, refusesRelease, refusesTransfer, refusesSend, refusesReceive, refusesQuota, refusesHolders, refusal, refusesSeed}
 use Rattle.model.specs.Tables.{withStatus, withUser, withGiven, withHandles, withQueues, withCharges, withLives, accept, withSeed}
-use Rattle.model.specs.Changes.{pushAll, takeOut, withdraw, shown, give, forget, fell, notify, arriving, deliver}
+use Rattle.model.specs.Changes.{pushAll, takeOut, withdraw, shown, give, forget, fell, notify, arriving, deliver, valid, settle, settled}
 use Rattle.model.specs.Effects.{opens, creates, releases, effect}
 use Rattle.model.specs.Replies.{showsMessage, reply}
 use Rattle.model.specs.Scripts.{opening, create, release, send, receive, transfer, quota, number, gives, queuedAndLeft, takes, Row, Row.played, Row.ruled, computed, expected, five, two, second, empties, done}
@@ -74,5 +74,5 @@ abbrev pub table : List Row
 table = M1-M4 ∷ M5 ∷ M6 ∷ M7-30 ∷ M7-31 ∷ M8 ∷ M9 ∷ M10 ∷ S ∷ []
 
 pub marks : All (λ r. computed r ≡ expected r) table
-unfolding upd sumTo build first be numAt idAt shortAt parseSizes parseSend frameLength parseOpen parseCreate parseTransfer parseQuota parseRest parseOther parse sendId payloadOf othersAll allowsAll balanceOf idBytes headerBytes messageBytes noticeBytes receivedBytes chargeBytes balanceBytes holderBytes contentsOf answerBytes answerAfter outcomeOf least rising start slotOf total heldByAny named seeded counts freePlace byOwnerId placesAt fits refusesOpen refusesDisconnect refusesCreate refusesDestroy refusesRelease refusesTransfer refusesSend refusesReceive refusesQuota refusesHolders refusesSeed refusal withStatus withUser withGiven withHandles withQueues withCharges withSeed withLives accept pushAll takeOut withdraw shown give forget fell notify arriving deliver opens creates releases effect showsMessage reply carryOut finish step answersFrom
+unfolding upd sumTo build first be numAt idAt shortAt parseSizes parseSend frameLength parseOpen parseCreate parseTransfer parseQuota parseRest parseOther parse sendId payloadOf othersAll allowsAll balanceOf idBytes headerBytes messageBytes noticeBytes receivedBytes chargeBytes balanceBytes holderBytes contentsOf answerBytes answerAfter outcomeOf least rising start slotOf total heldByAny named seeded counts freePlace byOwnerId placesAt fits refusesOpen refusesDisconnect refusesCreate refusesDestroy refusesRelease refusesTransfer refusesSend refusesReceive refusesQuota refusesHolders refusesSeed refusal withStatus withUser withGiven withHandles withQueues withCharges withSeed withLives accept pushAll takeOut withdraw valid shown give settle settled forget fell notify arriving deliver opens creates releases effect showsMessage reply carryOut finish step answersFrom
 marks = (refl, (refl, (refl, (refl, (refl, (refl, (refl, (refl, (refl, tt)))))))))

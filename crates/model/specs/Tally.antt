@@ -42,14 +42,14 @@ counted-effect b f (Disconnect p) = unfold withSeed disconnects notifyAll pushAl
 counted-effect b f (Create p i) = unfold creates withHandles withLives accept in refl
 counted-effect b f (Destroy p i) = unfold destroys destroyAll pushAll withQueues withLives withdraw accept in refl
 counted-effect b f (Release p i) = release-count b (p .0) (slot b (p .0) (i .0)) (b .handle (p .0) (slot b (p .0) (i .0)))
-counted-effect b f (Transfer p i q) = unfold accept in give-accepted (accept b) (q .0) (slot b (p .0) (i .0))
+counted-effect b f (Transfer p i q) = unfold accept in give-accepted (accept b) (q .0) (suc (b .accepted)) (slot b (p .0) (i .0))
 counted-effect b f (Send p z) =
     pick-all (λ (y : State). y .accepted ≡ suc (b .accepted)) (eqb (z .nd) 0) _ _ (unfold withSeed deliver withCharges pushAll withQueues accept in refl)
     (unfold deliver withCharges pushAll withQueues accept in refl)
 counted-effect b f (Receive p room) = receive-count b (p .0) (b .queue (p .0))
 counted-effect b f (Quota p u) = refl
 counted-effect b f (Holders p i) = refl
-counted-effect b f (ShowSeed p room) = unfold accept in gives-accepted (accept b) (p .0) (seedCarries (b .seed (p .0)))
+counted-effect b f (ShowSeed p room) = unfold accept in gives-accepted (accept b) (p .0) (suc (b .accepted)) (seedCarries (b .seed (p .0)))
 
 counted-call : (b : State) (c : Call) → step b c .state .accepted ≡ pick (isCounted (fed c (step b c))) (suc (b .accepted)) (b .accepted)
 counted-call b c = go (came b c)

@@ -12,21 +12,21 @@ use Rattle.frames.specs.declared.Command.the-variants.{Open, Disconnect, Create
 use Rattle.model.specs.Numbers.{owner}
 use Rattle.model.specs.State.{isLive, Handle, Handle.none, Handle.some, handleOf, Entry, Entry.message, Entry.destroyed, Entry.released, State, slot, seedCarries, Seed.kept}
 use Rattle.model.specs.Tables.{accept, withStatus, withUser, withGiven, withHandles, withHandle, withQueues, withCharges, withLives, withSeed}
-use Rattle.model.specs.Changes.{push, pushAll, takeOut, withdraw, give, giveAll, forget, fell, notify, notifyAll, destroyAll, deliver}
+use Rattle.model.specs.Changes.{push, pushAll, takeOut, withdraw, give, giveAll, forget, fell, notify, notifyAll, destroyAll, deliver, valid, settled}
 use Rattle.model.specs.Effects.{opens, creates, destroys, releases, releasesHandle, disconnects, receives, effect}
 
 -- A handle that is given leaves the number of commands.
-pub give-accepted : (x : State) (p s : ℕ) → give x p s .accepted ≡ x .accepted
+pub give-accepted : (x : State) (p asOf s : ℕ) → give x p asOf s .accepted ≡ x .accepted
 unfolding give withdraw withHandles withGiven withQueues
-give-accepted x p s = go (look (isLive (x .life s)))
+give-accepted x p asOf s = go (look (valid x p asOf s))
   where
-    go : Seen (isLive (x .life s)) → give x p s .accepted ≡ x .accepted
+    go : Seen (valid x p asOf s) → give x p asOf s .accepted ≡ x .accepted
     go (is-true e) = rw e refl
     go (is-false e) = rw e refl
 
-pub gives-accepted : (x : State) (p : ℕ) (ss : List ℕ) → giveAll x p ss .accepted ≡ x .accepted
-gives-accepted x p [] = refl
-gives-accepted x p (s ∷ ss) = gives-accepted (give x p s) p ss ∙ give-accepted x p s
+pub gives-accepted : (x : State) (p asOf : ℕ) (ss : List ℕ) → giveAll x p asOf ss .accepted ≡ x .accepted
+gives-accepted x p asOf [] = refl
+gives-accepted x p asOf (s ∷ ss) = gives-accepted (give x p asOf s) p asOf ss ∙ give-accepted x p asOf s
 
 -- A release notice changes queues alone.
 pub record Apart (x y : State) : Type 0 where
@@ -55,9 +55,9 @@ release-count b p s (some i c) =
     ∙ pick-all (λ y. y .accepted ≡ suc (b .accepted)) (eqb c 1) (forget less p s) less (unfold forget takeOut withCharges withQueues withHandles in refl) (unfold withHandles in refl)
 
 pub receive-count : (b : State) (p : ℕ) (q : List Entry) → receives (accept b) p q .accepted ≡ suc (b .accepted)
-unfolding accept takeOut withCharges withQueues
+unfolding settled accept takeOut withCharges withQueues
 receive-count b p [] = refl
-receive-count b p (message n m ∷ q) = gives-accepted (takeOut (accept b) p (m ∷ []) q) p (m .carried)
+receive-count b p (message n m ∷ q) = gives-accepted (takeOut (accept b) p (m ∷ []) q) p n (m .carried)
 receive-count b p (destroyed n s ∷ q) = refl
 receive-count b p (released n s ∷ q) = refl
 
@@ -69,7 +69,7 @@ effect-count b f (Disconnect p) =
 effect-count b f (Create p i) = one-more (unfold creates withHandles withLives accept in refl)
 effect-count b f (Destroy p i) = one-more (unfold destroys destroyAll pushAll withQueues withLives withdraw accept in refl)
 effect-count b f (Release p i) = one-more (release-count b (p .0) (slot b (p .0) (i .0)) (b .handle (p .0) (slot b (p .0) (i .0))))
-effect-count b f (Transfer p i q) = one-more (unfold accept in give-accepted (accept b) (q .0) (slot b (p .0) (i .0)))
+effect-count b f (Transfer p i q) = one-more (unfold accept in give-accepted (accept b) (q .0) (suc (b .accepted)) (slot b (p .0) (i .0)))
 effect-count b f (Send p z) =
     one-more (pick-all (λ y. y .accepted ≡ suc (b .accepted)) (eqb (z .nd) 0)
     (withSeed (deliver (accept b) (b .user (p .0)) (map (slot b (p .0)) (destinations f z)) (map (slot b (p .0)) (attached f z)) (payloadOf f)) (p .0) (kept (payloadOf f) (map (slot b (p .0)) (attached f z)))) (deliver (accept b) (b .user (p .0)) (map (slot b (p .0)) (destinations f z)) (map (slot b (p .0)) (attached f z)) (payloadOf f))
@@ -77,4 +77,4 @@ effect-count b f (Send p z) =
 effect-count b f (Receive p room) = one-more (receive-count b (p .0) (b .queue (p .0)))
 effect-count b f (Quota p u) = nothing refl
 effect-count b f (Holders p i) = nothing refl
-effect-count b f (ShowSeed p room) = one-more (unfold accept in gives-accepted (accept b) (p .0) (seedCarries (b .seed (p .0))))
+effect-count b f (ShowSeed p room) = one-more (unfold accept in gives-accepted (accept b) (p .0) (suc (b .accepted)) (seedCarries (b .seed (p .0))))

@@ -16,27 +16,30 @@ use Rattle.laws.specs.Weights.{All, all-imp, load}
 use Rattle.laws.specs.Loads.{all-map}
 use Rattle.frames.specs.Frame.{mostIds}
 use Rattle.model.specs.Numbers.{owner}
-use Rattle.model.specs.State.{held, Entry, Entry.message as messageEntry, Entry.destroyed as destroyedEntry, Entry.released as releasedEntry, total}
+use Rattle.model.specs.State.{isLive, held, Entry, Entry.message as messageEntry, Entry.destroyed as destroyedEntry, Entry.released as releasedEntry, total}
 use Rattle.model.specs.Step.{Call, run}
 use Rattle.model.specs.Book.{Fed}
 use Rattle.model.specs.Notices.{Stands, noticeFor, noticesFor}
-use Rattle.model.specs.NoticesProof.{noted as always-noted}
+use Rattle.model.specs.Changes.{stays}
+use Rattle.model.specs.NoticesProof.{noted as always-noted, founded}
 use Rattle.model.specs.QueuesLaws.{In, all-behind}
 use Rattle.model.specs.Sim.{called}
 use Rattle.model.specs.SimRelease.{eqb-apart}
 use Rattle.model.specs.Sources.{Story, story}
-use Rattle.model.specs.Ledger.{Item, Item.message, Item.destroyed, Item.released, Ledger, ledgerAfter}
+use Rattle.model.specs.Ledger.{Item, Item.message, Item.destroyed, Item.released, Ledger, isTold, ledgerAfter}
 use Rattle.model.specs.LedgerSim.{itemOf, total-named}
+use Rattle.model.specs.LedgerGive.{told-named}
 use Rattle.model.specs.Rows.{ledgerOf}
 use Rattle.model.specs.Happened.{Happened, happened-front}
 use Rattle.model.specs.Waits.{LapsedIn}
 
 -- A message: its destination is the peer's own node, and the peer holds it ("until the owner's handle is gone; then they are dropped"); "0 to 8 attached handles".
--- A destroy notice: the node is dead, and the peer holds it ("Destroy queues a notice at every holder"; "A notice is withdrawn when its holder's handle goes").
+-- A destroy notice: the command that queued it destroyed the node, and the peer holds it or an earlier message that waits carries it ("a destruction also queues a notice at each peer with an
+-- earlier queued message that carries the node"; "withdrawn as soon as the peer holds no handle and no earlier message carrying the node is left").
 -- A release notice: the node is the peer's own, held, it lives, and its sum of counts is 1 ("It is withdrawn if the sum rises or the node is destroyed").
 abbrev pub StandsIn : Ledger → ℕ → Item → Type 0
 StandsIn l p (message k m) = (m .to .owner ≡ p) × (held (l .handle p (m .to .number)) ≡ true) × (length (m .carried) ≤ mostIds)
-StandsIn l p (destroyed k n) = (l .lives (n .number) ≡ false) × (held (l .handle p (n .number)) ≡ true)
+StandsIn l p (destroyed k n) = (l .lives (n .number) ≡ false) × (l .died (n .number) ≡ k) × (isTold (l .handle p) (l .queue p) k (n .number) ≡ true)
 StandsIn l p (released k n) = (l .lives (n .number) ≡ true) × (n .owner ≡ p) × (total (l .handle) (n .number) ≡ 1) × (held (l .handle p (n .number)) ≡ true)
 
 -- The notices of a node, of either kind.
@@ -61,15 +64,25 @@ LapsedLeaves =
     (xs : List Fed) (x : Fed) → Happened (xs ++ (x ∷ [])) → (p : ℕ) (e : Item) → In e (ledgerOf xs .queue p) →
     LapsedIn (ledgerOf xs) (ledgerOf (xs ++ (x ∷ []))) p e → In e (ledgerOf (xs ++ (x ∷ [])) .queue p) → ⊥
 
+all-imp2 : {A : Type 0} (P Q R : A → Type 0) → ((x : A) → P x → Q x → R x) → (xs : List A) → All P xs → All Q xs → All R xs
+all-imp2 P Q R h [] a b = tt
+all-imp2 P Q R h (x ∷ xs) a b = (h x (a .0) (b .0), all-imp2 P Q R h xs (a .1) (b .1))
+
 module _ (cs : List Call) (p : ℕ) where
   w : Story (length cs) cs
   w = story (length cs) cs (omega arith)
 
-  stands-in : (e : Entry) → Stands (run cs .handle) (run cs .life) p e → StandsIn (ledgerAfter cs) p (itemOf (w .name) e)
-  stands-in (messageEntry k m) h =
+  stands-in : (e : Entry) → Stands (run cs .handle) (run cs .life) p e → stays (run cs .handle p) (run cs .queue p) e ≡ true → StandsIn (ledgerAfter cs) p (itemOf (w .name) e)
+  stands-in (messageEntry k m) h f =
       (h .0, ap held (w .follows .handles .same p (m .to)) ∙ h .1, rw (length-map (m .carried) (called (w .name))) (h .2 .0))
-  stands-in (destroyedEntry k s) h = (w .follows .lives .same s ∙ h .0, ap held (w .follows .handles .same p s) ∙ h .1)
-  stands-in (releasedEntry k s) h = (
+  stands-in (destroyedEntry k s) h f = (
+    w .follows .lives .same s ∙ ap isLive (h .0),
+    w .follows .dates .same s k (h .0),
+    ap (λ (q : List Item). isTold (ledgerAfter cs .handle p) q k (w .name s)) (w .follows .queues p)
+        ∙ told-named (w .name) (w .sim .apart) (ledgerAfter cs .handle p) (run cs .handle p) (w .follows .handles .same p) k s (run cs .queue p)
+        ∙ f,
+  )
+  stands-in (releasedEntry k s) h f = (
     w .follows .lives .same s ∙ h .0,
     h .1,
     total-named (w .follows .handles) s ∙ h .2,
@@ -117,7 +130,8 @@ module _ (cs : List Call) (p : ℕ) where
         stands =
             rw (w .follows .queues p)
             (all-map (StandsIn (ledgerAfter cs) p) (itemOf (w .name)) (run cs .queue p)
-            (all-imp (Stands (run cs .handle) (run cs .life) p) (λ e. StandsIn (ledgerAfter cs) p (itemOf (w .name) e)) stands-in (run cs .queue p) (always-noted cs .stands p)));
+            (all-imp2 (Stands (run cs .handle) (run cs .life) p) (λ e. stays (run cs .handle p) (run cs .queue p) e ≡ true) (λ e. StandsIn (ledgerAfter cs) p (itemOf (w .name) e)) stands-in
+            (run cs .queue p) (always-noted cs .stands p) (founded cs p)));
         once = λ n. rw (w .follows .queues p) (at-most-one n);
       }
 
@@ -127,7 +141,7 @@ waiting-in xs h p = rw (h .same) at (waiting-at (h .calls) p)
 -- What lapsed does not stand.
 lapsed-falls : (l k : Ledger) (p : ℕ) (e : Item) → StandsIn l p e → LapsedIn l k p e → StandsIn k p e → ⊥
 lapsed-falls l k p (message j m) s z t = clash (sym (t .1) ∙ z)
-lapsed-falls l k p (destroyed j n) s z t = clash (sym (t .1) ∙ z)
+lapsed-falls l k p (destroyed j n) s z t = clash (sym (t .2) ∙ rw (z .0, z .1) refl)
 lapsed-falls l k p (released j n) s (inl z) t = clash (sym (t .3) ∙ z)
 lapsed-falls l k p (released j n) s (inr (inl z)) t = omega (arith, s .2, t .2)
 lapsed-falls l k p (released j n) s (inr (inr z)) t = clash (sym (t .0) ∙ z)

@@ -10,10 +10,10 @@ use lib.ListN.{length}
 use lib.Dec.{eqb}
 use Rattle.laws.specs.Tests.{pick}
 use Rattle.frames.specs.Frame.{opcode}
-use Rattle.model.specs.Lists.{both}
+use Rattle.model.specs.Lists.{both, any}
 use Rattle.model.specs.State.{held, total}
 use Rattle.model.specs.Book.{Fed, actingPeer}
-use Rattle.model.specs.Ledger.{Item, Item.message, Item.destroyed, Item.released, Ledger, itemNumber}
+use Rattle.model.specs.Ledger.{Item, Item.message, Item.destroyed, Item.released, Ledger, brings, itemNumber}
 use Rattle.model.specs.Queues.{Later, front}
 use Rattle.model.specs.QueuesLaws.{In}
 use Rattle.model.specs.InPlace.{CameOut}
@@ -37,11 +37,11 @@ takenIn xs [] p = []
 takenIn xs (x ∷ ys) p = pick (receivesAt p x) (front (ledgerOf xs .queue p)) [] ++ takenIn (xs ++ (x ∷ [])) ys p
 
 -- Why an item leaves the queue of p unreceived, from the ledger l before an exchange to the ledger k after it. A message is dropped:
--- "Queued messages for the node are still delivered, until the owner's handle is gone; then they are dropped." "A notice is withdrawn when its holder's handle goes";
--- a release notice also "if the sum rises or the node is destroyed".
+-- "Queued messages for the node are still delivered, until the owner's handle is gone; then they are dropped." A destroy notice "is now withdrawn as soon as the peer holds no handle and no
+-- earlier message carrying the node is left" (02 No. 2); a release notice when the handle goes, and "if the sum rises or the node is destroyed".
 abbrev pub LapsedIn : Ledger → Ledger → ℕ → Item → Type 0
 LapsedIn l k p (message j m) = held (k .handle p (m .to .number)) ≡ false
-LapsedIn l k p (destroyed j n) = held (k .handle p (n .number)) ≡ false
+LapsedIn l k p (destroyed j n) = (held (k .handle p (n .number)) ≡ false) × (any (brings j (n .number)) (k .queue p) ≡ false)
 LapsedIn l k p (released j n) =
     (held (k .handle p (n .number)) ≡ false) ⊎ ((total (l .handle) (n .number) < total (k .handle) (n .number)) ⊎ (k .lives (n .number) ≡ false))
 

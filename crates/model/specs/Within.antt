@@ -12,7 +12,7 @@ use Rattle.frames.specs.declared.Sizes.{Sizes}
 use Rattle.frames.specs.declared.Command.the-variants.{Disconnect, Send}
 use Rattle.model.specs.Numbers.{peers, owner}
 use Rattle.model.specs.Lists.{any}
-use Rattle.model.specs.State.{Handle, held, Entry, Entry.message, Entry.destroyed, Entry.released, State, ownerId, total}
+use Rattle.model.specs.State.{Handle, held, Entry, Entry.message, Entry.destroyed, Entry.released, State, ownerId, total, concerned}
 use Rattle.model.specs.Step.{Call, step, run}
 use Rattle.model.specs.Tested.{Lives}
 use Rattle.model.specs.Accepted.{Accepted}
@@ -36,9 +36,9 @@ SendOrder =
     (cs : List Call) (c : Call) (p : Peer) (z : Sizes) → Accepted (run cs) c (Send p z) → (q : ℕ) →
     step (run cs) c .state .queue q ≡ run cs .queue q ++ keep (isAt q) (sentBy (run cs) (c .frame) (Send p z))
 
--- A disconnect of p, from b to a, at another peer q: notices of the nodes of p that lived and that q holds; then of the nodes of q that fell to the sum 1.
+-- A disconnect of p, from b to a, at another peer q: notices of the nodes of p that lived and that q holds, or an earlier message carries to q; then of the nodes of q that fell to the sum 1.
 abbrev pub DestroyNoticed : State → ℕ → ℕ → ℕ → Type 0
-DestroyNoticed b p q s = (owner s ≡ p) × Lives b s × (held (b .handle q s) ≡ true)
+DestroyNoticed b p q s = (owner s ≡ p) × Lives b s × (concerned (b .handle q) (b .queue q) (suc (b .accepted)) s ≡ true)
 
 abbrev pub ReleaseNoticed : State → State → ℕ → ℕ → Type 0
 ReleaseNoticed b a q s = (owner s ≡ q) × Lives a s × (1 < total (b .handle) s) × (total (a .handle) s ≡ 1)

@@ -13,7 +13,7 @@ use Rattle.frames.specs.declared.Command.the-variants.{Disconnect}
 use Rattle.frames.specs.Frame.{payloadOf}
 use Rattle.model.specs.Numbers.{peers, owner}
 use Rattle.model.specs.Lists.{both}
-use Rattle.model.specs.State.{isLive, Handle, Handle.none, Handle.some, held, idOr, Entry, Entry.message, Entry.destroyed, Entry.released, messagesIn, State, Status.disconnected, ownerId, total, slot, byOwnerId, Seed, Seed.unset}
+use Rattle.model.specs.State.{isLive, Handle, Handle.none, Handle.some, held, idOr, Entry, Entry.message, Entry.destroyed, Entry.released, messagesIn, State, Status.disconnected, ownerId, total, slot, byOwnerId, Seed, Seed.unset, concerned}
 use Rattle.model.specs.Requests.{destinations, attached}
 use Rattle.model.specs.Tables.{accept, withStatus, withHandles, withQueues, withCharges, withLives, withSeed}
 use Rattle.model.specs.Changes.{pushAll, takeOut, withdraw, fell, releaseNotices, notifyAll, destroyNotices, destroyAll, arriving, deliver, reseed}
@@ -24,7 +24,7 @@ use Rattle.model.specs.Occurs.{both-true}
 use Rattle.model.specs.Rising.{owner-sorted, owner-pass}
 use Rattle.model.specs.RisingAll.{owner-all}
 use Rattle.model.specs.NoticesQueues.{fell-facts}
-use Rattle.model.specs.NoticesProof.{noted, noted-kept}
+use Rattle.model.specs.NoticesProof.{noted, noted-kept, founded}
 use Rattle.model.specs.IdsLaws.{Holding}
 use Rattle.model.specs.IdsProof.{ids-kept, holding}
 use Rattle.model.specs.Within.{ById, isAt, SendOrder, DestroyNoticed, ReleaseNoticed, AtDisconnect, DisconnectOrder, DisconnectEmpties}
@@ -100,8 +100,8 @@ at-disconnect b p q v w l n =
       released-slots = byOwnerId (a .handle) q falls;
       queue = disconnect-queue b p q l n ∙ ap (λ (x : List Entry). b .queue q ++ x) notices;
       destroyed-by-id =
-          by-id b p dies (DestroyNoticed b p q) v (λ s e o. let x = both-true (isLive (b .life s)) (held (b .handle q s)) e in (o, x .0, x .1))
-          (λ s z. (rw (z .1, z .2) refl, z .0)) (λ s e. both-true (isLive (b .life s)) (held (b .handle q s)) e .0);
+          by-id b p dies (DestroyNoticed b p q) v (λ s e o. let x = both-true (isLive (b .life s)) (concerned (b .handle q) (b .queue q) (suc (b .accepted)) s) e in (o, x .0, x .1))
+          (λ s z. (rw (z .1, z .2) refl, z .0)) (λ s e. both-true (isLive (b .life s)) (concerned (b .handle q) (b .queue q) (suc (b .accepted)) s) e .0);
       released-by-id = by-id a q falls (ReleaseNoticed b a q) w into out (λ s e. both-true (isLive (a .life s)) _ e .0);
     }
   where
@@ -109,7 +109,7 @@ at-disconnect b p q v w l n =
     a = disconnects (accept b) p
 
     dies : ℕ → Bool
-    dies s = both (isLive (b .life s)) (held (b .handle q s))
+    dies s = both (isLive (b .life s)) (concerned (b .handle q) (b .queue q) (suc (b .accepted)) s)
 
     falls : ℕ → Bool
     falls s = both (isLive (a .life s)) (both (ltb 1 (total (b .handle) s)) (eqb (total (a .handle) s) 1))
@@ -145,7 +145,7 @@ disconnect-order cs c p a q l n =
     let w : Holding (disconnects (accept (run cs)) (p .0)) =
     unfold withSeed in record {
       handles = ids-kept (run cs) (c .frame) (Disconnect p) v (noted cs) (a .legal) (a .unrefused);
-      owned = noted-kept (run cs) (c .frame) (Disconnect p) (noted cs) (a .legal) (a .unrefused) .owned;
+      owned = noted-kept (run cs) (c .frame) (Disconnect p) (noted cs) (founded cs) (a .legal) (a .unrefused) .owned;
     } in
     rw (a .after) (dropped-seed (run cs) (p .0) q (at-disconnect (run cs) (p .0) q v w l n))
 

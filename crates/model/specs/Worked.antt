@@ -23,7 +23,7 @@ use Rattle.model.specs.Resources.{Resource, Resource.messages, Resource.
 use Rattle.model.specs.State.{start, slotOf, total, heldByAny, named, counts, freePlace, seeded}
 use Rattle.model.specs.Refusals.{placesAt, fits, refusesOpen, refusesCreate, refusesTransfer, refusesSend, refusesReceive, refusal}
 use Rattle.model.specs.Tables.{withStatus, withUser, withGiven, withHandles, withQueues, withCharges, withLives, accept, withSeed}
-use Rattle.model.specs.Changes.{pushAll, takeOut, withdraw, shown, give, arriving, deliver}
+use Rattle.model.specs.Changes.{pushAll, takeOut, withdraw, shown, give, arriving, deliver, valid, settle, settled}
 use Rattle.model.specs.Effects.{opens, creates, effect}
 use Rattle.model.specs.Replies.{showsMessage, reply}
 use Rattle.model.specs.Step.{Call, carryOut, finish, step, runFrom, run, answersFrom}
@@ -77,7 +77,7 @@ pub record Shares : Type 0 where
   pub handles-5 : next worstHandles (send 4 (7 ∷ []) (replicate 5 7) []) ≡ record { goes = atOne; leaves = 1 ∷ 0 ∷ 5 ∷ []; answered = 122 }
 
 pub shares : Shares
-unfolding upd sumTo build first be numAt idAt shortAt parseSizes parseSend frameLength parseOpen parseCreate parseTransfer parseQuota parseRest parseOther parse sendId payloadOf othersAll allowsAll balanceOf idBytes headerBytes messageBytes noticeBytes receivedBytes chargeBytes balanceBytes holderBytes contentsOf answerBytes answerAfter outcomeOf start slotOf total heldByAny named seeded counts freePlace placesAt fits refusesOpen refusesCreate refusesTransfer refusesSend refusesReceive refusal withStatus withUser withGiven withHandles withQueues withCharges withSeed withLives accept pushAll takeOut withdraw shown give arriving deliver opens creates effect showsMessage reply carryOut finish step runFrom empty putHandle noteOpen noteCreate incoming noteSend noteSeed note feed feedAll goesTo wouldLeave historyFrom
+unfolding upd sumTo build first be numAt idAt shortAt parseSizes parseSend frameLength parseOpen parseCreate parseTransfer parseQuota parseRest parseOther parse sendId payloadOf othersAll allowsAll balanceOf idBytes headerBytes messageBytes noticeBytes receivedBytes chargeBytes balanceBytes holderBytes contentsOf answerBytes answerAfter outcomeOf start slotOf total heldByAny named seeded counts freePlace placesAt fits refusesOpen refusesCreate refusesTransfer refusesSend refusesReceive refusal withStatus withUser withGiven withHandles withQueues withCharges withSeed withLives accept pushAll takeOut withdraw valid settle settled shown give arriving deliver opens creates effect showsMessage reply carryOut finish step runFrom empty putHandle noteOpen noteCreate incoming noteSend noteSeed note feed feedAll goesTo wouldLeave historyFrom
 shares =
     record { fourth = refl; two-at-once = refl; fifth = refl; bytes-256 = refl; bytes-257 = refl; handles-4 = refl; handles-5 = refl }
 
@@ -97,28 +97,28 @@ nowhere-else : (ns : List Node) → All (λ n. n .owner ≡ 0) ns → (q : ℕ) 
 nowhere-else ns a q h = let z = none-else ns a q in omega arith
 
 pub shared-fourth : Shared (worst ++ empties 3 4) (send 4 (7 ∷ []) [] [])
-unfolding upd sumTo build first be numAt idAt shortAt parseSizes parseSend frameLength parseOpen parseCreate parseTransfer parseQuota parseRest parseOther parse sendId payloadOf othersAll allowsAll balanceOf idBytes headerBytes messageBytes noticeBytes receivedBytes chargeBytes balanceBytes holderBytes contentsOf answerBytes answerAfter outcomeOf start slotOf total heldByAny named seeded counts freePlace placesAt fits refusesOpen refusesCreate refusesTransfer refusesSend refusesReceive refusal withStatus withUser withGiven withHandles withQueues withCharges withSeed withLives accept pushAll takeOut withdraw shown give arriving deliver opens creates effect showsMessage reply carryOut finish step runFrom empty putHandle noteOpen noteCreate incoming noteSend noteSeed note feed feedAll goesTo wouldLeave historyFrom
+unfolding upd sumTo build first be numAt idAt shortAt parseSizes parseSend frameLength parseOpen parseCreate parseTransfer parseQuota parseRest parseOther parse sendId payloadOf othersAll allowsAll balanceOf idBytes headerBytes messageBytes noticeBytes receivedBytes chargeBytes balanceBytes holderBytes contentsOf answerBytes answerAfter outcomeOf start slotOf total heldByAny named seeded counts freePlace placesAt fits refusesOpen refusesCreate refusesTransfer refusesSend refusesReceive refusal withStatus withUser withGiven withHandles withQueues withCharges withSeed withLives accept pushAll takeOut withdraw valid settle settled shown give arriving deliver opens creates effect showsMessage reply carryOut finish step runFrom empty putHandle noteOpen noteCreate incoming noteSend noteSeed note feed feedAll goesTo wouldLeave historyFrom
 shared-fourth zero messages h = at-most _ 4 4 refl (omega arith)
 shared-fourth zero bytes h = at-most _ 0 256 refl (omega arith)
 shared-fourth zero handles h = at-most _ 0 4 refl (omega arith)
 shared-fourth (suc q) r h = absurd (nowhere-else (nodesOf (bookAfter (calls (worst ++ empties 3 4))) 4 (7 ∷ [])) (refl, tt) q h)
 
 pub shared-two-at-once : Shared (worst ++ (second 4 ++ empties 2 4)) (send 4 (7 ∷ 11 ∷ []) [] [])
-unfolding upd sumTo build first be numAt idAt shortAt parseSizes parseSend frameLength parseOpen parseCreate parseTransfer parseQuota parseRest parseOther parse sendId payloadOf othersAll allowsAll balanceOf idBytes headerBytes messageBytes noticeBytes receivedBytes chargeBytes balanceBytes holderBytes contentsOf answerBytes answerAfter outcomeOf start slotOf total heldByAny named seeded counts freePlace placesAt fits refusesOpen refusesCreate refusesTransfer refusesSend refusesReceive refusal withStatus withUser withGiven withHandles withQueues withCharges withSeed withLives accept pushAll takeOut withdraw shown give arriving deliver opens creates effect showsMessage reply carryOut finish step runFrom empty putHandle noteOpen noteCreate incoming noteSend noteSeed note feed feedAll goesTo wouldLeave historyFrom
+unfolding upd sumTo build first be numAt idAt shortAt parseSizes parseSend frameLength parseOpen parseCreate parseTransfer parseQuota parseRest parseOther parse sendId payloadOf othersAll allowsAll balanceOf idBytes headerBytes messageBytes noticeBytes receivedBytes chargeBytes balanceBytes holderBytes contentsOf answerBytes answerAfter outcomeOf start slotOf total heldByAny named seeded counts freePlace placesAt fits refusesOpen refusesCreate refusesTransfer refusesSend refusesReceive refusal withStatus withUser withGiven withHandles withQueues withCharges withSeed withLives accept pushAll takeOut withdraw valid settle settled shown give arriving deliver opens creates effect showsMessage reply carryOut finish step runFrom empty putHandle noteOpen noteCreate incoming noteSend noteSeed note feed feedAll goesTo wouldLeave historyFrom
 shared-two-at-once zero messages h = at-most _ 4 4 refl (omega arith)
 shared-two-at-once zero bytes h = at-most _ 0 256 refl (omega arith)
 shared-two-at-once zero handles h = at-most _ 0 4 refl (omega arith)
 shared-two-at-once (suc q) r h = absurd (nowhere-else (nodesOf (bookAfter (calls (worst ++ (second 4 ++ empties 2 4)))) 4 (7 ∷ 11 ∷ [])) (refl, (refl, tt)) q h)
 
 pub shared-bytes : Shared worstBytes (send 4 (7 ∷ []) [] (replicate 256 51))
-unfolding upd sumTo build first be numAt idAt shortAt parseSizes parseSend frameLength parseOpen parseCreate parseTransfer parseQuota parseRest parseOther parse sendId payloadOf othersAll allowsAll balanceOf idBytes headerBytes messageBytes noticeBytes receivedBytes chargeBytes balanceBytes holderBytes contentsOf answerBytes answerAfter outcomeOf start slotOf total heldByAny named seeded counts freePlace placesAt fits refusesOpen refusesCreate refusesTransfer refusesSend refusesReceive refusal withStatus withUser withGiven withHandles withQueues withCharges withSeed withLives accept pushAll takeOut withdraw shown give arriving deliver opens creates effect showsMessage reply carryOut finish step runFrom empty putHandle noteOpen noteCreate incoming noteSend noteSeed note feed feedAll goesTo wouldLeave historyFrom
+unfolding upd sumTo build first be numAt idAt shortAt parseSizes parseSend frameLength parseOpen parseCreate parseTransfer parseQuota parseRest parseOther parse sendId payloadOf othersAll allowsAll balanceOf idBytes headerBytes messageBytes noticeBytes receivedBytes chargeBytes balanceBytes holderBytes contentsOf answerBytes answerAfter outcomeOf start slotOf total heldByAny named seeded counts freePlace placesAt fits refusesOpen refusesCreate refusesTransfer refusesSend refusesReceive refusal withStatus withUser withGiven withHandles withQueues withCharges withSeed withLives accept pushAll takeOut withdraw valid settle settled shown give arriving deliver opens creates effect showsMessage reply carryOut finish step runFrom empty putHandle noteOpen noteCreate incoming noteSend noteSeed note feed feedAll goesTo wouldLeave historyFrom
 shared-bytes zero messages h = at-most _ 1 4 refl (omega arith)
 shared-bytes zero bytes h = at-most _ 256 256 refl (omega arith)
 shared-bytes zero handles h = at-most _ 0 4 refl (omega arith)
 shared-bytes (suc q) r h = absurd (nowhere-else (nodesOf (bookAfter (calls worstBytes)) 4 (7 ∷ [])) (refl, tt) q h)
 
 pub shared-handles : Shared worstHandles (send 4 (7 ∷ []) (replicate 4 7) [])
-unfolding upd sumTo build first be numAt idAt shortAt parseSizes parseSend frameLength parseOpen parseCreate parseTransfer parseQuota parseRest parseOther parse sendId payloadOf othersAll allowsAll balanceOf idBytes headerBytes messageBytes noticeBytes receivedBytes chargeBytes balanceBytes holderBytes contentsOf answerBytes answerAfter outcomeOf start slotOf total heldByAny named seeded counts freePlace placesAt fits refusesOpen refusesCreate refusesTransfer refusesSend refusesReceive refusal withStatus withUser withGiven withHandles withQueues withCharges withSeed withLives accept pushAll takeOut withdraw shown give arriving deliver opens creates effect showsMessage reply carryOut finish step runFrom empty putHandle noteOpen noteCreate incoming noteSend noteSeed note feed feedAll goesTo wouldLeave historyFrom
+unfolding upd sumTo build first be numAt idAt shortAt parseSizes parseSend frameLength parseOpen parseCreate parseTransfer parseQuota parseRest parseOther parse sendId payloadOf othersAll allowsAll balanceOf idBytes headerBytes messageBytes noticeBytes receivedBytes chargeBytes balanceBytes holderBytes contentsOf answerBytes answerAfter outcomeOf start slotOf total heldByAny named seeded counts freePlace placesAt fits refusesOpen refusesCreate refusesTransfer refusesSend refusesReceive refusal withStatus withUser withGiven withHandles withQueues withCharges withSeed withLives accept pushAll takeOut withdraw valid settle settled shown give arriving deliver opens creates effect showsMessage reply carryOut finish step runFrom empty putHandle noteOpen noteCreate incoming noteSend noteSeed note feed feedAll goesTo wouldLeave historyFrom
 shared-handles zero messages h = at-most _ 1 4 refl (omega arith)
 shared-handles zero bytes h = at-most _ 0 256 refl (omega arith)
 shared-handles zero handles h = at-most _ 4 4 refl (omega arith)
@@ -138,5 +138,5 @@ pub record Short : Type 0 where
       done 3 ++ (gives 7 ∷ [] ∷ number 11 ∷ number 0 ∷ takes 8 1 [] (51 ∷ []) ∷ [])
 
 pub short-between : Short
-unfolding upd sumTo build first be numAt idAt shortAt parseSizes parseSend frameLength parseOpen parseCreate parseTransfer parseQuota parseRest parseOther parse sendId payloadOf othersAll allowsAll balanceOf idBytes headerBytes messageBytes noticeBytes receivedBytes chargeBytes balanceBytes holderBytes contentsOf answerBytes answerAfter outcomeOf start slotOf total heldByAny named seeded counts freePlace placesAt fits refusesOpen refusesCreate refusesTransfer refusesSend refusesReceive refusal withStatus withUser withGiven withHandles withQueues withCharges withSeed withLives accept pushAll takeOut withdraw shown give arriving deliver opens creates effect showsMessage reply carryOut finish step runFrom answersFrom
+unfolding upd sumTo build first be numAt idAt shortAt parseSizes parseSend frameLength parseOpen parseCreate parseTransfer parseQuota parseRest parseOther parse sendId payloadOf othersAll allowsAll balanceOf idBytes headerBytes messageBytes noticeBytes receivedBytes chargeBytes balanceBytes holderBytes contentsOf answerBytes answerAfter outcomeOf start slotOf total heldByAny named seeded counts freePlace placesAt fits refusesOpen refusesCreate refusesTransfer refusesSend refusesReceive refusal withStatus withUser withGiven withHandles withQueues withCharges withSeed withLives accept pushAll takeOut withdraw valid settle settled shown give arriving deliver opens creates effect showsMessage reply carryOut finish step runFrom answersFrom
 short-between = record { call = refl; goes-on = refl }

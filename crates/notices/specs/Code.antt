@@ -6,34 +6,39 @@ use mathlib.Core.Bool.{Bool, true, false}
 use mathlib.Core.List.{List}
 use native.Mathlib.Omega.{arith}
 use native.Mathlib.Numerals.{add-one}
-use lib.ListN.{length}
+use lib.ListN.{length, getD, replicate, length-set}
+use lib.ListN.{set as setAt}
+use lib.Seq.{getD-set-same, getD-set-other, ext-getD}
 use lib.Count.{trailingZeros}
 use lib.Dec.{eqb, ltb}
 use lib.Pow.{pow-mono}
-use borrow.Author.Tests.{eq-eqb, ne-eqb, ltb-true, ltb-false, lt-ltb, le-ltb}
+use borrow.Author.Tests.{eq-eqb, ne-eqb, ltb-true, ltb-false, lt-ltb, le-ltb, le-leb, lt-leb}
 use Rattle.laws.specs.Tests.{pick, pick-all, Seen, Seen.is-true, Seen.is-false, look, Same, Same.same, Same.other, same?}
 use Rattle.laws.specs.Sums.{sumTo}
 use Rattle.laws.specs.Bits.{bits}
+use Rattle.laws.specs.Build.{build, build-at, build-length}
 use Rattle.ids.specs.declared.HandleId.{HandleId}
 use Rattle.ids.specs.declared.Peer.{Peer}
 use Rattle.rings.specs.declared.Entry.{Entry}
 use Rattle.rings.specs.declared.Match.{Match}
-use Rattle.rings.specs.Rings.{kindDestroyed, kindReleased, releasedBit, slots, endsSize, Rings, Sized, bitAt, oneSlot}
+use Rattle.rings.specs.Rings.{kindDestroyed, kindReleased, destroyedBit, releasedBit, slots, ringSize, endsSize, Rings, ringsOf, Sized, entryAt, rowOf, headOf, lengthOf, bitAt, oneSlot}
 use Rattle.rings.specs.Matches.{bit-one}
 use Rattle.tables.specs.declared.Found.{Found}
 use Rattle.tables.specs.declared.Found.the-variants.{At, Nothing}
-use Rattle.tables.specs.Nodes.{liveAt, setDead}
-use Rattle.tables.specs.Handles.{countAt, totalAt, holdersAt}
+use Rattle.tables.specs.Nodes.{liveAt, diedAt, setDead}
+use Rattle.tables.specs.Handles.{countAt, totalAt}
 use Rattle.tables.specs.NodesView.{dead-length}
 use Rattle.tables.specs.CodeLaws.{byte-shift}
-use Rattle.queues.specs.Queues.{entered, withdrawn}
+use Rattle.queues.specs.Queues.{entered, withdrawn, carriedBefore}
 use Rattle.queues.specs.Entering.{enter-sized, enter-ends}
+use Rattle.queues.specs.Leaving.{withdraw-ends, withdraw-rows}
 use Rattle.notices.specs.declared.Asked.{Asked}
 use Rattle.notices.specs.declared.Asked.the-variants.{Living, Falling, Above}
-use Rattle.notices.specs.Notices.{noticeOf, fallsAt, keyAt, aboveAt, Fair, asks, setOf, lowerOf, leastAt, postedTo, addressees, following, told, deadAll, destroyedOf, releasedIn, destroyedSet, toldOwners}
+use Rattle.notices.specs.Notices.{noticeOf, fallsAt, keyAt, aboveAt, Fair, asks, setOf, lowerOf, leastAt, postedTo, tellsAt, addressees, addresseesAt, addresseesOf, following, told, deadAll, destroyedOf, releasedIn, destroyedSet, toldOwners, expired, expiredAt, ownInvalid, expiredPlace, expiredBelow, expiredAll}
 use Rattle.notices.specs.Rising.{bit-bits}
 use Rattle.ids.specs.Sizes.{peers}
-use Rattle.model.specs.Numbers.{nodes}
+use Rattle.model.specs.Numbers.{nodes, invalid}
+use Rattle.model.specs.Lists.{either}
 
 -- falls
 module _ (ns hs : List ℕ) (p s : ℕ) {a : Bool} (ea : a ≡ liveAt ns s) where
@@ -74,12 +79,12 @@ module _ (ns hs : List ℕ) (q : ℕ) (a : Asked) (k : ℕ) {b : Bool} where
 pub fair-falling : (a : Asked) {p : Peer} → Fair a → a ≡ Falling p → p .0 < peers
 fair-falling a f e = rw e at f
 
--- bit_asked
-module _ (ns hs : List ℕ) (q : ℕ) (a : Asked) (k bit : ℕ) {b : Bool} (eb : b ≡ asks ns hs q a k) where
-  pub bit-some : b ≡ true → (bit ≡ pick (asks ns hs q a k) bit 0) × (bit ≤ bit)
+-- bit_asked, bit_told
+module _ (a : Bool) (bit : ℕ) {b : Bool} (eb : b ≡ a) where
+  pub bit-some : b ≡ true → (bit ≡ pick a bit 0) × (bit ≤ bit)
   bit-some t = (rw (← eb, t), omega arith)
 
-  pub bit-none : b ≡ false → (0 ≡ pick (asks ns hs q a k) bit 0) × (0 ≤ bit)
+  pub bit-none : b ≡ false → (0 ≡ pick a bit 0) × (0 ≤ bit)
   bit-none f = (rw (← eb, f), omega arith)
 
 word-bit : (k : ℕ) → k ≤ slots → 2 ^ k ≤ 65536
@@ -211,74 +216,147 @@ module _ (r₀ : Rings) (e : Entry) (set : ℕ) where
           same = v .same ∙ ap (postedTo r e rest) z ∙ posted-some r e rest (peers - (k + 1)) d ∙ rw (er, es, el) refl;
         }
 
--- addressees
-module _ (hs : List ℕ) (kind s : ℕ) where
-  pub to-holders : kind ≡ kindDestroyed → {x : ℕ} → x ≡ holdersAt hs s → x ≡ addressees hs kind s
-  unfolding addressees
-  to-holders f e = rw (eq-eqb kind kindDestroyed f) e
+-- concerns
+module _ (hs cs : List ℕ) (r : Rings) (s n o : ℕ) {c : ℕ} (ec : c ≡ countAt hs o s) where
+  pub concerns-holder : (c ≡ 0 → ⊥) → true ≡ tellsAt hs cs r s n o
+  concerns-holder d = rw (← ec, ne-eqb c 0 d)
 
-  pub to-owner : (kind ≡ kindDestroyed → ⊥) → s < nodes → 1 * 2 ^ (s / slots) % 256 ≡ addressees hs kind s
+  pub concerns-carrier : c ≡ 0 → {b : Bool} → b ≡ carriedBefore cs r s n o → b ≡ tellsAt hs cs r s n o
+  concerns-carrier z eb = rw (← ec, z) eb
+
+byte-bit : (o : ℕ) → o ≤ peers → 2 ^ o ≤ 256
+byte-bit o l = let m : 2 ^ o ≤ 2 ^ peers = pow-mono l in omega arith
+
+-- addressees: the bit of the peer o, and the bits of the peers below it
+pub record Addressing (hs cs : List ℕ) (r : Rings) (s n o bit set : ℕ) : Type 0 where
+  pub passed : o ≤ peers
+  pub power : bit ≡ 2 ^ o
+  pub byte : bit ≤ 256
+  pub below : set < bit
+  pub sum : set ≡ bits (tellsAt hs cs r s n) o
+
+module _ (hs cs : List ℕ) (r : Rings) (s n : ℕ) where
+  pub addressing-none : Addressing hs cs r s n 0 1 0
+  unfolding bits sumTo
+  addressing-none = record { passed = omega arith; power = refl; byte = omega arith; below = omega arith; sum = refl }
+
+  pub addressing-more : (o bit set : ℕ) {b : ℕ} → Addressing hs cs r s n o bit set → o < peers → (b ≡ pick (tellsAt hs cs r s n o) bit 0) × (b ≤ bit) →
+      Addressing hs cs r s n (o + 1) (2 * bit) (b + set)
+  unfolding bits sumTo
+  addressing-more o bit set {b} v l e =
+      let x : 2 ^ (o + 1) ≡ 2 * 2 ^ o = rw add-one (omega arith) in
+      let y : 2 * bit ≡ 2 ^ (o + 1) = rw (x, v .power) in
+      record {
+        passed = omega arith;
+        power = y;
+        byte = rw y (byte-bit (o + 1) (omega arith));
+        below = omega (arith, v .below, e .1);
+        sum = rw (add-one, e .0, v .power, v .sum);
+      }
+
+  pub addressing-all : (o : ℕ) {bit set : ℕ} → Addressing hs cs r s n o bit set → o ≡ peers → set ≡ addressees hs cs r s n
   unfolding addressees
-  to-owner d l = rw (ne-eqb kind kindDestroyed d) (byte-shift (s / slots) (omega arith))
+  addressing-all o v f = rw (← f) (v .sum)
+
+-- addressees_at
+module _ (hs cs : List ℕ) (r : Rings) (p set n k : ℕ) {w : ℕ} (ew : w ≡ set) {b : Bool} (eb : b ≡ bitAt w k) where
+  pub place-out : b ≡ false → 0 ≡ addresseesAt hs cs r p set n k
+  place-out f = rw (← ew, ← eb, f)
+
+  pub place-in : b ≡ true → {x : ℕ} → x ≡ addressees hs cs r (p * slots + k) n → x ≡ addresseesAt hs cs r p set n k
+  place-in t ex = rw (← ew, ← eb, t) ex
+
+below-next : (n k : ℕ) → k < suc n → (n ≡ k → ⊥) → k < n
+below-next n k l d = go (look (ltb k n))
+  where
+    go : Seen (ltb k n) → k < n
+    go (is-true e) = ltb-true k n e
+    go (is-false e) = let m : n ≤ k = ltb-false k n e in absurd (d (omega arith))
+
+-- addressees_of: the places below k are stored
+pub record Placing (hs cs : List ℕ) (r : Rings) (p set n : ℕ) (to : List ℕ) (k : ℕ) : Type 0 where
+  pub places : k ≤ slots
+  pub size : length to ≡ slots
+  pub stored : (j : ℕ) → j < k → getD to j 0 ≡ addresseesAt hs cs r p set n j
+
+module _ (hs cs : List ℕ) (r : Rings) (p set n : ℕ) where
+  pub placing-start : Placing hs cs r p set n (replicate slots 0) 0
+  placing-start = record { places = omega arith; size = refl; stored = λ j l. absurd (omega arith) }
+
+  pub placing-next : {to : List ℕ} {k : ℕ} → Placing hs cs r p set n to k → k < slots → {x : ℕ} → x ≡ addresseesAt hs cs r p set n k →
+      Placing hs cs r p set n (setAt to k x) (k + 1)
+  placing-next {to} {k} v l {x} ex =
+      record { places = omega arith; size = length-set to k x ∙ v .size; stored = λ j m. go j m (same? k j) }
+    where
+      go : (j : ℕ) → j < k + 1 → Same k j → getD (setAt to k x) j 0 ≡ addresseesAt hs cs r p set n j
+      go j m (same e) = rw (← e) (getD-set-same to k x 0 (omega (arith, v .size)) ∙ ex)
+      go j m (other d) = getD-set-other to k j x 0 (λ e. d (sym e)) ∙ v .stored j (below-next k j (omega arith) d)
+
+  pub placing-all : {to : List ℕ} {k : ℕ} → Placing hs cs r p set n to k → slots ≤ k → to ≡ addresseesOf hs cs r p set n
+  unfolding addresseesOf
+  placing-all {to} {k} v l =
+      ext-getD 0 to (build (addresseesAt hs cs r p set n) slots) (v .size ∙ sym (build-length (addresseesAt hs cs r p set n) slots))
+      (λ j m. let i : j < slots = omega (arith, v .size) in
+      v .stored j (omega arith) ∙ sym (build-at (addresseesAt hs cs r p set n) slots j 0 i))
 
 -- tell: what is left to do gives what the whole gives.
-module _ (hs : List ℕ) (q kind n : ℕ) where
-  pub tell-fit : (r : Rings) (set f : ℕ) → Fit r → Fit (told hs q kind n r set f)
+module _ (hs to : List ℕ) (q kind n : ℕ) where
+  pub tell-fit : (r : Rings) (set f : ℕ) → Fit r → Fit (told hs to q kind n r set f)
   unfolding told
   tell-fit r set zero x = x
   tell-fit r set (suc f) x = go (leastAt hs q set slots) (λ s y z. tell-fit s y f z)
     where
-      go : (y : Found) → ((s : Rings) (y : ℕ) → Fit s → Fit (told hs q kind n s y f)) →
+      go : (y : Found) → ((s : Rings) (y : ℕ) → Fit s → Fit (told hs to q kind n s y f)) →
           Fit
           (following y
-          (λ j. told hs q kind n (postedTo r (noticeOf kind (q * slots + j % slots) n) (addressees hs kind (q * slots + j % slots)) peers) (bits (aboveAt hs q set j) slots) f)
+          (λ j. told hs to q kind n (postedTo r (noticeOf kind (q * slots + j % slots) n) (getD to (j % slots) 0) peers) (bits (aboveAt hs q set j) slots) f)
           r)
       go Nothing ih = x
       go (At j) ih =
-          ih (postedTo r (noticeOf kind (q * slots + j % slots) n) (addressees hs kind (q * slots + j % slots)) peers) (bits (aboveAt hs q set j) slots)
-          (post-fit r (noticeOf kind (q * slots + j % slots) n) (addressees hs kind (q * slots + j % slots)) peers x)
+          ih (postedTo r (noticeOf kind (q * slots + j % slots) n) (getD to (j % slots) 0) peers) (bits (aboveAt hs q set j) slots)
+          (post-fit r (noticeOf kind (q * slots + j % slots) n) (getD to (j % slots) 0) peers x)
 
-  told-zero : (r : Rings) (set : ℕ) → told hs q kind n r set 0 ≡ r
+  told-zero : (r : Rings) (set : ℕ) → told hs to q kind n r set 0 ≡ r
   unfolding told
   told-zero r set = refl
 
-  told-none : (r : Rings) (set f : ℕ) → leastAt hs q set slots ≡ Nothing → told hs q kind n r set f ≡ r
+  told-none : (r : Rings) (set f : ℕ) → leastAt hs q set slots ≡ Nothing → told hs to q kind n r set f ≡ r
   unfolding told
   told-none r set zero e = refl
   told-none r set (suc f) e = rw e
 
   told-some : (r : Rings) (set f j : ℕ) → leastAt hs q set slots ≡ At j →
-      told hs q kind n r set (suc f)
-      ≡ told hs q kind n (postedTo r (noticeOf kind (q * slots + j % slots) n) (addressees hs kind (q * slots + j % slots)) peers) (bits (aboveAt hs q set j) slots) f
+      told hs to q kind n r set (suc f)
+      ≡ told hs to q kind n (postedTo r (noticeOf kind (q * slots + j % slots) n) (getD to (j % slots) 0) peers) (bits (aboveAt hs q set j) slots) f
   unfolding told
   told-some r set f j e = rw e
 
-pub record Telling (hs : List ℕ) (q kind n : ℕ) (r₀ : Rings) (set : ℕ) (r : Rings) (rest k : ℕ) : Type 0 where
+pub record Telling (hs to : List ℕ) (q kind n : ℕ) (r₀ : Rings) (set : ℕ) (r : Rings) (rest k : ℕ) : Type 0 where
   pub turns : k ≤ slots
   pub fit : Fit r
-  pub same : told hs q kind n r₀ set slots ≡ told hs q kind n r rest (slots - k)
+  pub same : told hs to q kind n r₀ set slots ≡ told hs to q kind n r rest (slots - k)
 
-module _ (ns hs : List ℕ) (q kind n : ℕ) (r₀ : Rings) (set : ℕ) where
-  pub telling-start : length (r₀ .ends) ≡ endsSize → Sized (r₀ .rows) → Telling hs q kind n r₀ set r₀ set 0
+module _ (ns hs to : List ℕ) (q kind n : ℕ) (r₀ : Rings) (set : ℕ) where
+  pub telling-start : length (r₀ .ends) ≡ endsSize → Sized (r₀ .rows) → Telling hs to q kind n r₀ set r₀ set 0
   telling-start m s = record { turns = omega arith; fit = record { ends = m; rows = s }; same = refl }
 
-  module _ {r : Rings} {rest k : ℕ} (v : Telling hs q kind n r₀ set r rest k) where
-    pub telling-all : slots ≤ k → r ≡ told hs q kind n r₀ set slots
-    telling-all l = let z : slots - k ≡ 0 = omega arith in sym (v .same ∙ ap (told hs q kind n r rest) z ∙ told-zero hs q kind n r rest)
+  module _ {r : Rings} {rest k : ℕ} (v : Telling hs to q kind n r₀ set r rest k) where
+    pub telling-all : slots ≤ k → r ≡ told hs to q kind n r₀ set slots
+    telling-all l = let z : slots - k ≡ 0 = omega arith in sym (v .same ∙ ap (told hs to q kind n r rest) z ∙ told-zero hs to q kind n r rest)
 
     module _ {x : Found} (ex : x ≡ leastAt hs q rest slots) where
-      pub telling-none : x ≡ Nothing → r ≡ told hs q kind n r₀ set slots
-      telling-none f = sym (v .same ∙ told-none hs q kind n r rest (slots - k) (sym ex ∙ f))
+      pub telling-none : x ≡ Nothing → r ≡ told hs to q kind n r₀ set slots
+      telling-none f = sym (v .same ∙ told-none hs to q kind n r rest (slots - k) (sym ex ∙ f))
 
-      pub telling-next : k < slots → {j : ℕ} → x ≡ At j → {to : ℕ} → to ≡ addressees hs kind (q * slots + j % slots) → {e : Entry} → e ≡ noticeOf kind (q * slots + j % slots) n →
-          {r′ : Rings} → r′ ≡ postedTo r e to peers → {rest′ : ℕ} → rest′ ≡ setOf ns hs q (Above rest j) → Telling hs q kind n r₀ set r′ rest′ (k + 1)
+      pub telling-next : k < slots → {j : ℕ} → x ≡ At j → {a : ℕ} → a ≡ getD to (j % slots) 0 → {e : Entry} → e ≡ noticeOf kind (q * slots + j % slots) n →
+          {r′ : Rings} → r′ ≡ postedTo r e a peers → {rest′ : ℕ} → rest′ ≡ setOf ns hs q (Above rest j) → Telling hs to q kind n r₀ set r′ rest′ (k + 1)
       unfolding setOf
-      telling-next l {j} f {to} et {e} ee {r′} er {rest′} es =
+      telling-next l {j} f {a} et {e} ee {r′} er {rest′} es =
           let z : slots - k ≡ suc (slots - (k + 1)) = omega arith in
           record {
             turns = omega arith;
-            fit = rw er (post-fit r e to peers (v .fit));
-            same = v .same ∙ ap (told hs q kind n r rest) z ∙ told-some hs q kind n r rest (slots - (k + 1)) j (sym ex ∙ f) ∙ rw (er, es, et, ee) refl;
+            fit = rw er (post-fit r e a peers (v .fit));
+            same = v .same ∙ ap (told hs to q kind n r rest) z ∙ told-some hs to q kind n r rest (slots - (k + 1)) j (sym ex ∙ f) ∙ rw (er, es, et, ee) refl;
           }
 
 -- bury
@@ -308,19 +386,12 @@ module _ (ns : List ℕ) (p set n : ℕ) where
   bury-all k e f = rw (← f) e
 
 -- destroy_set
-pub destroy-done : (ns hs : List ℕ) (r : Rings) (p set n : ℕ) {r₁ : Rings} → r₁ ≡ withdrawn r p (releasedIn p set) → {ns′ : List ℕ} → ns′ ≡ deadAll ns p set n slots →
-    {r₂ : Rings} → r₂ ≡ told hs p kindDestroyed n r₁ set slots → destroyedOf ns′ r₂ ≡ destroyedSet ns hs r p set n
+pub destroy-done : (ns hs cs : List ℕ) (r : Rings) (p set n : ℕ) {to : List ℕ} → to ≡ addresseesOf hs cs r p set n → {r₁ : Rings} → r₁ ≡ withdrawn r p (releasedIn p set) → {ns′ : List ℕ} → ns′ ≡ deadAll ns p set n slots →
+    {r₂ : Rings} → r₂ ≡ told hs to p kindDestroyed n r₁ set slots → destroyedOf ns′ r₂ ≡ destroyedSet ns hs cs r p set n
 unfolding destroyedSet
-destroy-done ns hs r p set n ew en et = rw (en, et, ew)
+destroy-done ns hs cs r p set n ea ew en et = rw (en, et, ew, ea)
 
 -- destroy_one: in the set of one bit the least ID is that place's and none is above it, so one notice is queued; and one node is dead.
-below-next : (n k : ℕ) → k < suc n → (n ≡ k → ⊥) → k < n
-below-next n k l d = go (look (ltb k n))
-  where
-    go : Seen (ltb k n) → k < n
-    go (is-true e) = ltb-true k n e
-    go (is-false e) = let m : n ≤ k = ltb-false k n e in absurd (d (omega arith))
-
 module _ (hs : List ℕ) (q : ℕ) where
   least-empty : (set n : ℕ) → ((j : ℕ) → j < n → bitAt set j ≡ false) → leastAt hs q set n ≡ Nothing
   unfolding leastAt
@@ -344,15 +415,15 @@ module _ (hs : List ℕ) (q : ℕ) where
       go (same d) = let e : k % slots ≡ k = omega arith in rw (eq-eqb j k d, e, d) (le-ltb (keyAt hs q k) (keyAt hs q k) (omega arith))
       go (other d) = rw (ne-eqb j k d)
 
-  told-one : (kind n : ℕ) (r : Rings) (k : ℕ) → k < slots →
-      told hs q kind n r (2 ^ k) slots ≡ postedTo r (noticeOf kind (q * slots + k) n) (addressees hs kind (q * slots + k)) peers
-  told-one kind n r k l =
+  told-one : (to : List ℕ) (kind n : ℕ) (r : Rings) (k : ℕ) → k < slots →
+      told hs to q kind n r (2 ^ k) slots ≡ postedTo r (noticeOf kind (q * slots + k) n) (getD to k 0) peers
+  told-one to kind n r k l =
       let e : k % slots ≡ k = omega arith in
-      let r′ = postedTo r (noticeOf kind (q * slots + k) n) (addressees hs kind (q * slots + k)) peers in
+      let r′ = postedTo r (noticeOf kind (q * slots + k) n) (getD to k 0) peers in
       let set′ = bits (aboveAt hs q (2 ^ k) k) slots in
-      told-some hs q kind n r (2 ^ k) 15 k (least-one k slots l)
-      ∙ ap (λ (i : ℕ). told hs q kind n (postedTo r (noticeOf kind (q * slots + i) n) (addressees hs kind (q * slots + i)) peers) set′ 15) e
-      ∙ told-none hs q kind n r′ set′ 15 (least-empty set′ slots (λ j m. bit-bits (aboveAt hs q (2 ^ k) k) slots j m ∙ above-one k j l))
+      told-some hs to q kind n r (2 ^ k) 15 k (least-one k slots l)
+      ∙ ap (λ (i : ℕ). told hs to q kind n (postedTo r (noticeOf kind (q * slots + i) n) (getD to i 0) peers) set′ 15) e
+      ∙ told-none hs to q kind n r′ set′ 15 (least-empty set′ slots (λ j m. bit-bits (aboveAt hs q (2 ^ k) k) slots j m ∙ above-one k j l))
 
 dead-none : (ns : List ℕ) (p set n k : ℕ) → ((j : ℕ) → j < k → bitAt set j ≡ false) → deadAll ns p set n k ≡ ns
 unfolding deadAll
@@ -369,18 +440,26 @@ dead-one ns p n k (suc m) l = rw (bit-one k m) (go (same? m k) (dead-one ns p n 
     go (same d) ih = rw (eq-eqb m k d, dead-none ns p (2 ^ k) n m (λ j i. bit-one k j ∙ ne-eqb j k (λ e. absurd (omega arith))), d)
     go (other d) ih = rw (ne-eqb m k d) (ih (below-next m k l d))
 
-pub destroy-one : (ns hs : List ℕ) (r : Rings) (p s n : ℕ) {m : Match} → m ≡ oneSlot releasedBit (p * slots + s % slots) → {r₁ : Rings} → r₁ ≡ withdrawn r p m →
-    {ns′ : List ℕ} → ns′ ≡ setDead ns (p * slots + s % slots) n → {to : ℕ} → to ≡ holdersAt hs (p * slots + s % slots) →
-    {e : Entry} → e ≡ noticeOf kindDestroyed (p * slots + s % slots) n → {r₂ : Rings} → r₂ ≡ postedTo r₁ e to peers → destroyedOf ns′ r₂ ≡ destroyedSet ns hs r p (oneSlot releasedBit s .mask) n
+-- In the set of one bit its place has its addressees.
+place-one : (hs cs : List ℕ) (r : Rings) (p n k : ℕ) → k < slots → getD (addresseesOf hs cs r p (2 ^ k) n) k 0 ≡ addressees hs cs r (p * slots + k) n
+unfolding addresseesOf
+place-one hs cs r p n k l =
+    build-at (addresseesAt hs cs r p (2 ^ k) n) slots k 0 l
+    ∙ ap (λ (b : Bool). pick b (addressees hs cs r (p * slots + k) n) 0) (bit-one k k ∙ eq-eqb k k refl)
+
+pub destroy-one : (ns hs cs : List ℕ) (r : Rings) (p s n : ℕ) {to : ℕ} → to ≡ addressees hs cs r (p * slots + s % slots) n →
+    {m : Match} → m ≡ oneSlot releasedBit (p * slots + s % slots) → {r₁ : Rings} → r₁ ≡ withdrawn r p m → {ns′ : List ℕ} → ns′ ≡ setDead ns (p * slots + s % slots) n →
+    {e : Entry} → e ≡ noticeOf kindDestroyed (p * slots + s % slots) n → {r₂ : Rings} → r₂ ≡ postedTo r₁ e to peers → destroyedOf ns′ r₂ ≡ destroyedSet ns hs cs r p (oneSlot releasedBit s .mask) n
 unfolding destroyedSet oneSlot
-destroy-one ns hs r p s n {m} em {r₁} ew {ns′} en {to} et {e} ee {r₂} er =
+destroy-one ns hs cs r p s n {to} et {m} em {r₁} ew {ns′} en {e} ee {r₂} er =
     let k = s % slots in
     let l : k < slots = omega arith in
     let f : (p * slots + k) / slots * slots ≡ p * slots = omega arith in
     let g : (p * slots + k) % slots ≡ k = omega arith in
     let w : r₁ ≡ withdrawn r p (releasedIn p (2 ^ k)) = ew ∙ ap (withdrawn r p) (rw (f, g) at em) in
-    let t : to ≡ addressees hs kindDestroyed (p * slots + k) = to-holders hs 1 (p * slots + k) refl et in
-    ap₂ destroyedOf (en ∙ sym (dead-one ns p n k slots l)) (rw (told-one hs p 1 n (withdrawn r p (releasedIn p (2 ^ k))) k l, ← w, ← t, ← ee) er)
+    let all = addresseesOf hs cs r p (2 ^ k) n in
+    let t : to ≡ getD all k 0 = et ∙ sym (place-one hs cs r p n k l) in
+    ap₂ destroyedOf (en ∙ sym (dead-one ns p n k slots l)) (rw (told-one hs p all 1 n (withdrawn r p (releasedIn p (2 ^ k))) k l, ← w, ← t, ← ee) er)
 
 -- tell_owners
 pub record Owning (ns hs : List ℕ) (p n : ℕ) (r₀ r : Rings) (q : ℕ) : Type 0 where
@@ -394,10 +473,125 @@ module _ (ns hs : List ℕ) (p n : ℕ) (r₀ : Rings) where
   owning-start m s = record { owners = omega arith; fit = record { ends = m; rows = s }; so = refl }
 
   pub owning-next : {r : Rings} {q : ℕ} → Owning ns hs p n r₀ r q → q < peers → {set : ℕ} → set ≡ setOf ns hs q (Falling (record { 0 = p })) →
-      {r′ : Rings} → r′ ≡ told hs q kindReleased n r set slots → Owning ns hs p n r₀ r′ (q + 1)
+      {r′ : Rings} → r′ ≡ told hs (replicate slots (1 * 2 ^ q % 256)) q kindReleased n r set slots → Owning ns hs p n r₀ r′ (q + 1)
   unfolding toldOwners
   owning-next {r} {q} v l {set} es {r′} er =
-      record { owners = omega arith; fit = rw er (tell-fit hs q 2 n r set slots (v .fit)); so = rw (add-one, er, es, ← v .so) }
+      record { owners = omega arith; fit = rw er (tell-fit hs (replicate slots (1 * 2 ^ q % 256)) q 2 n r set slots (v .fit)); so = rw (add-one, er, byte-shift q l, es, ← v .so) }
 
   pub owning-all : {r : Rings} {q : ℕ} → Owning ns hs p n r₀ r q → peers ≤ q → r ≡ toldOwners ns hs p n r₀ peers
   owning-all {r} {q} v l = let z : q ≡ peers = omega (arith, v .owners) in rw (← z) (v .so)
+
+-- expire
+module _ (ns hs cs : List ℕ) (p : ℕ) (r : Rings) (s : ℕ) where
+  module _ {a : Bool} (ea : a ≡ liveAt ns s) where
+    pub expire-live : a ≡ true → r ≡ expired ns hs cs p r s
+    unfolding expired
+    expire-live t = rw (← ea, t)
+
+    module _ (f : a ≡ false) {n : ℕ} (en : n ≡ diedAt ns s) {b : Bool} (eb : b ≡ tellsAt hs cs r s n p) where
+      kept : tellsAt hs cs r s (diedAt ns s) p ≡ b
+      kept = ap (λ (x : ℕ). tellsAt hs cs r s x p) (sym en) ∙ sym eb
+
+      pub expire-kept : b ≡ true → r ≡ expired ns hs cs p r s
+      unfolding expired
+      expire-kept t = rw (← ea, f, kept, t)
+
+      pub expire-gone : b ≡ false → {m : Match} → m ≡ oneSlot destroyedBit s → {r′ : Rings} → r′ ≡ withdrawn r p m → r′ ≡ expired ns hs cs p r s
+      unfolding expired
+      expire-gone g em er = rw (← ea, f, kept, g, ← em) er
+
+  expire-fit : Fit r → Fit (expired ns hs cs p r s)
+  unfolding expired
+  expire-fit x =
+      let m = oneSlot destroyedBit s in
+      pick-all Fit (either (liveAt ns s) (tellsAt hs cs r s (diedAt ns s) p)) r (withdrawn r p m) x
+      record { ends = withdraw-ends r p m ∙ x .ends; rows = withdraw-rows r p m (x .rows) }
+
+-- expire_shown: the rings after the places below k of n
+pub record Expiring (ns hs cs : List ℕ) (p : ℕ) (t : ℕ → Bool) (f : ℕ → ℕ) (r₀ r : Rings) (k n : ℕ) : Type 0 where
+  pub within : k ≤ n
+  pub fit : Fit r
+  pub so : r ≡ expiredAt ns hs cs p t f r₀ k
+
+module _ (ns hs cs : List ℕ) (p : ℕ) (t : ℕ → Bool) (f : ℕ → ℕ) (r₀ : Rings) (n : ℕ) where
+  pub expiring-start : length (r₀ .ends) ≡ endsSize → Sized (r₀ .rows) → Expiring ns hs cs p t f r₀ r₀ 0 n
+  unfolding expiredAt
+  expiring-start m s = record { within = omega arith; fit = record { ends = m; rows = s }; so = refl }
+
+  module _ {r : Rings} {k : ℕ} (v : Expiring ns hs cs p t f r₀ r k n) where
+    pub expiring-in : k < n → t k ≡ true → {r′ : Rings} → r′ ≡ expired ns hs cs p r (f k) → Expiring ns hs cs p t f r₀ r′ (k + 1) n
+    unfolding expiredAt
+    expiring-in l y er = record { within = omega arith; fit = rw er (expire-fit ns hs cs p r (f k) (v .fit)); so = rw (add-one, y, ← v .so) er }
+
+    pub expiring-out : k < n → t k ≡ false → {r′ : Rings} → r′ ≡ r → Expiring ns hs cs p t f r₀ r′ (k + 1) n
+    unfolding expiredAt
+    expiring-out l y er = record { within = omega arith; fit = rw er (v .fit); so = rw (add-one, y) (er ∙ v .so) }
+
+    pub expiring-all : n ≤ k → r ≡ expiredAt ns hs cs p t f r₀ n
+    expiring-all l = let z : k ≡ n = omega (arith, v .within) in v .so ∙ ap (expiredAt ns hs cs p t f r₀) z
+
+-- expire_shown: the two tests of a place, and the rings where the branches meet
+module _ (p : ℕ) (ss is : List ℕ) (k : ℕ) where
+  pub shown-valid : (getD is k 0 ≡ invalid → ⊥) → ownInvalid p ss is k ≡ false
+  shown-valid d = rw (ne-eqb (getD is k 0) invalid d)
+
+  module _ (e : getD is k 0 ≡ invalid) where
+    pub shown-own : getD ss k 0 % nodes / slots ≡ p → ownInvalid p ss is k ≡ true
+    shown-own o = rw (eq-eqb (getD is k 0) invalid e, eq-eqb (getD ss k 0 % nodes / slots) p o)
+
+    pub shown-other : (getD ss k 0 % nodes / slots ≡ p → ⊥) → ownInvalid p ss is k ≡ false
+    shown-other d = rw (eq-eqb (getD is k 0) invalid e, ne-eqb (getD ss k 0 % nodes / slots) p d)
+
+pub rings-same : {a a′ b b′ c c′ d d′ : List ℕ} → a ≡ a′ → b ≡ b′ → c ≡ c′ → d ≡ d′ → ringsOf a b c d ≡ ringsOf a′ b′ c′ d′
+rings-same ea eb ec ed = rw (ea, eb, ec, ed)
+
+-- expire_at
+module _ (ns hs cs : List ℕ) (p : ℕ) (r : Rings) (i : ℕ) {h : ℕ} (eh : h ≡ headOf (r .ends) p) {x : ℕ} (ex : x ≡ rowOf p h i) {e : Entry} (ee : e ≡ entryAt (r .rows) x) where
+  place-entry : entryAt (r .rows) (rowOf p (headOf (r .ends) p) i) ≡ e
+  place-entry = rw (← eh, ← ex) (sym ee)
+
+  pub place-other : (e .kind ≡ kindDestroyed → ⊥) → r ≡ expiredPlace ns hs cs p r i
+  unfolding expiredPlace
+  place-other d = rw (place-entry, ne-eqb (e .kind) kindDestroyed d)
+
+  pub place-notice : e .kind ≡ kindDestroyed → {r′ : Rings} → r′ ≡ expired ns hs cs p r (e .slot % nodes) → r′ ≡ expiredPlace ns hs cs p r i
+  unfolding expiredPlace
+  place-notice k er = rw (place-entry, eq-eqb (e .kind) kindDestroyed k) er
+
+place-fit : (ns hs cs : List ℕ) (p : ℕ) (r : Rings) (i : ℕ) → Fit r → Fit (expiredPlace ns hs cs p r i)
+unfolding expiredPlace
+place-fit ns hs cs p r i x =
+    let e = entryAt (r .rows) (rowOf p (headOf (r .ends) p) i) in
+    pick-all Fit (eqb (e .kind) kindDestroyed) (expired ns hs cs p r (e .slot % nodes)) r (expire-fit ns hs cs p r (e .slot % nodes) x) x
+
+-- expire_all: what is left to do gives what the whole gives.
+pub record Passing (ns hs cs : List ℕ) (p : ℕ) (r₀ r : Rings) (i : ℕ) : Type 0 where
+  pub short : lengthOf (r₀ .ends) p ≤ ringSize
+  pub places : i ≤ ringSize
+  pub fit : Fit r
+  pub same : expiredBelow ns hs cs p r₀ (lengthOf (r₀ .ends) p) ≡ expiredBelow ns hs cs p r i
+
+module _ (ns hs cs : List ℕ) (p : ℕ) (r₀ : Rings) where
+  pub passing-long : {n : ℕ} → n ≡ lengthOf (r₀ .ends) p → ringSize < n → r₀ ≡ expiredAll ns hs cs p r₀
+  passing-long {n} e l = rw (← e, lt-leb n ringSize l)
+
+  pub passing-start : length (r₀ .ends) ≡ endsSize → Sized (r₀ .rows) → {n : ℕ} → n ≡ lengthOf (r₀ .ends) p → n ≤ ringSize → Passing ns hs cs p r₀ r₀ n
+  passing-start m s e l = record { short = omega arith; places = l; fit = record { ends = m; rows = s }; same = ap (expiredBelow ns hs cs p r₀) (sym e) }
+
+  module _ {r : Rings} {i : ℕ} (v : Passing ns hs cs p r₀ r i) where
+    pub passing-next : 0 < i → {r′ : Rings} → r′ ≡ expiredPlace ns hs cs p r (i - 1) → Passing ns hs cs p r₀ r′ (i - 1)
+    unfolding expiredBelow
+    passing-next l er =
+        let z : i ≡ suc (i - 1) = omega arith in
+        record {
+          short = v .short;
+          places = omega (arith, v .places);
+          fit = rw er (place-fit ns hs cs p r (i - 1) (v .fit));
+          same = v .same ∙ ap (expiredBelow ns hs cs p r) z ∙ ap (λ (x : Rings). expiredBelow ns hs cs p x (i - 1)) (sym er);
+        }
+
+    pub passing-all : i ≤ 0 → r ≡ expiredAll ns hs cs p r₀
+    unfolding expiredBelow
+    passing-all l =
+        let z : i ≡ 0 = omega arith in
+        rw (le-leb (lengthOf (r₀ .ends) p) ringSize (v .short)) (sym (v .same ∙ ap (expiredBelow ns hs cs p r) z))

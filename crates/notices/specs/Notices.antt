@@ -1,24 +1,27 @@
 -- What the functions of the notices do: sets of a peer's slots, places by ascending ID, and notices queued at their peers.
 -- Assumes nothing.
 use Prim.Native.Nat.{ℕ, zero, suc, _+_, _*_, _-_, _/_, _%_, _^_, _<_}
-use mathlib.Core.Bool.{Bool, false}
+use mathlib.Core.Bool.{Bool, true, false}
 use mathlib.Core.List.{List}
-use lib.ListN.{replicate}
+use lib.ListN.{getD, replicate}
 use lib.Count.{trailingZeros}
-use lib.Dec.{eqb, ltb}
+use lib.Dec.{eqb, ltb, leb}
 use Rattle.laws.specs.Tests.{pick}
 use Rattle.laws.specs.Bits.{bits}
+use Rattle.laws.specs.Build.{build}
 use Rattle.rings.specs.declared.Entry.{Entry}
 use Rattle.rings.specs.declared.Match.{Match}
-use Rattle.rings.specs.Rings.{kindDestroyed, kindReleased, releasedBit, slots, Rings, bitAt}
+use Rattle.rings.specs.Rings.{kindDestroyed, kindReleased, destroyedBit, releasedBit, slots, ringSize, Rings, entryAt, rowOf, headOf, lengthOf, bitAt, oneSlot}
 use Rattle.tables.specs.declared.Found.{Found}
 use Rattle.tables.specs.declared.Found.the-variants.{At, Nothing}
-use Rattle.tables.specs.Nodes.{liveAt, setDead}
-use Rattle.tables.specs.Handles.{idAt, countAt, totalAt, holdersAt}
-use Rattle.queues.specs.Queues.{entered, withdrawn}
+use Rattle.tables.specs.Nodes.{liveAt, diedAt, setDead}
+use Rattle.tables.specs.Handles.{idAt, countAt, totalAt}
+use Rattle.queues.specs.Queues.{entered, withdrawn, carriedBefore}
 use Rattle.notices.specs.declared.Asked.{Asked}
 use Rattle.notices.specs.declared.Asked.the-variants.{Living, Falling, Above}
 use Rattle.ids.specs.Sizes.{peers, carriedFields}
+use Rattle.model.specs.Numbers.{nodes, invalid}
+use Rattle.model.specs.Lists.{both, either}
 
 -- A notice about a slot: kind 1 of its destruction, 2 of its release.
 unfoldable pub noticeOf : ℕ → ℕ → ℕ → Entry
@@ -68,20 +71,34 @@ postedTo r e set (suc f) =
     let rest = postedTo (entered r q e) e (set - 2 ^ q) f in
     pick (eqb set 0) r rest
 
--- Who is told: "Destroy queues a notice at every holder, owner included"; "a release notice is queued at the owner".
-unfoldable pub addressees : List ℕ → ℕ → ℕ → ℕ
-addressees hs kind s = pick (eqb kind kindDestroyed) (holdersAt hs s) (2 ^ (s / slots))
+-- Who is told that the command n destroyed the node of a slot: "every holder, owner included", and "each peer with an earlier queued message that carries the node".
+abbrev pub tellsAt : List ℕ → List ℕ → Rings → ℕ → ℕ → ℕ → Bool
+tellsAt hs cs r s n o = pick (eqb (countAt hs o s) 0) (carriedBefore cs r s n o) true
 
--- The notices about the peer's own slots in a set, by ascending ID.
+unfoldable pub addressees : List ℕ → List ℕ → Rings → ℕ → ℕ → ℕ
+addressees hs cs r s n = bits (tellsAt hs cs r s n) peers
+
+-- Of each place of the peer's own slots in a set; nobody where the place is not in the set.
+abbrev pub addresseesAt : List ℕ → List ℕ → Rings → ℕ → ℕ → ℕ → ℕ → ℕ
+addresseesAt hs cs r p set n k = pick (bitAt set k) (addressees hs cs r (p * slots + k) n) 0
+
+unfoldable pub addresseesOf : List ℕ → List ℕ → Rings → ℕ → ℕ → ℕ → List ℕ
+addresseesOf hs cs r p set n = build (addresseesAt hs cs r p set n) slots
+
+-- "a release notice is queued at the owner".
+abbrev pub ownerAlone : ℕ → List ℕ
+ownerAlone q = replicate slots (2 ^ q)
+
+-- The notices about the peer's own slots in a set, by ascending ID; of each place a number says who is told.
 abbrev pub following : Found → (ℕ → Rings) → Rings → Rings
 following Nothing more r = r
 following (At j) more r = more j
 
-unfoldable pub told : List ℕ → ℕ → ℕ → ℕ → Rings → ℕ → ℕ → Rings
-told hs q kind n r set zero = r
-told hs q kind n r set (suc f) =
+unfoldable pub told : List ℕ → List ℕ → ℕ → ℕ → ℕ → Rings → ℕ → ℕ → Rings
+told hs to q kind n r set zero = r
+told hs to q kind n r set (suc f) =
     following (leastAt hs q set slots)
-    (λ j. told hs q kind n (postedTo r (noticeOf kind (q * slots + j % slots) n) (addressees hs kind (q * slots + j % slots)) peers) (bits (aboveAt hs q set j) slots) f)
+    (λ j. told hs to q kind n (postedTo r (noticeOf kind (q * slots + j % slots) n) (getD to (j % slots) 0) peers) (bits (aboveAt hs q set j) slots) f)
     r
 
 -- The nodes of the peer's own slots in a set are dead.
@@ -101,10 +118,44 @@ destroyedOf ns r = record { nodes = ns; rings = r }
 abbrev pub releasedIn : ℕ → ℕ → Match
 releasedIn p set = record { kinds = releasedBit; first = p * slots; mask = set }
 
-unfoldable pub destroyedSet : List ℕ → List ℕ → Rings → ℕ → ℕ → ℕ → Destroyed
-destroyedSet ns hs r p set n = destroyedOf (deadAll ns p set n slots) (told hs p kindDestroyed n (withdrawn r p (releasedIn p set)) set slots)
+unfoldable pub destroyedSet : List ℕ → List ℕ → List ℕ → Rings → ℕ → ℕ → ℕ → Destroyed
+destroyedSet ns hs cs r p set n =
+    let to = addresseesOf hs cs r p set n in
+    destroyedOf (deadAll ns p set n slots) (told hs to p kindDestroyed n (withdrawn r p (releasedIn p set)) set slots)
 
 -- The release notices at the owners below q, when all handles of the peer p go.
 unfoldable pub toldOwners : List ℕ → List ℕ → ℕ → ℕ → Rings → ℕ → Rings
 toldOwners ns hs p n r zero = r
-toldOwners ns hs p n r (suc q) = told hs q kindReleased n (toldOwners ns hs p n r q) (setOf ns hs q (Falling (record { 0 = p }))) slots
+toldOwners ns hs p n r (suc q) = told hs (ownerAlone q) q kindReleased n (toldOwners ns hs p n r q) (setOf ns hs q (Falling (record { 0 = p }))) slots
+
+-- "withdrawn as soon as the peer holds no handle and no earlier message carrying the node is left": the destroy notice of a slot goes at the peer p where nothing keeps it. None stands of a
+-- live node.
+unfoldable pub expired : List ℕ → List ℕ → List ℕ → ℕ → Rings → ℕ → Rings
+expired ns hs cs p r s = pick (either (liveAt ns s) (tellsAt hs cs r s (diedAt ns s) p)) r (withdrawn r p (oneSlot destroyedBit s))
+
+-- Of the slots f 0, f 1, .. below the place n that pass the test t, in order.
+unfoldable pub expiredAt : List ℕ → List ℕ → List ℕ → ℕ → (ℕ → Bool) → (ℕ → ℕ) → Rings → ℕ → Rings
+expiredAt ns hs cs p t f r zero = r
+expiredAt ns hs cs p t f r (suc k) =
+    let before = expiredAt ns hs cs p t f r k in
+    pick (t k) (expired ns hs cs p before (f k)) before
+
+-- Of p's own slots among those that a message carried, where the invalid ID was shown.
+abbrev pub ownInvalid : ℕ → List ℕ → List ℕ → ℕ → Bool
+ownInvalid p ss is k = both (eqb (getD is k 0) invalid) (eqb (getD ss k 0 % nodes / slots) p)
+
+abbrev pub expiredShown : List ℕ → List ℕ → List ℕ → ℕ → List ℕ → List ℕ → Rings → ℕ → Rings
+expiredShown ns hs cs p ss is r n = expiredAt ns hs cs p (ownInvalid p ss is) (λ k. getD ss k 0 % nodes) r n
+
+-- Of the slot of a destroy notice at the i-th place of p's queue; of the places below k, the last first; of the whole queue.
+unfoldable pub expiredPlace : List ℕ → List ℕ → List ℕ → ℕ → Rings → ℕ → Rings
+expiredPlace ns hs cs p r i =
+    let e = entryAt (r .rows) (rowOf p (headOf (r .ends) p) i) in
+    pick (eqb (e .kind) kindDestroyed) (expired ns hs cs p r (e .slot % nodes)) r
+
+unfoldable pub expiredBelow : List ℕ → List ℕ → List ℕ → ℕ → Rings → ℕ → Rings
+expiredBelow ns hs cs p r zero = r
+expiredBelow ns hs cs p r (suc k) = expiredBelow ns hs cs p (expiredPlace ns hs cs p r k) k
+
+abbrev pub expiredAll : List ℕ → List ℕ → List ℕ → ℕ → Rings → Rings
+expiredAll ns hs cs p r = pick (leb (lengthOf (r .ends) p) ringSize) (expiredBelow ns hs cs p r (lengthOf (r .ends) p)) r

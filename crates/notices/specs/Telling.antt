@@ -5,7 +5,7 @@ use mathlib.Core.Path.{_≡_, refl, sym, ap, ap₂, _∙_, fun-ext}
 use mathlib.Core.Bool.{Bool, true, false, not}
 use mathlib.Core.List.{List, [], _∷_, _++_, map, append-nil, append-assoc}
 use native.Mathlib.Omega.{arith}
-use lib.ListN.{length, length-append, length-map}
+use lib.ListN.{length, getD, length-append, length-map, getD-replicate}
 use lib.Count.{trailingZeros}
 use lib.Dec.{eqb, ltb}
 use borrow.Author.Tests.{eqb-true, eq-eqb, ne-eqb, ltb-true, ltb-false, lt-ltb, le-ltb, not-true}
@@ -14,7 +14,8 @@ use Rattle.laws.specs.Tables.{upd, upd-same, upd-other}
 use Rattle.laws.specs.Weights.{All, keep, all-imp}
 use Rattle.laws.specs.Loads.{keep-every}
 use Rattle.laws.specs.Sums.{sum-at}
-use Rattle.laws.specs.Bits.{bits, bits-none, Walked, bits-walk}
+use Rattle.laws.specs.Bits.{bits, bits-ext, bits-none, Walked, bits-walk}
+use Rattle.laws.specs.Build.{build, build-at}
 use Rattle.rings.specs.declared.Entry.{Entry as Row}
 use Rattle.rings.specs.Rings.{kindDestroyed, kindReleased, slots, ringSize, endsSize, Rings, Sized, lengthOf, bitAt, oneSlot}
 use Rattle.rings.specs.Matches.{bit-one}
@@ -25,11 +26,11 @@ use Rattle.tables.specs.PeersView.{acceptedV}
 use Rattle.tables.specs.Nodes.{setDead}
 use Rattle.tables.specs.NodesView.{lifeV, life-dead, live-is, dead-length}
 use Rattle.tables.specs.Handles.{handlesSize, idAt, countAt, totalAt, clearPeer}
-use Rattle.tables.specs.HandlesView.{handleV, handle-is, held-is, id-is, count-is, total-is, holders-are, handle-clear}
+use Rattle.tables.specs.HandlesView.{handleV, handle-is, held-is, id-is, count-is, total-is, handle-clear}
 use Rattle.model.specs.Numbers.{nodes, peers, owner}
-use Rattle.model.specs.Lists.{both, Found, lower, least, follow, rising}
+use Rattle.model.specs.Lists.{both, either, any, Found, lower, least, follow, rising}
 use Rattle.model.specs.Lists.Found.{nowhere, at}
-use Rattle.model.specs.State.{Life, isLive, Handle, handleOf, held, count, Entry, ownerId, total, byOwnerId}
+use Rattle.model.specs.State.{Life, isLive, Handle, handleOf, held, count, Entry, earlier, concerned, ownerId, total, byOwnerId}
 use Rattle.model.specs.State.Handle.{none, some}
 use Rattle.model.specs.State.Life.{dead}
 use Rattle.model.specs.State.Entry.{message, destroyed, released}
@@ -41,11 +42,12 @@ use Rattle.model.specs.Occurs.{no, both-true}
 use Rattle.model.specs.Rising.{rising-pass}
 use Rattle.view.specs.View.{Bus, setNodes, setRings, Shape, shape-nodes, shape-rings, stateOf, entryV, queueV}
 use Rattle.view.specs.Rows.{queue-count}
-use Rattle.queues.specs.Queues.{entered, withdrawn}
+use Rattle.queues.specs.Queues.{Short, entered, withdrawn}
+use Rattle.queues.specs.Carrying.{Unladen, before-view}
 use Rattle.queues.specs.Entering.{entry-destroyed, entry-released, enter-sized, enter-ends, enter-view}
 use Rattle.queues.specs.Leaving.{withdraw-view, withdraw-rows, withdraw-ends, withdraw-length, withdraw-lengths, inMask, release-match, release-bytes}
 use Rattle.notices.specs.declared.Asked.the-variants.{Living, Falling}
-use Rattle.notices.specs.Notices.{noticeOf, keyAt, aboveAt, lowerOf, leastAt, postedTo, addressees, following, told, deadAll, Destroyed, releasedIn, destroyedSet, fallsAt, asks, setOf, toldOwners}
+use Rattle.notices.specs.Notices.{noticeOf, keyAt, aboveAt, lowerOf, leastAt, postedTo, tellsAt, addressees, addresseesAt, addresseesOf, ownerAlone, following, told, deadAll, Destroyed, releasedIn, destroyedSet, fallsAt, asks, setOf, toldOwners}
 use Rattle.notices.specs.Rising.{bit-bits, bits-one, Inside, least-inside, rising-ext, rising-length, Apart, keep-rising}
 use Rattle.ids.specs.Sizes.{carriedFields, nodesSize}
 
@@ -72,33 +74,33 @@ least-is hs q set (suc k) l =
 
 -- The notices of some places, one after another.
 unfoldable pub postAll : List ℕ → ℕ → ℕ → ℕ → Rings → List ℕ → Rings
-postAll hs q kind n r [] = r
-postAll hs q kind n r (j ∷ js) = postAll hs q kind n (postedTo r (noticeOf kind (q * slots + j) n) (addressees hs kind (q * slots + j)) peers) js
+postAll to q kind n r [] = r
+postAll to q kind n r (j ∷ js) = postAll to q kind n (postedTo r (noticeOf kind (q * slots + j) n) (getD to j 0) peers) js
 
 above-is : (hs : List ℕ) (q set j k : ℕ) → j < slots → aboveAt hs q set j k ≡ both (bitAt set k) (ltb (keyAt hs q j) (keyAt hs q k))
 unfolding aboveAt
 above-is hs q set j k l = let m : j % slots ≡ j = omega arith in rw m
 
-pub told-posts : (hs : List ℕ) (q kind n : ℕ) (r : Rings) (set f : ℕ) → told hs q kind n r set f ≡ postAll hs q kind n r (rising (bitAt set) (keyAt hs q) slots f)
+pub told-posts : (hs to : List ℕ) (q kind n : ℕ) (r : Rings) (set f : ℕ) → told hs to q kind n r set f ≡ postAll to q kind n r (rising (bitAt set) (keyAt hs q) slots f)
 unfolding told postAll rising
-told-posts hs q kind n r set zero = refl
-told-posts hs q kind n r set (suc f) =
+told-posts hs to q kind n r set zero = refl
+told-posts hs to q kind n r set (suc f) =
     ap (λ (x : Spot). following x more r) (least-is hs q set slots (omega arith))
-    ∙ go (least (bitAt set) (keyAt hs q) slots) (least-inside (bitAt set) (keyAt hs q) slots) (λ r set. told-posts hs q kind n r set f)
+    ∙ go (least (bitAt set) (keyAt hs q) slots) (least-inside (bitAt set) (keyAt hs q) slots) (λ r set. told-posts hs to q kind n r set f)
   where
     more : ℕ → Rings
-    more j = told hs q kind n (postedTo r (noticeOf kind (q * slots + j % slots) n) (addressees hs kind (q * slots + j % slots)) peers) (bits (aboveAt hs q set j) slots) f
+    more j = told hs to q kind n (postedTo r (noticeOf kind (q * slots + j % slots) n) (getD to (j % slots) 0) peers) (bits (aboveAt hs q set j) slots) f
 
-    go : (x : Found) → Inside (bitAt set) slots x → ((r : Rings) (set : ℕ) → told hs q kind n r set f ≡ postAll hs q kind n r (rising (bitAt set) (keyAt hs q) slots f)) →
-        following (spot x) more r ≡ postAll hs q kind n r (follow x (λ i. rising (λ j. both (bitAt set j) (ltb (keyAt hs q i) (keyAt hs q j))) (keyAt hs q) slots f))
+    go : (x : Found) → Inside (bitAt set) slots x → ((r : Rings) (set : ℕ) → told hs to q kind n r set f ≡ postAll to q kind n r (rising (bitAt set) (keyAt hs q) slots f)) →
+        following (spot x) more r ≡ postAll to q kind n r (follow x (λ i. rising (λ j. both (bitAt set j) (ltb (keyAt hs q i) (keyAt hs q j))) (keyAt hs q) slots f))
     go nowhere g ih = refl
     go (at j) g ih =
         let m : j % slots ≡ j = omega (arith, g .1) in
-        let r′ = postedTo r (noticeOf kind (q * slots + j) n) (addressees hs kind (q * slots + j)) peers in
+        let r′ = postedTo r (noticeOf kind (q * slots + j) n) (getD to j 0) peers in
         let set′ = bits (aboveAt hs q set j) slots in
-        ap (λ (i : ℕ). told hs q kind n (postedTo r (noticeOf kind (q * slots + i) n) (addressees hs kind (q * slots + i)) peers) set′ f) m
+        ap (λ (i : ℕ). told hs to q kind n (postedTo r (noticeOf kind (q * slots + i) n) (getD to i 0) peers) set′ f) m
         ∙ ih r′ set′
-        ∙ ap (postAll hs q kind n r′)
+        ∙ ap (postAll to q kind n r′)
         (rising-ext (bitAt set′) (λ k. both (bitAt set k) (ltb (keyAt hs q j) (keyAt hs q k))) (keyAt hs q) (keyAt hs q) slots f
         (λ k l. bit-bits (aboveAt hs q set j) slots k l ∙ above-is hs q set j k (g .1)) (λ k l e. refl))
 
@@ -263,31 +265,31 @@ notice-released s n = entry-released (noticeOf kindReleased s n) [] refl
 abbrev noticeV : ℕ → ℕ → ℕ → ℕ → Entry
 noticeV q kind n j = seenAs (noticeOf kind (q * slots + j) n)
 
-module _ (hs : List ℕ) (q kind n : ℕ) (t : List ℕ) (u : ℕ → ℕ → Bool) (to : (j : ℕ) → j < slots → addressees hs kind (q * slots + j) ≡ bits (u j) peers) where
+module _ (hs to : List ℕ) (q kind n : ℕ) (t : List ℕ) (u : ℕ → ℕ → Bool) where
   join : (b : Bool) (j : ℕ) (js : List ℕ) → pick b (noticeV q kind n j ∷ []) [] ++ map (noticeV q kind n) js ≡ map (noticeV q kind n) (pick b (j ∷ js) js)
   join true j js = refl
   join false j js = refl
 
-  posts : (js : List ℕ) (r : Rings) → All (λ j. j < slots) js → Sized (r .rows) → length (r .ends) ≡ endsSize →
-      ((o j : ℕ) → o < peers → u j o ≡ true → lengthOf (r .ends) o + length js ≤ ringSize) → More r (postAll hs q kind n r js) t (λ o. map (noticeV q kind n) (keep (λ j. u j o) js))
+  posts : (js : List ℕ) (r : Rings) → All (λ j. getD to j 0 ≡ bits (u j) peers) js → Sized (r .rows) → length (r .ends) ≡ endsSize →
+      ((o j : ℕ) → o < peers → u j o ≡ true → lengthOf (r .ends) o + length js ≤ ringSize) → More r (postAll to q kind n r js) t (λ o. map (noticeV q kind n) (keep (λ j. u j o) js))
   unfolding postAll
   posts [] r a s size room = more-none r t s size
   posts (j ∷ js) r a s size room =
       let e = noticeOf kind (q * slots + j) n in
-      let r′ = postedTo r e (addressees hs kind (q * slots + j)) peers in
+      let r′ = postedTo r e (getD to j 0) peers in
       let m : More r r′ t (λ o. pick (u j o) (seenAs e ∷ []) []) =
-      posted-more t e (notice-empty kind (q * slots + j) n) (notice-eight kind (q * slots + j) n) r (addressees hs kind (q * slots + j)) (u j) s size (to j (a .0))
+      posted-more t e (notice-empty kind (q * slots + j) n) (notice-eight kind (q * slots + j) n) r (getD to j 0) (u j) s size (a .0)
       (λ o l z. omega (arith, room o j l z)) in
       more-ext (λ o. map (noticeV q kind n) (keep (λ i. u i o) (j ∷ js)))
       (more-then m (posts js r′ (a .1) (m .sized) (m .ends) (λ o i l z. omega (arith, more-length m o l, at-most-one (u j o) (seenAs e), room o i l z))))
       (λ o l. join (u j o) j (keep (λ i. u i o) js))
 
-  told-more : (r : Rings) (set : ℕ) → Sized (r .rows) → length (r .ends) ≡ endsSize → ((o j : ℕ) → o < peers → u j o ≡ true → lengthOf (r .ends) o + slots ≤ ringSize) →
-      More r (told hs q kind n r set slots) t (λ o. map (noticeV q kind n) (keep (λ j. u j o) (rising (bitAt set) (keyAt hs q) slots slots)))
-  told-more r set s size room =
+  told-more : (r : Rings) (set : ℕ) → ((j : ℕ) → (bitAt set j ≡ true) × (j < slots) → getD to j 0 ≡ bits (u j) peers) → Sized (r .rows) → length (r .ends) ≡ endsSize → ((o j : ℕ) → o < peers → u j o ≡ true → lengthOf (r .ends) o + slots ≤ ringSize) →
+      More r (told hs to q kind n r set slots) t (λ o. map (noticeV q kind n) (keep (λ j. u j o) (rising (bitAt set) (keyAt hs q) slots slots)))
+  told-more r set goes s size room =
       let js = rising (bitAt set) (keyAt hs q) slots slots in
-      rw (told-posts hs q kind n r set slots)
-      (posts js r (all-imp (λ j. (bitAt set j ≡ true) × (j < slots)) (λ j. j < slots) (λ j z. z .1) js (rising-pass (bitAt set) (keyAt hs q) slots slots)) s size
+      rw (told-posts hs to q kind n r set slots)
+      (posts js r (all-imp (λ j. (bitAt set j ≡ true) × (j < slots)) (λ j. getD to j 0 ≡ bits (u j) peers) goes js (rising-pass (bitAt set) (keyAt hs q) slots slots)) s size
       (λ o j l z. omega (arith, room o j l z, rising-length (bitAt set) (keyAt hs q) slots slots)))
 
 -- A handle that is held, as the table has it.
@@ -321,38 +323,58 @@ owned hs q b test f g l agree holds e =
     ∙ ap (λ (x : List ℕ). map g (map (λ k. q * slots + k) x))
     (rising-ext b (λ k. test (q * slots + k)) (keyAt hs q) (λ k. ownerId (handleV hs) (q * slots + k)) slots slots agree (λ k m z. key-is hs q k l m (holds k m z)))
 
--- Of a destruction every holder is told.
-to-holders : (hs : List ℕ) (s : ℕ) → s < nodes → addressees hs kindDestroyed s ≡ bits (λ o. held (handleV hs o s)) peers
-unfolding addressees
-to-holders hs s l = holders-are hs s l
+-- Of a destruction those are told whom it concerns.
+pub tells-is : (hs cs : List ℕ) (r : Rings) (t : List ℕ) (n s o : ℕ) → s < nodes → o < peers → lengthOf (r .ends) o ≤ ringSize → Unladen cs r t o →
+    tellsAt hs cs r s n o ≡ concerned (handleV hs o) (queueV r t o) n s
+tells-is hs cs r t n s o l m short bare =
+    rw (held-is hs o s m l, before-view cs r t s n o m short bare) (go (eqb (countAt hs o s) 0) (any (earlier n s) (queueV r t o)))
+  where
+    go : (b x : Bool) → pick b x true ≡ either (not b) x
+    go true x = refl
+    go false x = refl
+
+module _ (hs cs : List ℕ) (r : Rings) (t : List ℕ) (n : ℕ) (short : Short (r .ends)) (bare : (o : ℕ) → o < peers → Unladen cs r t o) where
+  to-concerned : (s : ℕ) → s < nodes → addressees hs cs r s n ≡ bits (λ o. concerned (handleV hs o) (queueV r t o) n s) peers
+  unfolding addressees
+  to-concerned s l =
+      bits-ext (tellsAt hs cs r s n) (λ o. concerned (handleV hs o) (queueV r t o) n s) peers (λ o m. tells-is hs cs r t n s o l m (short o m) (bare o m))
+
+  to-places : (p set k : ℕ) → p < peers → (bitAt set k ≡ true) × (k < slots) →
+      getD (addresseesOf hs cs r p set n) k 0 ≡ bits (λ o. concerned (handleV hs o) (queueV r t o) n (p * slots + k)) peers
+  unfolding addresseesOf
+  to-places p set k lp z =
+      build-at (addresseesAt hs cs r p set n) slots k 0 (z .1)
+      ∙ ap (λ (b : Bool). pick b (addressees hs cs r (p * slots + k) n) 0) (z .0)
+      ∙ to-concerned (p * slots + k) (omega (arith, z .1))
 
 -- Of a release the owner.
-to-owner : (hs : List ℕ) (s q : ℕ) → q < peers → s / slots ≡ q → addressees hs kindReleased s ≡ bits (eqb q) peers
-unfolding addressees
-to-owner hs s q l e = ap (λ (x : ℕ). 2 ^ x) e ∙ sym (bits-one q peers l)
+to-owner : (q j : ℕ) → q < peers → j < slots → getD (ownerAlone q) j 0 ≡ bits (eqb q) peers
+to-owner q j l m = getD-replicate slots j (2 ^ q) 0 m ∙ sym (bits-one q peers l)
 
 module _ (hs : List ℕ) (q n : ℕ) (r : Rings) (t : List ℕ) (set : ℕ) (test : ℕ → Bool) (lq : q < peers) (rows : Sized (r .rows)) (ends : length (r .ends) ≡ endsSize)
     (agree : (k : ℕ) → k < slots → test (q * slots + k) ≡ bitAt set k)
     (holds : (k : ℕ) → k < slots → bitAt set k ≡ true → held (handleV hs q (q * slots + k)) ≡ true) where
-  pub destroyed-more : ((o : ℕ) → o < peers → lengthOf (r .ends) o + slots ≤ ringSize) → Apart (bitAt set) (keyAt hs q) slots →
-      More r (told hs q kindDestroyed n r set slots) t (λ o. map (destroyed n) (byOwnerId (handleV hs) q (λ s. both (test s) (held (handleV hs o s)))))
-  destroyed-more room apart =
-      more-ext (λ o. map (destroyed n) (byOwnerId (handleV hs) q (λ s. both (test s) (held (handleV hs o s)))))
-      (told-more hs q 1 n t (λ j o. held (handleV hs o (q * slots + j))) (λ j l. to-holders hs (q * slots + j) (omega arith)) r set rows ends (λ o j l z. room o l))
-      (λ o l.
-      ap (map (noticeV q 1 n)) (keep-rising (bitAt set) (λ j. held (handleV hs o (q * slots + j))) (keyAt hs q) slots apart)
-      ∙ owned hs q (λ j. both (bitAt set j) (held (handleV hs o (q * slots + j)))) (λ s. both (test s) (held (handleV hs o s))) (noticeV q 1 n) (destroyed n) lq
-      (λ k m. rw (agree k m)) (λ k m z. holds k m (both-true (bitAt set k) (held (handleV hs o (q * slots + k))) z .0)) (λ j. notice-destroyed (q * slots + j) n))
+  -- A test says of each peer and slot whether the peer is told.
+  module _ (to : List ℕ) (tells : ℕ → ℕ → Bool) (goes : (k : ℕ) → (bitAt set k ≡ true) × (k < slots) → getD to k 0 ≡ bits (λ o. tells o (q * slots + k)) peers)
+      (room : (o : ℕ) → o < peers → lengthOf (r .ends) o + slots ≤ ringSize) (apart : Apart (bitAt set) (keyAt hs q) slots) where
+    pub destroyed-more : More r (told hs to q kindDestroyed n r set slots) t (λ o. map (destroyed n) (byOwnerId (handleV hs) q (λ s. both (test s) (tells o s))))
+    destroyed-more =
+        more-ext (λ o. map (destroyed n) (byOwnerId (handleV hs) q (λ s. both (test s) (tells o s))))
+        (told-more hs to q 1 n t (λ j o. tells o (q * slots + j)) r set goes rows ends (λ o j l z. room o l))
+        (λ o l.
+        ap (map (noticeV q 1 n)) (keep-rising (bitAt set) (λ j. tells o (q * slots + j)) (keyAt hs q) slots apart)
+        ∙ owned hs q (λ j. both (bitAt set j) (tells o (q * slots + j))) (λ s. both (test s) (tells o s)) (noticeV q 1 n) (destroyed n) lq
+        (λ k m. rw (agree k m)) (λ k m z. holds k m (both-true (bitAt set k) (tells o (q * slots + k)) z .0)) (λ j. notice-destroyed (q * slots + j) n))
 
-  pub told-destroyed : ((o : ℕ) → o < peers → lengthOf (r .ends) o + slots ≤ ringSize) → Apart (bitAt set) (keyAt hs q) slots →
-      queueV (told hs q kindDestroyed n r set slots) t ≡ (λ o. queueV r t o ++ atPeers (λ o. map (destroyed n) (byOwnerId (handleV hs) q (λ s. both (test s) (held (handleV hs o s))))) o)
-  told-destroyed room apart = destroyed-more room apart .view
+    pub told-destroyed : queueV (told hs to q kindDestroyed n r set slots) t
+        ≡ (λ o. queueV r t o ++ atPeers (λ o. map (destroyed n) (byOwnerId (handleV hs) q (λ s. both (test s) (tells o s)))) o)
+    told-destroyed = destroyed-more .view
 
   -- A release is told to the owner alone: only there is room needed.
-  pub released-more : lengthOf (r .ends) q + slots ≤ ringSize → More r (told hs q kindReleased n r set slots) t (λ o. pick (eqb q o) (map (released n) (byOwnerId (handleV hs) q test)) [])
+  pub released-more : lengthOf (r .ends) q + slots ≤ ringSize → More r (told hs (ownerAlone q) q kindReleased n r set slots) t (λ o. pick (eqb q o) (map (released n) (byOwnerId (handleV hs) q test)) [])
   released-more room =
       more-ext (λ o. pick (eqb q o) (map (released n) (byOwnerId (handleV hs) q test)) [])
-      (told-more hs q 2 n t (λ j. eqb q) (λ j l. to-owner hs (q * slots + j) q lq (omega arith)) r set rows ends
+      (told-more hs (ownerAlone q) q 2 n t (λ j. eqb q) r set (λ j z. to-owner q j lq (z .1)) rows ends
       (λ o j l z. rw (eqb-true q o z) at room))
       (λ o l. go (eqb q o))
     where
@@ -365,7 +387,7 @@ module _ (hs : List ℕ) (q n : ℕ) (r : Rings) (t : List ℕ) (set : ℕ) (tes
           ∙ owned hs q (bitAt set) test (noticeV q 2 n) (released n) lq (λ k m. sym (agree k m)) holds (λ j. notice-released (q * slots + j) n)
       go false = ap (map (noticeV q 2 n)) (keep-none js)
 
-  pub told-released : lengthOf (r .ends) q + slots ≤ ringSize → queueV (told hs q kindReleased n r set slots) t ≡ upd (queueV r t) q (queueV r t q ++ map (released n) (byOwnerId (handleV hs) q test))
+  pub told-released : lengthOf (r .ends) q + slots ≤ ringSize → queueV (told hs (ownerAlone q) q kindReleased n r set slots) t ≡ upd (queueV r t) q (queueV r t q ++ map (released n) (byOwnerId (handleV hs) q test))
   told-released room = released-more room .view ∙ fun-ext (λ o. go o (same? q o))
     where
       new : List Entry
@@ -473,7 +495,7 @@ own-stands h l p es = all-imp (Stands h l p) (Own p) go es
     go (destroyed n s) z = tt
     go (released n s) z = z .1
 
-keep-agree : (f g : Entry → Bool) (es : List Entry) → All (λ e. f e ≡ g e) es → keep f es ≡ keep g es
+pub keep-agree : (f g : Entry → Bool) (es : List Entry) → All (λ e. f e ≡ g e) es → keep f es ≡ keep g es
 keep-agree f g [] h = refl
 keep-agree f g (e ∷ es) h = rw (h .0, keep-agree f g es (h .1))
 
@@ -511,25 +533,37 @@ owner-length h p test =
 
 module _ (b : Bus) (p set n : ℕ) (test : ℕ → Bool) (shape : Shape b) (lp : p < peers) (room : (o : ℕ) → o < peers → lengthOf (b .rings .ends) o + slots ≤ ringSize)
     (agree : (k : ℕ) → k < slots → test (p * slots + k) ≡ bitAt set k)
-    (holds : (k : ℕ) → k < slots → bitAt set k ≡ true → held (handleV (b .handles) p (p * slots + k)) ≡ true) (apart : Apart (bitAt set) (keyAt (b .handles) p) slots) where
+    (holds : (k : ℕ) → k < slots → bitAt set k ≡ true → held (handleV (b .handles) p (p * slots + k)) ≡ true) (apart : Apart (bitAt set) (keyAt (b .handles) p) slots)
+    (bare : (o : ℕ) → o < peers → Unladen (b .charges) (b .rings) (b .pool) o) where
+  -- Who is told, on the bus as the command finds it.
+  abbrev tells : ℕ → ℕ → Bool
+  tells o s = concerned (handleV (b .handles) o) (queueV (b .rings) (b .pool) o) n s
+
+  abbrev to : List ℕ
+  to = addresseesOf (b .handles) (b .charges) (b .rings) p set n
+
+  short : Short (b .rings .ends)
+  short o l = omega (arith, room o l)
+
   after-more : let r = withdrawn (b .rings) p (releasedIn p set) in
-      More r (told (b .handles) p kindDestroyed n r set slots) (b .pool)
-      (λ o. map (destroyed n) (byOwnerId (handleV (b .handles)) p (λ s. both (test s) (held (handleV (b .handles) o s)))))
+      More r (told (b .handles) to p kindDestroyed n r set slots) (b .pool)
+      (λ o. map (destroyed n) (byOwnerId (handleV (b .handles)) p (λ s. both (test s) (tells o s))))
   after-more =
       destroyed-more (b .handles) p n (withdrawn (b .rings) p (releasedIn p set)) (b .pool) set test lp (withdraw-rows (b .rings) p (releasedIn p set) (shape .rows))
-      (withdraw-ends (b .rings) p (releasedIn p set) ∙ shape .ends) agree holds
+      (withdraw-ends (b .rings) p (releasedIn p set) ∙ shape .ends) agree holds to tells
+      (λ k z. to-places (b .handles) (b .charges) (b .rings) (b .pool) n short bare p set k lp z)
       (λ o l. omega (arith, room o l, withdrawn-lengths (b .rings) (b .pool) p set test lp (shape .rows) (shape .ends) agree o)) apart
 
-  pub destroyed-shape : Shape (withDestroyed b (destroyedSet (b .nodes) (b .handles) (b .rings) p set n))
+  pub destroyed-shape : Shape (withDestroyed b (destroyedSet (b .nodes) (b .handles) (b .charges) (b .rings) p set n))
   unfolding destroyedSet
   destroyed-shape =
       shape-rings (shape-nodes shape (life-length (b .nodes) p set n (shape .nodes) lp)) (after-more .ends) (after-more .sized)
 
   -- Each queue is at most 16 longer.
-  pub destroyed-lengths : (o : ℕ) → o < peers → lengthOf (destroyedSet (b .nodes) (b .handles) (b .rings) p set n .rings .ends) o ≤ lengthOf (b .rings .ends) o + slots
+  pub destroyed-lengths : (o : ℕ) → o < peers → lengthOf (destroyedSet (b .nodes) (b .handles) (b .charges) (b .rings) p set n .rings .ends) o ≤ lengthOf (b .rings .ends) o + slots
   unfolding destroyedSet
   destroyed-lengths o l =
-      let test′ : ℕ → Bool = λ s. both (test s) (held (handleV (b .handles) o s)) in
+      let test′ : ℕ → Bool = λ s. both (test s) (tells o s) in
       omega (
         arith,
         more-length after-more o l,
@@ -539,7 +573,7 @@ module _ (b : Bus) (p set n : ℕ) (test : ℕ → Bool) (shape : Shape b) (lp :
       )
 
   pub destroyed-view : n ≡ acceptedV (b .peers) → All (Own p) (queueV (b .rings) (b .pool) p) →
-      stateOf (withDestroyed b (destroyedSet (b .nodes) (b .handles) (b .rings) p set n)) ≡ destroyAll (stateOf b) p test
+      stateOf (withDestroyed b (destroyedSet (b .nodes) (b .handles) (b .charges) (b .rings) p set n)) ≡ destroyAll (stateOf b) p test
   unfolding destroyedSet destroyAll pushAll withQueues withLives withdraw destroyNotices
   destroyed-view e own =
       ap₂
@@ -550,9 +584,9 @@ module _ (b : Bus) (p set n : ℕ) (test : ℕ → Bool) (shape : Shape b) (lp :
       qs = queueV (b .rings) (b .pool)
 
       new : ℕ → ℕ → List Entry
-      new n o = map (destroyed n) (byOwnerId (handleV (b .handles)) p (λ s. both (test s) (held (handleV (b .handles) o s))))
+      new n o = map (destroyed n) (byOwnerId (handleV (b .handles)) p (λ s. both (test s) (concerned (handleV (b .handles) o) (qs o) n s)))
 
-      queues : queueV (told (b .handles) p kindDestroyed n (withdrawn (b .rings) p (releasedIn p set)) set slots) (b .pool)
+      queues : queueV (told (b .handles) to p kindDestroyed n (withdrawn (b .rings) p (releasedIn p set)) set slots) (b .pool)
           ≡ (λ o. upd qs p (keep (notReleased test) (qs p)) o ++ atPeers (new (acceptedV (b .peers))) o)
       queues =
           after-more .view
@@ -629,7 +663,7 @@ module _ (ns hs : List ℕ) (p n : ℕ) (lp : p < peers) (size : length hs ≡ h
         set = setOf ns hs q (Falling (record { 0 = p }))
 
         go : More r (toldOwners ns hs p n r q) t (λ o. pick (ltb o q) (newAt o) []) →
-            More r (told hs q kindReleased n (toldOwners ns hs p n r q) set slots) t (λ o. pick (ltb o (suc q)) (newAt o) [])
+            More r (told hs (ownerAlone q) q kindReleased n (toldOwners ns hs p n r q) set slots) t (λ o. pick (ltb o (suc q)) (newAt o) [])
         go m =
             more-ext (λ o. pick (ltb o (suc q)) (newAt o) [])
             (more-then m
@@ -712,9 +746,9 @@ apart-held hs q g set l ids holds j k lj lk a b e =
     omega (arith, z)
 
 -- What was destroyed: its nodes are those of deadAll; no node of p lives once all that lived are destroyed, and what lives then lived before.
-pub destroyed-nodes : (ns hs : List ℕ) (r : Rings) (p set n : ℕ) → destroyedSet ns hs r p set n .nodes ≡ deadAll ns p set n slots
+pub destroyed-nodes : (ns hs cs : List ℕ) (r : Rings) (p set n : ℕ) → destroyedSet ns hs cs r p set n .nodes ≡ deadAll ns p set n slots
 unfolding destroyedSet
-destroyed-nodes ns hs r p set n = refl
+destroyed-nodes ns hs cs r p set n = refl
 
 module _ (ns hs : List ℕ) (p n : ℕ) (size : length ns ≡ nodesSize) (lp : p < peers) where
   lives-after : (s : ℕ) →

@@ -4,15 +4,20 @@ ghost use mathlib.Core.Path.{_≡_};
 ghost use Prim.Native.Nat.{_<_, _≤_};
 ghost use lib.ListN.{length};
 ghost use Rattle.laws.specs.Tests.{pick};
-ghost use Rattle.rings.specs.Rings.{ringsOf, oneSlot, QueueTables, releasedBit};
+ghost use Rattle.rings.specs.Rings.{ringSize, ringsOf, oneSlot, QueueTables, releasedBit};
 ghost use Rattle.tables.specs.Handles.{handlesSize};
-ghost use Rattle.notices.specs.Notices.{noticeOf, fallsAt, aboveAt, Fair, asks, setOf, lowerOf, leastAt, postedTo, addressees as addresseesOf, told, deadAll, Destroyed, destroyedOf, destroyedSet, toldOwners};
-ghost use Rattle.ids.specs.Sizes.{peers as peerCount, nodesSize, slots};
+ghost use Rattle.tables.specs.Charges.{chargesSize};
+ghost use Rattle.notices.specs.Notices.{noticeOf, fallsAt, aboveAt, Fair, asks, setOf, lowerOf, leastAt, postedTo, tellsAt, addressees as addresseesBits, addresseesAt, addresseesOf, told, deadAll, Destroyed, destroyedOf, destroyedSet, toldOwners, expired, expiredShown, expiredPlace, expiredAll};
+ghost use Rattle.ids.specs.Sizes.{peers as peerCount, nodesSize, slots, mostIds};
 ghost use Rattle.model.specs.Numbers.{nodes as nodeCount};
+use ids::INVALID;
+use ids::NODES;
 use ids::PEERS;
 use ids::Peer;
+use ids::RING;
 use ids::SLOTS;
 use rings::DESTROYED;
+use rings::DESTROYED_BIT;
 use rings::Entry;
 use rings::Match;
 use rings::RELEASED;
@@ -168,18 +173,152 @@ fn post(
     }
 }
 
-// Who is told: of a destruction every holder, of a release the owner.
-fn addressees(handles: &[u64], kind: u16, s: usize) -> u8
-    requires { ⌜ (length (now handles) ≡ handlesSize) × (s < nodeCount) ⌝ }
-    ensures { λ r. ⌜ r ≡ addresseesOf (now (handles .entry)) kind s ⌝ }
+// Does the destruction of the slot's node by the command n concern the peer? It holds a handle, or an earlier queued message
+// carries the node.
+fn concerns(
+    handles: &[u64],
+    charges: &[u16],
+    ends: &[u16],
+    entries: &[u16],
+    carried: &[u8],
+    numbers: &[u64],
+    o: Peer,
+    s: usize,
+    n: u64,
+) -> bool
+    requires { ⌜ (length (now handles) ≡ handlesSize) × (length (now charges) ≡ chargesSize)
+        × QueueTables (now ends) (now entries) (now carried) (now numbers) × (o .0 < peerCount) × (s < nodeCount) ⌝ }
+    ensures { λ r.
+        let rings = ringsOf (now (ends .entry)) (now (entries .entry)) (now (carried .entry)) (now (numbers .entry)) in
+        ⌜ r ≡ tellsAt (now (handles .entry)) (now (charges .entry)) rings s n (o .0) ⌝ }
 {
-    if kind == DESTROYED {
-        return tables::holders(handles, s);
+    if tables::count_of(handles, o, s) != 0 {
+        return true;
     }
-    1u8 << (s / SLOTS)
+    queues::carried_before(charges, ends, entries, carried, numbers, o, s, n)
 }
 
-// The notices of a kind about the peer's own nodes in the set, by ascending ID.
+// The bit where the peer is told that the command n destroyed the slot's node, else 0.
+fn bit_told(
+    handles: &[u64],
+    charges: &[u16],
+    ends: &[u16],
+    entries: &[u16],
+    carried: &[u8],
+    numbers: &[u64],
+    o: Peer,
+    s: usize,
+    n: u64,
+    bit: u64,
+) -> u64
+    requires { ⌜ (length (now handles) ≡ handlesSize) × (length (now charges) ≡ chargesSize)
+        × QueueTables (now ends) (now entries) (now carried) (now numbers) × (o .0 < peerCount) × (s < nodeCount) ⌝ }
+    ensures { λ r.
+        let rings = ringsOf (now (ends .entry)) (now (entries .entry)) (now (carried .entry)) (now (numbers .entry)) in
+        ⌜ (r ≡ pick (tellsAt (now (handles .entry)) (now (charges .entry)) rings s n (o .0)) bit 0) × (r ≤ bit) ⌝ }
+{
+    if concerns(handles, charges, ends, entries, carried, numbers, o, s, n) {
+        return bit;
+    }
+    0
+}
+
+// Who is told of the destruction: one bit for each peer.
+fn addressees(
+    handles: &[u64],
+    charges: &[u16],
+    ends: &[u16],
+    entries: &[u16],
+    carried: &[u8],
+    numbers: &[u64],
+    s: usize,
+    n: u64,
+) -> u8
+    requires { ⌜ (length (now handles) ≡ handlesSize) × (length (now charges) ≡ chargesSize) × QueueTables (now ends) (now entries) (now carried) (now numbers) × (s < nodeCount) ⌝ }
+    ensures { λ r. ⌜ r ≡ addresseesBits (now (handles .entry)) (now (charges .entry)) (ringsOf (now (ends .entry)) (now (entries .entry)) (now (carried .entry)) (now (numbers .entry))) s n ⌝ }
+{
+    let mut o = 0;
+    let mut bit = 1u64;
+    let mut set = 0u64;
+    while o < PEERS {
+        let b = bit_told(
+            handles,
+            charges,
+            ends,
+            entries,
+            carried,
+            numbers,
+            Peer(o),
+            s,
+            n,
+            bit,
+        );
+        set = b + set;
+        bit = 2 * bit;
+        o += 1;
+    }
+    set as u8
+}
+
+// The same of the peer's own slot at the place k, where it is in the set; else nobody.
+fn addressees_at(
+    handles: &[u64],
+    charges: &[u16],
+    ends: &[u16],
+    entries: &[u16],
+    carried: &[u8],
+    numbers: &[u64],
+    p: Peer,
+    set: u16,
+    n: u64,
+    k: usize,
+) -> u8
+    requires { ⌜ (length (now handles) ≡ handlesSize) × (length (now charges) ≡ chargesSize) × QueueTables (now ends) (now entries) (now carried) (now numbers) × (p .0 < peerCount) × (k < slots) ⌝ }
+    ensures { λ r. ⌜ r ≡ addresseesAt (now (handles .entry)) (now (charges .entry)) (ringsOf (now (ends .entry)) (now (entries .entry)) (now (carried .entry)) (now (numbers .entry))) (p .0) set n k ⌝ }
+{
+    if !rings::bit(rings::wide(set), k) {
+        return 0;
+    }
+    let s = p.0 * SLOTS + k;
+    addressees(handles, charges, ends, entries, carried, numbers, s, n)
+}
+
+// The same of each place of the peer's own slots.
+fn addressees_of(
+    handles: &[u64],
+    charges: &[u16],
+    ends: &[u16],
+    entries: &[u16],
+    carried: &[u8],
+    numbers: &[u64],
+    p: Peer,
+    set: u16,
+    n: u64,
+) -> [u8; 16]
+    requires { ⌜ (length (now handles) ≡ handlesSize) × (length (now charges) ≡ chargesSize) × QueueTables (now ends) (now entries) (now carried) (now numbers) × (p .0 < peerCount) ⌝ }
+    ensures { λ r. ⌜ r ≡ addresseesOf (now (handles .entry)) (now (charges .entry)) (ringsOf (now (ends .entry)) (now (entries .entry)) (now (carried .entry)) (now (numbers .entry))) (p .0) set n ⌝ }
+{
+    let mut to = [0u8; 16];
+    let mut k = 0;
+    while k < SLOTS {
+        to[k] = addressees_at(
+            handles,
+            charges,
+            ends,
+            entries,
+            carried,
+            numbers,
+            p,
+            set,
+            n,
+            k,
+        );
+        k += 1;
+    }
+    to
+}
+
+// The notices of a kind about the peer's own nodes in the set, by ascending ID; of each place a byte says who is told.
 pub fn tell(
     nodes: &[u64],
     handles: &[u64],
@@ -189,11 +328,12 @@ pub fn tell(
     numbers: &mut [u64],
     q: Peer,
     set: u16,
+    to: [u8; 16],
     kind: u16,
     n: u64,
 )
     requires { ⌜ (length (now nodes) ≡ nodesSize) × (length (now handles) ≡ handlesSize) × QueueTables (now ends) (now entries) (now carried) (now numbers) × (q .0 < peerCount) ⌝ }
-    ensures { λ _. ⌜ ringsOf (now (ends .exit)) (now (entries .exit)) (now (carried .exit)) (now (numbers .exit)) ≡ told (now (handles .entry)) (q .0) kind n (ringsOf (now (ends .entry)) (now (entries .entry)) (now (carried .entry)) (now (numbers .entry))) set slots ⌝ }
+    ensures { λ _. ⌜ ringsOf (now (ends .exit)) (now (entries .exit)) (now (carried .exit)) (now (numbers .exit)) ≡ told (now (handles .entry)) to (q .0) kind n (ringsOf (now (ends .entry)) (now (entries .entry)) (now (carried .entry)) (now (numbers .entry))) set slots ⌝ }
 {
     let mut rest = set;
     let mut k = 0;
@@ -202,8 +342,8 @@ pub fn tell(
             return;
         };
         let s = q.0 * SLOTS + j % SLOTS;
-        let to = addressees(handles, kind, s);
-        post(ends, entries, carried, numbers, to, notice(kind, s, n));
+        let e = notice(kind, s, n);
+        post(ends, entries, carried, numbers, to[j % SLOTS], e);
         rest = set_of(nodes, handles, q, Asked::Above(rest, j));
         k += 1;
     }
@@ -223,10 +363,12 @@ fn bury(nodes: &mut [u64], p: Peer, set: u16, n: u64)
     }
 }
 
-// The peer's own nodes in the set are destroyed: their release notices are withdrawn, and each holder is told.
+// The peer's own nodes in the set are destroyed: their release notices are withdrawn, and whom it concerns is told. Who
+// that is, is worked out before anything is queued.
 pub fn destroy_set(
     nodes: &mut [u64],
     handles: &[u64],
+    charges: &[u16],
     ends: &mut [u16],
     entries: &mut [u16],
     carried: &mut [u8],
@@ -235,9 +377,10 @@ pub fn destroy_set(
     set: u16,
     n: u64,
 )
-    requires { ⌜ (length (now nodes) ≡ nodesSize) × (length (now handles) ≡ handlesSize) × QueueTables (now ends) (now entries) (now carried) (now numbers) × (p .0 < peerCount) ⌝ }
-    ensures { λ _. ⌜ destroyedOf (now (nodes .exit)) (ringsOf (now (ends .exit)) (now (entries .exit)) (now (carried .exit)) (now (numbers .exit))) ≡ destroyedSet (now (nodes .entry)) (now (handles .entry)) (ringsOf (now (ends .entry)) (now (entries .entry)) (now (carried .entry)) (now (numbers .entry))) (p .0) set n ⌝ }
+    requires { ⌜ (length (now nodes) ≡ nodesSize) × (length (now handles) ≡ handlesSize) × (length (now charges) ≡ chargesSize) × QueueTables (now ends) (now entries) (now carried) (now numbers) × (p .0 < peerCount) ⌝ }
+    ensures { λ _. ⌜ destroyedOf (now (nodes .exit)) (ringsOf (now (ends .exit)) (now (entries .exit)) (now (carried .exit)) (now (numbers .exit))) ≡ destroyedSet (now (nodes .entry)) (now (handles .entry)) (now (charges .entry)) (ringsOf (now (ends .entry)) (now (entries .entry)) (now (carried .entry)) (now (numbers .entry))) (p .0) set n ⌝ }
 {
+    let to = addressees_of(handles, charges, ends, entries, carried, numbers, p, set, n);
     let m = Match {
         kinds: RELEASED_BIT,
         first: p.0 * SLOTS,
@@ -254,6 +397,7 @@ pub fn destroy_set(
         numbers,
         p,
         set,
+        to,
         DESTROYED,
         n,
     );
@@ -263,6 +407,7 @@ pub fn destroy_set(
 pub fn destroy_one(
     nodes: &mut [u64],
     handles: &[u64],
+    charges: &[u16],
     ends: &mut [u16],
     entries: &mut [u16],
     carried: &mut [u8],
@@ -271,14 +416,14 @@ pub fn destroy_one(
     s: usize,
     n: u64,
 )
-    requires { ⌜ (length (now nodes) ≡ nodesSize) × (length (now handles) ≡ handlesSize) × QueueTables (now ends) (now entries) (now carried) (now numbers) × (p .0 < peerCount) ⌝ }
-    ensures { λ _. ⌜ destroyedOf (now (nodes .exit)) (ringsOf (now (ends .exit)) (now (entries .exit)) (now (carried .exit)) (now (numbers .exit))) ≡ destroyedSet (now (nodes .entry)) (now (handles .entry)) (ringsOf (now (ends .entry)) (now (entries .entry)) (now (carried .entry)) (now (numbers .entry))) (p .0) (oneSlot releasedBit s .mask) n ⌝ }
+    requires { ⌜ (length (now nodes) ≡ nodesSize) × (length (now handles) ≡ handlesSize) × (length (now charges) ≡ chargesSize) × QueueTables (now ends) (now entries) (now carried) (now numbers) × (p .0 < peerCount) ⌝ }
+    ensures { λ _. ⌜ destroyedOf (now (nodes .exit)) (ringsOf (now (ends .exit)) (now (entries .exit)) (now (carried .exit)) (now (numbers .exit))) ≡ destroyedSet (now (nodes .entry)) (now (handles .entry)) (now (charges .entry)) (ringsOf (now (ends .entry)) (now (entries .entry)) (now (carried .entry)) (now (numbers .entry))) (p .0) (oneSlot releasedBit s .mask) n ⌝ }
 {
     let own = p.0 * SLOTS + s % SLOTS;
+    let to = addressees(handles, charges, ends, entries, carried, numbers, own, n);
     let m = Match::one_slot(RELEASED_BIT, own);
     queues::withdraw(ends, entries, carried, numbers, p, m);
     tables::set_dead(nodes, own, n);
-    let to = tables::holders(handles, own);
     let e = notice(DESTROYED, own, n);
     post(ends, entries, carried, numbers, to, e);
 }
@@ -309,9 +454,162 @@ pub fn tell_owners(
             numbers,
             Peer(q),
             set,
+            [1u8 << q; 16],
             RELEASED,
             n,
         );
         q += 1;
+    }
+}
+
+// The peer's notice that the slot's node was destroyed goes where nothing keeps it: "withdrawn as soon as the peer holds no
+// handle and no earlier message carrying the node is left". None stands of a live node.
+pub fn expire(
+    nodes: &[u64],
+    handles: &[u64],
+    charges: &[u16],
+    ends: &mut [u16],
+    entries: &mut [u16],
+    carried: &mut [u8],
+    numbers: &mut [u64],
+    p: Peer,
+    s: usize,
+)
+    requires { ⌜ (length (now nodes) ≡ nodesSize) × (length (now handles) ≡ handlesSize) × (length (now charges) ≡ chargesSize)
+        × QueueTables (now ends) (now entries) (now carried) (now numbers) × (p .0 < peerCount) × (s < nodeCount) ⌝ }
+    ensures { λ _.
+        let before = ringsOf (now (ends .entry)) (now (entries .entry)) (now (carried .entry)) (now (numbers .entry)) in
+        let after = ringsOf (now (ends .exit)) (now (entries .exit)) (now (carried .exit)) (now (numbers .exit)) in
+        ⌜ after ≡ expired (now (nodes .entry)) (now (handles .entry)) (now (charges .entry)) (p .0) before s ⌝ }
+{
+    if tables::is_live(nodes, s) {
+        return;
+    }
+    let n = tables::died_at(nodes, s);
+    if concerns(handles, charges, ends, entries, carried, numbers, p, s, n) {
+        return;
+    }
+    let m = Match::one_slot(DESTROYED_BIT, s);
+    queues::withdraw(ends, entries, carried, numbers, p, m);
+}
+
+// The same of the peer's own slots among the first nh that a message carried, where the invalid ID was shown.
+pub fn expire_shown(
+    nodes: &[u64],
+    handles: &[u64],
+    charges: &[u16],
+    ends: &mut [u16],
+    entries: &mut [u16],
+    carried: &mut [u8],
+    numbers: &mut [u64],
+    p: Peer,
+    slots: [u8; 8],
+    ids: [u64; 8],
+    nh: usize,
+)
+    requires { ⌜ (length (now nodes) ≡ nodesSize) × (length (now handles) ≡ handlesSize) × (length (now charges) ≡ chargesSize)
+        × QueueTables (now ends) (now entries) (now carried) (now numbers) × (p .0 < peerCount) × (nh ≤ mostIds) ⌝ }
+    ensures { λ _.
+        let before = ringsOf (now (ends .entry)) (now (entries .entry)) (now (carried .entry)) (now (numbers .entry)) in
+        let after = ringsOf (now (ends .exit)) (now (entries .exit)) (now (carried .exit)) (now (numbers .exit)) in
+        ⌜ after ≡ expiredShown (now (nodes .entry)) (now (handles .entry)) (now (charges .entry)) (p .0) slots ids before nh ⌝ }
+{
+    let mut k = 0;
+    while k < nh {
+        if ids[k] == INVALID {
+            let s = slots[k] as usize % NODES;
+            if s / SLOTS == p.0 {
+                expire(
+                    nodes,
+                    handles,
+                    charges,
+                    ends,
+                    entries,
+                    carried,
+                    numbers,
+                    p,
+                    s,
+                );
+            }
+        }
+        k += 1;
+    }
+}
+
+// The same of the slot of a destroy notice at the i-th place of the peer's queue.
+fn expire_at(
+    nodes: &[u64],
+    handles: &[u64],
+    charges: &[u16],
+    ends: &mut [u16],
+    entries: &mut [u16],
+    carried: &mut [u8],
+    numbers: &mut [u64],
+    p: Peer,
+    i: usize,
+)
+    requires { ⌜ (length (now nodes) ≡ nodesSize) × (length (now handles) ≡ handlesSize) × (length (now charges) ≡ chargesSize)
+        × QueueTables (now ends) (now entries) (now carried) (now numbers) × (p .0 < peerCount) × (i ≤ ringSize) ⌝ }
+    ensures { λ _.
+        let before = ringsOf (now (ends .entry)) (now (entries .entry)) (now (carried .entry)) (now (numbers .entry)) in
+        let after = ringsOf (now (ends .exit)) (now (entries .exit)) (now (carried .exit)) (now (numbers .exit)) in
+        ⌜ after ≡ expiredPlace (now (nodes .entry)) (now (handles .entry)) (now (charges .entry)) (p .0) before i ⌝ }
+{
+    let head = rings::head_of(ends, p);
+    let row = rings::row_of(p, head, i);
+    let e = rings::get_entry(entries, carried, numbers, row);
+    if e.kind != DESTROYED {
+        return;
+    }
+    let s = e.slot as usize % NODES;
+    expire(
+        nodes,
+        handles,
+        charges,
+        ends,
+        entries,
+        carried,
+        numbers,
+        p,
+        s,
+    );
+}
+
+// The same of every destroy notice in the peer's queue, the last first, so that none is passed over where entries
+// move up.
+pub fn expire_all(
+    nodes: &[u64],
+    handles: &[u64],
+    charges: &[u16],
+    ends: &mut [u16],
+    entries: &mut [u16],
+    carried: &mut [u8],
+    numbers: &mut [u64],
+    p: Peer,
+)
+    requires { ⌜ (length (now nodes) ≡ nodesSize) × (length (now handles) ≡ handlesSize) × (length (now charges) ≡ chargesSize)
+        × QueueTables (now ends) (now entries) (now carried) (now numbers) × (p .0 < peerCount) ⌝ }
+    ensures { λ _.
+        let before = ringsOf (now (ends .entry)) (now (entries .entry)) (now (carried .entry)) (now (numbers .entry)) in
+        let after = ringsOf (now (ends .exit)) (now (entries .exit)) (now (carried .exit)) (now (numbers .exit)) in
+        ⌜ after ≡ expiredAll (now (nodes .entry)) (now (handles .entry)) (now (charges .entry)) (p .0) before ⌝ }
+{
+    let mut i = rings::len_of(ends, p);
+    if RING < i {
+        return;
+    }
+    while 0 < i {
+        i -= 1;
+        expire_at(
+            nodes,
+            handles,
+            charges,
+            ends,
+            entries,
+            carried,
+            numbers,
+            p,
+            i,
+        );
     }
 }

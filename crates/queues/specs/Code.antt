@@ -22,7 +22,7 @@ use Rattle.rings.specs.Laws.{row-at, queue-empty, queue-length, queue-at}
 use Rattle.pool.specs.Pool.{Kept, kept, appended, closed, keptPieces}
 use Rattle.tables.specs.Charges.{chargesAt, putCharges}
 use Rattle.model.specs.Lists.{either, any, anyBelow}
-use Rattle.queues.specs.Queues.{Queues, usedOf, messageKind, isMessage, chargeIn, entered, enqueued, settledCharges, settledPool, lessened, lessenedAll, lessenedCharges, withdrawn, removedFrom, emptiedCharges, leads, followsIn, namesIn, attachedOf, carriesIn, namedIn}
+use Rattle.queues.specs.Queues.{Queues, usedOf, messageKind, isMessage, chargeIn, entered, enqueued, settledCharges, settledPool, lessened, lessenedAll, lessenedCharges, withdrawn, removedFrom, emptiedCharges, leads, followsIn, namesIn, attachedOf, carriesIn, namedIn, bringsIn, carriedBefore}
 use Rattle.ids.specs.Sizes.{entryFields, carriedFields}
 
 -- is_message_kind, is_message
@@ -299,3 +299,66 @@ module _ (cs : List ℕ) (g : Rings) (s q : ℕ) {c : Charges} (ec : c ≡ charg
   pub carries-some : (n ≡ 0 → ⊥) → {b : Bool} → b ≡ any (namesIn s) (queueOf g q) → b ≡ carriesIn cs g s q
   unfolding carriesIn
   carries-some ne eb = rw (← ec, ← en, ne-eqb n 0 ne) eb
+
+-- carries_row
+module _ (s num : ℕ) (e c n : List ℕ) (row : ℕ) {b : Bool} (eb : b ≡ messageKind (getD e (entryFields * row) 0)) where
+  pub brings-notice : b ≡ false → false ≡ bringsIn num s (entryAt (rowsOf e c n) row)
+  unfolding bringsIn isMessage entryAt
+  brings-notice f = rw (row5, ← eb, f)
+
+  module _ (t : b ≡ true) {w : ℕ} (ew : w ≡ getD n row 0) where
+    pub brings-later : num ≤ w → false ≡ bringsIn num s (entryAt (rowsOf e c n) row)
+    unfolding bringsIn isMessage entryAt
+    brings-later h = rw (row5, ← eb, t, ← ew, le-ltb w num h)
+
+    pub brings-attached : w < num → {x : ℕ} → x ≡ getD e (entryFields * row + 4) 0 → {k : ℕ} → k ≡ min x 8 → {r : Bool} → r ≡ any (eqb s) (take k (rowIn carriedFields c row)) →
+        r ≡ bringsIn num s (entryAt (rowsOf e c n) row)
+    unfolding bringsIn isMessage entryAt
+    brings-attached h ex {k} ek er =
+        let few : k ≡ min (length (rowIn carriedFields c row)) (getD e (entryFields * row + 4) 0) = omega (arith, row-length 8 c row) in
+        rw (row5, ← eb, t, ← ew, lt-ltb w num h, ← take-min (getD e (entryFields * row + 4) 0) (rowIn carriedFields c row))
+        (er ∙ ap (λ (y : ℕ). any (eqb s) (take y (rowIn carriedFields c row))) few)
+
+-- carried_at
+pub record Bringing (g : Rings) (p s num i : ℕ) : Type 0 where
+  pub rest : any (bringsIn num s) (drop i (queueOf g p)) ≡ any (bringsIn num s) (queueOf g p)
+
+pub bringing-start : (g : Rings) (p s num : ℕ) → Bringing g p s num 0
+bringing-start g p s num = record { rest = refl }
+
+module _ {g : Rings} {p s num i : ℕ} (v : Bringing g p s num i) {l : ℕ} (el : l ≡ lengthOf (g .ends) p) where
+  pub bringing-end : l ≤ i → false ≡ any (bringsIn num s) (queueOf g p)
+  bringing-end h = ap (any (bringsIn num s)) (sym (queue-end g p i el h)) ∙ v .rest
+
+  module _ (lt : i < l) {h : ℕ} (eh : h ≡ headOf (g .ends) p) {row : ℕ} (er : row ≡ rowOf p h i) {b : Bool} (eb : b ≡ bringsIn num s (entryAt (g .rows) row)) where
+    bringing-here : any (bringsIn num s) (entryAt (g .rows) row ∷ drop (i + 1) (queueOf g p)) ≡ any (bringsIn num s) (queueOf g p)
+    bringing-here = ap (any (bringsIn num s)) (sym (queue-next g p i el lt eh er refl)) ∙ v .rest
+
+    pub bringing-found : b ≡ true → true ≡ any (bringsIn num s) (queueOf g p)
+    bringing-found t = sym (any-here (bringsIn num s) (entryAt (g .rows) row) (drop (i + 1) (queueOf g p)) (sym eb ∙ t)) ∙ bringing-here
+
+    pub bringing-next : b ≡ false → Bringing g p s num (i + 1)
+    bringing-next f = record { rest = sym (any-next (bringsIn num s) (entryAt (g .rows) row) (drop (i + 1) (queueOf g p)) (sym eb ∙ f)) ∙ bringing-here }
+
+-- carried_before
+module _ (cs : List ℕ) (g : Rings) (s num p : ℕ) {n : ℕ} (en : n ≡ lengthOf (g .ends) p) where
+  pub before-empty : n ≡ 0 → false ≡ carriedBefore cs g s num p
+  unfolding carriedBefore
+  before-empty z = rw (← en, z, queue-empty g p (sym en ∙ z)) (go (eqb (attachedOf (chargesAt cs p)) 0))
+    where
+      go : (b : Bool) → false ≡ pick b false false
+      go true = refl
+      go false = refl
+
+  pub before-long : ringSize < n → false ≡ carriedBefore cs g s num p
+  unfolding carriedBefore
+  before-long h = rw (← en, lt-leb n ringSize h)
+
+  module _ (short : n ≤ ringSize) {c : Charges} (ec : c ≡ chargesAt cs p) {m : ℕ} (em : m ≡ attachedOf c) where
+    pub before-none : m ≡ 0 → false ≡ carriedBefore cs g s num p
+    unfolding carriedBefore
+    before-none z = rw (← en, le-leb n ringSize short, ← ec, ← em, z)
+
+    pub before-some : (m ≡ 0 → ⊥) → {b : Bool} → b ≡ any (bringsIn num s) (queueOf g p) → b ≡ carriedBefore cs g s num p
+    unfolding carriedBefore
+    before-some ne eb = rw (← en, le-leb n ringSize short, ← ec, ← em, ne-eqb m 0 ne) eb

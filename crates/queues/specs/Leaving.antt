@@ -17,7 +17,7 @@ use Rattle.quota.specs.declared.Charges.{Charges}
 use Rattle.quota.specs.Charges.{users, discharged}
 use Rattle.rings.specs.declared.Entry.{Entry as Row}
 use Rattle.rings.specs.declared.Match.{Match}
-use Rattle.rings.specs.Rings.{releasedBit, noticeBits, allBits, slots, ringSize, endsSize, Rings, Sized, lengthOf, queueOf, firstOf, bitAt, matches, oneSlot, removed}
+use Rattle.rings.specs.Rings.{messageBit, destroyedBit, releasedBit, allBits, slots, ringSize, endsSize, Rings, Sized, lengthOf, queueOf, firstOf, bitAt, matches, oneSlot, removed}
 use Rattle.rings.specs.Laws.{afterPop, pop-ends, pop-length, pop-lengths, pop-own, pop-other, remove-sized, remove-ends, remove-lengths, remove-length as rings-less, remove-own as rings-own, remove-other as rings-other}
 use Rattle.rings.specs.Matches.{matches-set, matches-one}
 use Rattle.pool.specs.Pool.{areaSize, poolSize, bytesOf, closed, bytesIn, Pair, paired, sumOf, keptPieces}
@@ -25,7 +25,8 @@ use Rattle.pool.specs.Laws.{close-own, close-other, close-length}
 use Rattle.pool.specs.Pairs.{remove-place, remove-own as pool-own, remove-other as pool-other, remove-length as pool-length}
 use Rattle.tables.specs.Charges.{chargesSize, chargesAt, putCharges}
 use Rattle.tables.specs.ChargesView.{chargesV, charges-is, charges-four, charges-length, charges-stored, discharged-length}
-use Rattle.model.specs.State.{Message, Entry, messagesIn}
+use Rattle.model.specs.Lists.{both}
+use Rattle.model.specs.State.{Message, Entry, Entry.message, Entry.destroyed, Entry.released, messagesIn}
 use Rattle.model.specs.Changes.{chargeOf, dischargedAll, notReleased, dropped, remains}
 use Rattle.view.specs.View.{entryV, areaOf, rowsV, queueV}
 use Rattle.view.specs.Rows.{area-bytes, queue-own, queue-upd, rows-same}
@@ -505,35 +506,67 @@ module _ (q : Queues) (p : ℕ) (m : Match) where
           lessened-view m gone agree es (areaOf (q .pool) p (sumOf es)) old (rows-whole (q .rings) (q .pool) p)
           ∙ ap₂ (λ (c : Charges) (ds : List Entry). dischargedAll c (keep gone (messagesIn ds))) (sym here) (sym (queue-own (q .rings) (q .pool) p l))
 
--- What goes with the handle of p to the slot s: all notices about it, and where p owns it, the messages for it.
-pub remains-own : (p s : ℕ) → s / slots ≡ p → (x : Pair) → remains p s (entryV x) ≡ not (matches (oneSlot allBits s) (x .entry))
-remains-own p s own x = go (kind x)
-  where
-    go : Kind x → remains p s (entryV x) ≡ not (matches (oneSlot allBits s) (x .entry))
-    go (is-message h b k f) = rw (f, matches-one 7 s (x .entry), k, eq-eqb (s / slots) p own)
-    go (is-destroyed h b k f) = rw (f, matches-one 7 s (x .entry), k)
-    go (is-released h b k f) = rw (f, matches-one 7 s (x .entry), k)
+-- What goes with the handle of p to its own slot s: its release notice and the messages for it.
+module _ (p s : ℕ) (own : s / slots ≡ p) where
+  pub remains-own : (x : Pair) → remains p s (entryV x) ≡ not (matches (oneSlot (messageBit + releasedBit) s) (x .entry))
+  remains-own x = go (kind x)
+    where
+      go : Kind x → remains p s (entryV x) ≡ not (matches (oneSlot (messageBit + releasedBit) s) (x .entry))
+      go (is-message h b k f) = rw (f, matches-one 5 s (x .entry), k, eq-eqb (s / slots) p own)
+      go (is-destroyed h b k f) = rw (f, matches-one 5 s (x .entry), k)
+      go (is-released h b k f) = rw (f, matches-one 5 s (x .entry), k)
 
-pub dropped-own : (p s : ℕ) → s / slots ≡ p → (x : Pair) → isMessage (x .entry) ≡ true → matches (oneSlot allBits s) (x .entry) ≡ dropped p s (messageV x)
-dropped-own p s own x h = go (kind x)
-  where
-    go : Kind x → matches (oneSlot allBits s) (x .entry) ≡ dropped p s (messageV x)
-    go (is-message g b k f) = rw (matches-one 7 s (x .entry), k, eq-eqb (s / slots) p own)
-    go (is-destroyed g b k f) = clash (sym h ∙ g)
-    go (is-released g b k f) = clash (sym h ∙ g)
+  pub dropped-own : (x : Pair) → isMessage (x .entry) ≡ true → matches (oneSlot (messageBit + releasedBit) s) (x .entry) ≡ dropped p s (messageV x)
+  dropped-own x h = go (kind x)
+    where
+      go : Kind x → matches (oneSlot (messageBit + releasedBit) s) (x .entry) ≡ dropped p s (messageV x)
+      go (is-message g b k f) = rw (matches-one 5 s (x .entry), k, eq-eqb (s / slots) p own)
+      go (is-destroyed g b k f) = clash (sym h ∙ g)
+      go (is-released g b k f) = clash (sym h ∙ g)
 
-pub remains-other : (p s : ℕ) → (s / slots ≡ p → ⊥) → (x : Pair) → remains p s (entryV x) ≡ not (matches (oneSlot noticeBits s) (x .entry))
-remains-other p s ne x = go (kind x)
-  where
-    go : Kind x → remains p s (entryV x) ≡ not (matches (oneSlot noticeBits s) (x .entry))
-    go (is-message h b k f) = rw (f, matches-one 6 s (x .entry), k, ne-eqb (s / slots) p ne)
-    go (is-destroyed h b k f) = rw (f, matches-one 6 s (x .entry), k)
-    go (is-released h b k f) = rw (f, matches-one 6 s (x .entry), k)
+-- The destroy notice of a slot.
+abbrev pub undestroyed : ℕ → Entry → Bool
+undestroyed s (message n m) = true
+undestroyed s (destroyed n t) = not (eqb t s)
+undestroyed s (released n t) = true
 
-pub dropped-other : (p s : ℕ) → (s / slots ≡ p → ⊥) → (x : Pair) → isMessage (x .entry) ≡ true → matches (oneSlot noticeBits s) (x .entry) ≡ dropped p s (messageV x)
-dropped-other p s ne x h = go (kind x)
+pub destroyed-match : (s : ℕ) (x : Pair) → undestroyed s (entryV x) ≡ not (matches (oneSlot destroyedBit s) (x .entry))
+destroyed-match s x = go (kind x)
   where
-    go : Kind x → matches (oneSlot noticeBits s) (x .entry) ≡ dropped p s (messageV x)
-    go (is-message g b k f) = rw (matches-one 6 s (x .entry), k, ne-eqb (s / slots) p ne)
-    go (is-destroyed g b k f) = clash (sym h ∙ g)
-    go (is-released g b k f) = clash (sym h ∙ g)
+    go : Kind x → undestroyed s (entryV x) ≡ not (matches (oneSlot destroyedBit s) (x .entry))
+    go (is-message h b k f) = rw (f, matches-one 2 s (x .entry), k)
+    go (is-destroyed h b k f) = rw (f, matches-one 2 s (x .entry), k)
+    go (is-released h b k f) = rw (f, matches-one 2 s (x .entry), k)
+
+pub destroyed-bytes : (s : ℕ) (e : Row) → matches (oneSlot destroyedBit s) e ≡ true → bytesIn e ≡ 0
+destroyed-bytes s e h = go (kind (record { entry = e; payload = [] }))
+  where
+    go : Kind (record { entry = e; payload = [] }) → bytesIn e ≡ 0
+    go (is-message g b k f) = clash (sym h ∙ matches-one 2 s e ∙ rw k refl)
+    go (is-destroyed g b k f) = b
+    go (is-released g b k f) = b
+
+-- What goes with the handle of p to its own slot s where nothing else keeps the destroy notice of s: all notices about it, and the messages for it.
+abbrev pub outlives : ℕ → ℕ → Entry → Bool
+outlives p s e = both (remains p s e) (undestroyed s e)
+
+module _ (p s : ℕ) (own : s / slots ≡ p) where
+  pub outlives-own : (x : Pair) → outlives p s (entryV x) ≡ not (matches (oneSlot allBits s) (x .entry))
+  outlives-own x = go (kind x)
+    where
+      whole : (b : Bool) → both b true ≡ b
+      whole true = refl
+      whole false = refl
+
+      go : Kind x → outlives p s (entryV x) ≡ not (matches (oneSlot allBits s) (x .entry))
+      go (is-message h b k f) = rw (f, matches-one 7 s (x .entry), k, eq-eqb (s / slots) p own) (whole (not (eqb (x .entry .slot) s)))
+      go (is-destroyed h b k f) = rw (f, matches-one 7 s (x .entry), k)
+      go (is-released h b k f) = rw (f, matches-one 7 s (x .entry), k) (whole (not (eqb (x .entry .slot) s)))
+
+  pub outdropped-own : (x : Pair) → isMessage (x .entry) ≡ true → matches (oneSlot allBits s) (x .entry) ≡ dropped p s (messageV x)
+  outdropped-own x h = go (kind x)
+    where
+      go : Kind x → matches (oneSlot allBits s) (x .entry) ≡ dropped p s (messageV x)
+      go (is-message g b k f) = rw (matches-one 7 s (x .entry), k, eq-eqb (s / slots) p own)
+      go (is-destroyed g b k f) = clash (sym h ∙ g)
+      go (is-released g b k f) = clash (sym h ∙ g)

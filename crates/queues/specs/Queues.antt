@@ -163,3 +163,13 @@ carriesIn cs r s q = pick (eqb (attachedOf (chargesAt cs q)) 0) false (any (name
 -- One of any peer does. On a bus of a run this is "a queued message names it", of a slot that nobody holds: a message for a node stands only where its owner holds it.
 unfoldable pub namedIn : List ℕ → Rings → ℕ → Bool
 namedIn cs r s = anyBelow (carriesIn cs r s) peers
+
+-- "an earlier queued message that carries the node": a message that was queued before the command n has the slot attached.
+unfoldable pub bringsIn : ℕ → ℕ → Entry → Bool
+bringsIn n s e = pick (isMessage e) (pick (ltb (e .number) n) (any (eqb s) (take (e .nh) (e .carried))) false) false
+
+-- One in a peer's queue does. A queue without attached handles has none, and one longer than its ring is not looked through.
+unfoldable pub carriedBefore : List ℕ → Rings → ℕ → ℕ → ℕ → Bool
+carriedBefore cs r s n p =
+    let found = pick (eqb (attachedOf (chargesAt cs p)) 0) false (any (bringsIn n s) (queueOf r p)) in
+    pick (leb (lengthOf (r .ends) p) ringSize) found false

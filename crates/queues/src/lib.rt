@@ -7,12 +7,12 @@ ghost use mathlib.Core.List.{List};
 ghost use Prim.Native.Nat.{ℕ, _*_, _<_, _≤_};
 ghost use lib.ListN.{length, take};
 ghost use Rattle.laws.specs.Rows.{rowIn};
-ghost use Rattle.rings.specs.Rings.{peers, ringSize, rowCount, carriedFields, endsSize, entriesSize, carriedSize, rowsOf, ringsOf, QueueTables, entryAt, lengthOf, queueOf, cleared};
+ghost use Rattle.rings.specs.Rings.{peers, ringSize, rowCount, carriedFields, endsSize, entriesSize, carriedSize, rowsOf, Sized, ringsOf, QueueTables, entryAt, lengthOf, queueOf, cleared};
 ghost use Rattle.pool.specs.Pool.{areaSize, keptPieces};
 ghost use Rattle.tables.specs.Charges.{chargesSize};
 ghost use Rattle.model.specs.Lists.{any};
 ghost use lib.Dec.{eqb};
-ghost use Rattle.queues.specs.Queues.{queuesOf, Short, usedOf, messageKind, isMessage, chargeIn, entered, enqueued, settledCharges, settledPool, lessened, lessenedAll, lessenedCharges, withdrawn, removedFrom, emptiedCharges, followsIn, namesIn, attachedOf, carriesIn, namedIn};
+ghost use Rattle.queues.specs.Queues.{queuesOf, Short, usedOf, messageKind, isMessage, chargeIn, entered, enqueued, settledCharges, settledPool, lessened, lessenedAll, lessenedCharges, withdrawn, removedFrom, emptiedCharges, followsIn, namesIn, attachedOf, carriesIn, namedIn, bringsIn, carriedBefore};
 use ids::AREA;
 use ids::CARRIED_FIELDS;
 use ids::ENTRY_FIELDS;
@@ -332,7 +332,7 @@ fn named_at(
 }
 
 // The attached handles that are queued at a peer: what the users have there.
-fn attached(c: Charges) -> usize
+pub fn attached(c: Charges) -> usize
     ensures { λ r. ⌜ r ≡ attachedOf c ⌝ }
 {
     let by = c.by;
@@ -384,4 +384,80 @@ pub fn named(
         q += 1;
     }
     false
+}
+
+// Is the entry in the row a message that was queued before the command n and carries the slot? Its destination is not asked.
+fn carries_row(
+    entries: &[u16],
+    carried: &[u8],
+    numbers: &[u64],
+    row: usize,
+    s: usize,
+    n: u64,
+) -> bool
+    requires { ⌜ Sized (rowsOf (now entries) (now carried) (now numbers)) × (row < rowCount) ⌝ }
+    ensures { λ r. ⌜ r ≡ bringsIn n s (entryAt (rowsOf (now (entries .entry)) (now (carried .entry)) (now (numbers .entry))) row) ⌝ }
+{
+    let a = ENTRY_FIELDS * row;
+    if !is_message_kind(entries[a]) {
+        return false;
+    }
+    if n <= numbers[row] {
+        return false;
+    }
+    let nh = copies::least(rings::wide(entries[a + 4]), MOST_IDS);
+    is_among(carried, row, nh, s)
+}
+
+// Does a message in the peer's queue that was queued before the command n carry the slot?
+fn carried_at(
+    ends: &[u16],
+    entries: &[u16],
+    carried: &[u8],
+    numbers: &[u64],
+    p: Peer,
+    s: usize,
+    n: u64,
+) -> bool
+    requires { ⌜ QueueTables (now ends) (now entries) (now carried) (now numbers) × (p .0 < peers) × (lengthOf (now ends) (p .0) ≤ ringSize) ⌝ }
+    ensures { λ r. ⌜ r ≡ any (bringsIn n s) (queueOf (ringsOf (now (ends .entry)) (now (entries .entry)) (now (carried .entry)) (now (numbers .entry))) (p .0)) ⌝ }
+{
+    let head = rings::head_of(ends, p);
+    let len = rings::len_of(ends, p);
+    let mut i = 0;
+    while i < len {
+        let row = rings::row_of(p, head, i);
+        if carries_row(entries, carried, numbers, row, s, n) {
+            return true;
+        }
+        i += 1;
+    }
+    false
+}
+
+// The same question; a queue that is empty or without attached handles is not looked through.
+pub fn carried_before(
+    charges: &[u16],
+    ends: &[u16],
+    entries: &[u16],
+    carried: &[u8],
+    numbers: &[u64],
+    p: Peer,
+    s: usize,
+    n: u64,
+) -> bool
+    requires { ⌜ (length (now charges) ≡ chargesSize) × QueueTables (now ends) (now entries) (now carried) (now numbers) × (p .0 < peers) ⌝ }
+    ensures { λ r. ⌜ r ≡ carriedBefore (now (charges .entry)) (ringsOf (now (ends .entry)) (now (entries .entry)) (now (carried .entry)) (now (numbers .entry))) s n (p .0) ⌝ }
+{
+    let len = rings::len_of(ends, p);
+    if len == 0 {
+        return false;
+    }
+    if RING < len {
+        return false;
+    }
+    if attached(tables::load(charges, p)) == 0 {
+        return false;
+    }
+    carried_at(ends, entries, carried, numbers, p, s, n)
 }

@@ -21,9 +21,11 @@ use Rattle.lines.specs.Chunks.{NoLf}
 use Rattle.lines.specs.RoundTrip.{Byte}
 use Rattle.lines.specs.Cuts.{textOf, lfs}
 use Rattle.model.specs.Step.{Call}
+use Rattle.model.specs.Happened.{Happened}
 use Rattle.view.specs.View.{Bus, busOf}
 use Rattle.bus_model.specs.Command.{sizedOk, Done, doneOf, refusedBy, commandOf, freshOf, freshNumber, freshBus}
 use Rattle.bus_model.specs.Ran.{Exchange, Ran}
+use Rattle.bus_model.specs.Histories.{historyOf}
 use Rattle.bus_model.specs.Third.{book, Next, Demanded}
 use Rattle.bus.proofs.Calls.{FreshArguments, FreshReturned, FreshLeft, oldIn, madeOut, made-said}
 use Rattle.bus.proofs.fresh.Reads as fresh-reads
@@ -33,7 +35,7 @@ use Rattle.journal_model.specs.Journal.{isQuestion, WithJournal, returnedWith, 
 use Rattle.journal_model.specs.Exact.{exchangeWith, framesOf, busAfterCounted}
 use Rattle.journal_model.specs.Runs.{fitting, DemandThree, replayHistory}
 use Rattle.journal_model.specs.Journalled.Journalled.{resumed as resumes}
-use Rattle.journal_model.specs.Journalled.{Journalled, Journalled.begun, Journalled.more, UsedText, kept-text-of, recovery-exact-of, journal-demand, last-of-all, never-five-journalled, Untouched, only-the-line, runs-bus, stopped-fresh, nothing-written}
+use Rattle.journal_model.specs.Journalled.{Journalled, Journalled.begun, Journalled.more, UsedText, kept-text-of, recovery-exact-of, journal-demand, last-of-all, happened-journalled, never-five-journalled, Untouched, only-the-line, runs-bus, stopped-fresh, nothing-written}
 use Rattle.journal.proofs.command_with_journal as command
 use Rattle.journal.proofs.command_with_journal.Kinds as command-kinds
 use Rattle.journal.proofs.command_with_journal.Reads as command-reads
@@ -218,6 +220,10 @@ demand-three-of-calls xs b j u t =
         (doneOf (exchanged κs a r s .outcome) (busOut κs s) (exchanged κs a r s .after) ≡ refusedBy EFBIG b (callIn κs a .buffer)) ⊎ Next (fitting xs) (exchanged κs a r s)
     go κs a r s x (inl e) = inl (ap₂ (λ (y : Exchange) (w : Bus). doneOf (y .outcome) w (y .after)) (x .exchange) (x .bus) ∙ e)
     go κs a r s x (inr n) = inr (subst (λ (y : Exchange). Next (fitting xs) y) (sym (x .exchange)) n)
+
+-- What is exchanged in calls, without what was answered 27, is a history: what holds of every history holds of it.
+pub happened-of-calls : (xs : List Exchange) (b : Bus) (j : List ℕ) (u : ℕ) → Calls xs b j u → Happened (historyOf (fitting xs))
+happened-of-calls xs b j u c = happened-journalled xs b j u (calls-journalled c)
 
 -- 5 is never given in a run.
 pub never-five-of-calls : (xs : List Exchange) (b : Bus) (j : List ℕ) (u : ℕ) → Calls xs b j u → All (λ x. x .outcome .number ≡ EIO → ⊥) xs

@@ -32,17 +32,20 @@ kindCount = 3
 abbrev pub messageBit : ℕ
 messageBit = 2 ^ kindMessage
 
+abbrev pub destroyedBit : ℕ
+destroyedBit = 2 ^ kindDestroyed
+
 abbrev pub releasedBit : ℕ
 releasedBit = 2 ^ kindReleased
 
 abbrev pub noticeBits : ℕ
-noticeBits = 2 ^ kindDestroyed + 2 ^ kindReleased
+noticeBits = destroyedBit + releasedBit
 
 abbrev pub allBits : ℕ
 allBits = messageBit + noticeBits
 
-pub kind-bits : (messageBit ≡ 1) × (releasedBit ≡ 4) × (noticeBits ≡ 6) × (allBits ≡ 7)
-kind-bits = (refl, refl, refl, refl)
+pub kind-bits : (messageBit ≡ 1) × (destroyedBit ≡ 2) × (releasedBit ≡ 4) × (noticeBits ≡ 6) × (allBits ≡ 7)
+kind-bits = (refl, refl, refl, refl, refl)
 
 -- Of a row five numbers (kind, slot, user, payload bytes, attached handles), the eight slots that it carries, and the number of the command that queued it.
 pub record Rows : Type 0 where

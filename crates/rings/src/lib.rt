@@ -29,9 +29,11 @@ const KINDS: u16 = 3;
 // The bit of each kind among those that a removal takes out; those of the notices, and all.
 pub const MESSAGE_BIT: u8 = 1 << MESSAGE;
 
+pub const DESTROYED_BIT: u8 = 1 << DESTROYED;
+
 pub const RELEASED_BIT: u8 = 1 << RELEASED;
 
-pub const NOTICE_BITS: u8 = (1 << DESTROYED) + (1 << RELEASED);
+pub const NOTICE_BITS: u8 = DESTROYED_BIT + RELEASED_BIT;
 
 pub const ALL_BITS: u8 = MESSAGE_BIT + NOTICE_BITS;
 

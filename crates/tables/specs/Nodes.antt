@@ -10,6 +10,9 @@ use Rattle.ids.specs.Sizes.{nodeFields}
 abbrev pub liveAt : List ℕ → ℕ → Bool
 liveAt ns s = eqb (getD ns (nodeFields * s) 0) 1
 
+abbrev pub diedAt : List ℕ → ℕ → ℕ
+diedAt ns s = getD ns (nodeFields * s + 1) 0
+
 unfoldable pub setLive : List ℕ → ℕ → List ℕ
 setLive ns s = set ns (nodeFields * s) 1
 

@@ -7,17 +7,19 @@ use mathlib.Core.List.{List}
 use native.Mathlib.Omega.{arith}
 use lib.ListN.{length, getD, set, length-set}
 use lib.Seq.{getD-set-same, getD-set-other}
-use Rattle.laws.specs.Tests.{pick, Same, Same.same, Same.other, same?}
+use lib.Dec.{ltb}
+use Rattle.laws.specs.Tests.{pick, clash, Same, Same.same, Same.other, same?}
 use Rattle.laws.specs.Tables.{upd, upd-same, upd-other}
-use Rattle.model.specs.State.{Life, isLive}
+use Rattle.model.specs.Lists.{either}
+use Rattle.model.specs.State.{Life, livedAt, isLive}
 use Rattle.model.specs.State.Life.{live, dead}
 use Rattle.laws.specs.Guards.{upto, upto-at, upto-upd}
-use Rattle.tables.specs.Nodes.{liveAt, setLive, setDead}
+use Rattle.tables.specs.Nodes.{liveAt, diedAt, setLive, setDead}
 use Rattle.ids.specs.Sizes.{nodeFields, nodesSize}
 use Rattle.model.specs.Numbers.{nodes}
 
 unfoldable pub lifeAt : List ℕ → ℕ → Life
-lifeAt ns s = pick (liveAt ns s) live (dead (getD ns (nodeFields * s + 1) 0))
+lifeAt ns s = pick (liveAt ns s) live (dead (diedAt ns s))
 
 -- The accessor: past the last slot, a node that was never made.
 unfoldable pub lifeV : List ℕ → ℕ → Life
@@ -78,9 +80,30 @@ pub live-is : (ns : List ℕ) (s : ℕ) → s < nodes → liveAt ns s ≡ isLive
 unfolding lifeV lifeAt
 live-is ns s l = rw (upto-at nodes (dead 0) (lifeAt ns) s l) (go (liveAt ns s))
   where
-    go : (b : Bool) → b ≡ isLive (pick b live (dead (getD ns (nodeFields * s + 1) 0)))
+    go : (b : Bool) → b ≡ isLive (pick b live (dead (diedAt ns s)))
     go true = refl
     go false = refl
+
+pub lived-is : (ns : List ℕ) (n s : ℕ) → s < nodes → either (liveAt ns s) (ltb n (diedAt ns s)) ≡ livedAt n (lifeV ns s)
+unfolding lifeV lifeAt
+lived-is ns n s l = rw (upto-at nodes (dead 0) (lifeAt ns) s l) (go (liveAt ns s))
+  where
+    go : (b : Bool) → either b (ltb n (diedAt ns s)) ≡ livedAt n (pick b live (dead (diedAt ns s)))
+    go true = refl
+    go false = refl
+
+-- The number of the command that destroyed a node.
+pub died-is : (ns : List ℕ) (n s : ℕ) → s < nodes → lifeV ns s ≡ dead n → diedAt ns s ≡ n
+unfolding lifeV lifeAt
+died-is ns n s l e = go (liveAt ns s) (rw (upto-at nodes (dead 0) (lifeAt ns) s l) at e)
+  where
+    number : Life → ℕ
+    number live = 0
+    number (dead k) = k
+
+    go : (b : Bool) → pick b live (dead (diedAt ns s)) ≡ dead n → diedAt ns s ≡ n
+    go true z = clash (ap isLive z)
+    go false z = ap number z
 
 -- No store changes the table's length.
 module _ (ns : List ℕ) where

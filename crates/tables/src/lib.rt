@@ -5,7 +5,7 @@ ghost use Prim.Native.Nat.{_+_, _-_, _*_, _^_, _<_, _≤_, min};
 ghost use lib.Count.{trailingZeros};
 ghost use lib.ListN.{length, getD};
 ghost use Rattle.tables.specs.Peers.{modulus, acceptedAt, statusAt, standingAt, userAt, givenAt, setOpen, setDisconnected, setGiven, countCommand};
-ghost use Rattle.tables.specs.Nodes.{liveAt, setLive, setDead};
+ghost use Rattle.tables.specs.Nodes.{liveAt, diedAt, setLive, setDead};
 ghost use Rattle.ids.specs.Sizes.{peers as peerCount, peersSize, nodesSize};
 ghost use Rattle.model.specs.Numbers.{nodes as nodeCount};
 ghost use Rattle.quota.specs.Charges.{users};
@@ -183,6 +183,14 @@ pub fn is_live(nodes: &[u64], s: usize) -> bool
     ensures { λ r. ⌜ r ≡ liveAt (now (nodes .entry)) s ⌝ }
 {
     nodes[NODE_FIELDS * s] == 1
+}
+
+// The number of the command that destroyed the slot's node, where it does not live.
+pub fn died_at(nodes: &[u64], s: usize) -> u64
+    requires { ⌜ (length (now nodes) ≡ nodesSize) × (s < nodeCount) ⌝ }
+    ensures { λ r. ⌜ r ≡ diedAt (now (nodes .entry)) s ⌝ }
+{
+    nodes[NODE_FIELDS * s + 1]
 }
 
 // The slot has a live node.

@@ -16,7 +16,9 @@ pub struct User(pub u8);
 pub struct HandleId(pub u64);
 
 impl HandleId {
-    /// Shown for an attached handle whose node was destroyed.
+    /// Shown for an attached handle whose node was destroyed before the message
+    /// was sent, or is the receiver's own, destroyed and let go; of a seed,
+    /// destroyed before now.
     pub const INVALID: HandleId = HandleId(u64::MAX);
 
     fn read(bytes: &[u8]) -> HandleId {
@@ -89,7 +91,7 @@ impl<'a> Handles<'a> {
         self.0.is_empty()
     }
 
-    /// Each of them, [`HandleId::INVALID`] where its node was destroyed.
+    /// Each of them, or [`HandleId::INVALID`] in its place.
     pub fn iter(self) -> impl ExactSizeIterator<Item = HandleId> + 'a {
         self.0.chunks_exact(8).map(HandleId::read)
     }

@@ -278,7 +278,7 @@ fn every_byte() {
     let mut random = Random::new(seed);
     let mut tally = Tally::default();
     for number in 0..journals {
-        let profile = Profile::ALL[number as usize % 4];
+        let profile = Profile::ALL[number as usize % Profile::ALL.len()];
         let script = frames(random.draw(), 40 + random.below(120), profile);
         let length = match random.below(8) {
             0 => random.below(300),

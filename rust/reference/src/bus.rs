@@ -39,6 +39,8 @@ pub struct HandleView {
     pub owner: Peer,
     /// Whether the node still lives.
     pub live: bool,
+    /// Whether a queued message carries it as it was before its destruction.
+    pub carried: bool,
 }
 
 /// The room of a node: owner p's are 16p to 16p + 15.
@@ -71,6 +73,8 @@ struct Node {
     owner: Peer,
     owner_id: HandleId,
     live: bool,
+    /// The number of the command that destroyed it, once it is dead.
+    died: u64,
     /// Bit p is set if peer p holds a handle.
     holders: u8,
     /// The sum of counts over all peers.
@@ -79,6 +83,9 @@ struct Node {
     named: u32,
     /// How many queued messages are for it.
     messages: u32,
+    /// For each peer how many places of the messages queued there carry it as it
+    /// was before its destruction; all that carry it while it lives.
+    brought: [u32; Peer::COUNT],
     handles: [Handle; Peer::COUNT],
 }
 
@@ -88,10 +95,12 @@ impl Node {
             owner,
             owner_id: HandleId::INVALID,
             live: false,
+            died: 0,
             holders: 0,
             sum: 0,
             named: 0,
             messages: 0,
+            brought: [0; Peer::COUNT],
             handles: [Handle {
                 id: HandleId::INVALID,
                 count: 0,
@@ -104,9 +113,22 @@ impl Node {
         self.live || self.holders != 0 || self.named != 0
     }
 
-    fn holders(&self) -> impl Iterator<Item = Peer> {
-        let holders = self.holders;
-        Peer::all().filter(move |peer| holders & peer.bit() != 0)
+    #[inline]
+    fn is_held_by(&self, peer: Peer) -> bool {
+        self.holders & peer.bit() != 0
+    }
+
+    /// Whether it was not yet destroyed when the command of this number was
+    /// carried out. Each accepted command has a higher number than the last.
+    #[inline]
+    fn lived_at(&self, number: u64) -> bool {
+        self.live || number < self.died
+    }
+
+    /// Whether a peer is told of its destruction: it holds the node, or a
+    /// message that was queued before will bring it.
+    fn concerns(&self, peer: Peer) -> bool {
+        self.is_held_by(peer) || self.brought[peer.index()] != 0
     }
 }
 
@@ -265,6 +287,7 @@ impl Bus {
                     sum: node.sum,
                     owner: node.owner,
                     live: node.live,
+                    carried: node.brought.iter().any(|places| *places != 0),
                 }
             })
             .collect();
@@ -511,6 +534,12 @@ impl Bus {
         }
         for &node in attached.iter() {
             self.node_mut(node).named += destinations.len() as u32;
+            if self.node(node).live {
+                for destination in destinations.iter() {
+                    let owner = self.node(*destination).owner;
+                    self.node_mut(node).brought[owner.index()] += 1;
+                }
+            }
         }
         Ok(Answer::accepted(buffer).len)
     }
@@ -541,7 +570,8 @@ impl Bus {
     }
 
     /// Shows the peer's seed as a message that stays: its attached handles
-    /// follow the receive rule each time.
+    /// follow the receive rule each time, as of now, so that a seed shows the
+    /// invalid ID from the destruction on.
     fn show_seed(
         &mut self,
         peer: Peer,
@@ -561,8 +591,9 @@ impl Bus {
         answer.byte(0);
         answer.bytes(&(seed.payload.len() as u16).to_be_bytes());
         answer.byte(seed.attached.len() as u8);
+        let now = self.accepted;
         for node in seed.attached {
-            answer.id(self.show_attached(node, peer));
+            answer.id(self.show_attached(node, peer, now));
         }
         answer.bytes(&seed.payload);
         Ok(answer.len)
@@ -606,7 +637,7 @@ impl Bus {
         }
         let sibling = queue.sibling_behind(index);
         let message = queue.remove_message(index);
-        let (user, charge) = (message.user, message.charge());
+        let (user, charge, sent) = (message.user, message.charge(), message.send);
         let destination = &mut self.nodes[message.destination.index()];
         destination.messages -= 1;
         destination.named -= 1;
@@ -627,8 +658,9 @@ impl Bus {
             let attached = &mut attached[..attached_len];
             attached.copy_from_slice(message.attached());
             for &mut node in attached {
-                self.node_mut(node).named -= 1;
-                answer.id(self.show_attached(node, peer));
+                self.carry_no_more(node, peer, sent);
+                answer.id(self.show_attached(node, peer, sent));
+                self.settle_notice(node, peer);
             }
             answer.bytes(self.peer(peer).queue.message(index).payload());
         }
@@ -672,22 +704,48 @@ impl Bus {
         Ok(answer.len)
     }
 
-    /// Shows an attached handle to its receiver: the invalid ID if its node is
-    /// destroyed by then, else one more reference.
+    /// Shows a handle that the command `sent` attached: the invalid ID if the
+    /// destruction of its node came before that, or if the node is destroyed and
+    /// its owner, whose own handle is gone, is the receiver; else one more
+    /// reference.
     #[inline]
-    fn show_attached(&mut self, index: NodeIndex, peer: Peer) -> HandleId {
-        if self.node(index).live {
+    fn show_attached(&mut self, index: NodeIndex, peer: Peer, sent: u64) -> HandleId {
+        let node = self.node(index);
+        let own_gone = !node.live && node.owner == peer && !node.is_held_by(peer);
+        if node.lived_at(sent) && !own_gone {
             self.add_reference(index, peer)
         } else {
             HandleId::INVALID
         }
     }
 
-    /// Adds one reference to a live node for a peer and returns its ID there.
-    /// The sum rises, so a release notice is withdrawn.
+    /// Notes that one place of a message no longer carries a node to a peer.
+    #[inline]
+    fn carry_no_more(&mut self, index: NodeIndex, peer: Peer, sent: u64) {
+        let node = self.node_mut(index);
+        node.named -= 1;
+        if node.lived_at(sent) {
+            node.brought[peer.index()] -= 1;
+        }
+    }
+
+    /// Withdraws a peer's notice of a destruction if it neither holds the node
+    /// nor will be brought it by an earlier message.
+    #[inline]
+    fn settle_notice(&mut self, index: NodeIndex, peer: Peer) {
+        let node = self.node(index);
+        if !node.live && !node.concerns(peer) {
+            self.peer_mut(peer).queue.remove_notice(index);
+        }
+    }
+
+    /// Adds one reference to a node for a peer and returns its ID there. The
+    /// sum rises, so the release notice of a live node is withdrawn.
     fn add_reference(&mut self, index: NodeIndex, peer: Peer) -> HandleId {
         let node = &mut self.nodes[index.index()];
-        self.peers[node.owner.index()].queue.remove_notice(index);
+        if node.live {
+            self.peers[node.owner.index()].queue.remove_notice(index);
+        }
         node.sum += 1;
         let handle = &mut node.handles[peer.index()];
         handle.count += 1;
@@ -702,8 +760,8 @@ impl Bus {
     }
 
     /// Takes `by` of a peer's references to a node. If none is left, the
-    /// handle goes, with its destroy notice, and at the owner with the
-    /// messages for the node.
+    /// handle goes, at the owner with the messages for the node, and its
+    /// destroy notice with it unless an earlier message still carries the node.
     fn drop_references(&mut self, index: NodeIndex, peer: Peer, by: u64) {
         let node = &mut self.nodes[index.index()];
         let before = node.sum;
@@ -713,13 +771,14 @@ impl Bus {
         let gone = handle.count == 0;
         if gone {
             node.holders &= !peer.bit();
-            let state = &mut self.peers[peer.index()];
-            state.handles.remove(handle.id);
-            state.queue.remove_notice(index);
+            self.peers[peer.index()].handles.remove(handle.id);
         }
         let node = *node;
         if gone && node.owner == peer && node.messages > 0 {
             self.drop_messages_for(index, peer);
+        }
+        if gone {
+            self.settle_notice(index, peer);
         }
         if node.live && before > 1 && node.sum == 1 {
             self.peer_mut(node.owner)
@@ -728,14 +787,16 @@ impl Bus {
         }
     }
 
-    /// Destroys a live node: a notice to every holder, in place of a release
-    /// notice to the owner.
+    /// Destroys a live node: a notice to every holder and to every peer with a
+    /// queued message that carries it, one each, in place of a release notice to
+    /// the owner.
     fn destroy_node(&mut self, index: NodeIndex) {
         let node = &mut self.nodes[index.index()];
         node.live = false;
+        node.died = self.accepted;
         self.peers[node.owner.index()].queue.remove_notice(index);
-        for holder in node.holders() {
-            self.peers[holder.index()]
+        for peer in Peer::all().filter(|peer| node.concerns(*peer)) {
+            self.peers[peer.index()]
                 .queue
                 .push_notice(Notice::Destroyed, index);
         }
@@ -756,6 +817,41 @@ impl Bus {
         }
     }
 
+    /// How often there stands in the queues: a notice of a destruction without a
+    /// handle; one with a handle and an earlier carrier; an earlier carrier to an
+    /// owner whose own handle is gone; a later carrier to a holder. And how many
+    /// places of seeds name destroyed nodes.
+    #[cfg(test)]
+    pub(crate) fn order_cases(&self) -> [usize; 5] {
+        let mut cases = [0; 5];
+        for peer in Peer::all() {
+            let state = self.peer(peer);
+            for entry in state.queue.iter() {
+                match entry {
+                    Entry::Notice(Notice::Destroyed, node) => {
+                        let node = self.node(node);
+                        let brought = node.brought[peer.index()] != 0;
+                        cases[0] += usize::from(!node.is_held_by(peer));
+                        cases[1] += usize::from(node.is_held_by(peer) && brought);
+                    }
+                    Entry::Notice(Notice::Released, _) => {}
+                    Entry::Message(index) => {
+                        let message = state.queue.message(index);
+                        for node in message.attached().iter().map(|node| self.node(*node)) {
+                            let (earlier, held) =
+                                (node.lived_at(message.send), node.is_held_by(peer));
+                            cases[2] += usize::from(earlier && node.owner == peer && !held);
+                            cases[3] += usize::from(!earlier && held);
+                        }
+                    }
+                }
+            }
+            let seed = state.seed.iter().flat_map(|seed| &seed.attached);
+            cases[4] += seed.filter(|node| !self.node(**node).live).count();
+        }
+        cases
+    }
+
     /// Checks each stored sum against what it is the sum of.
     #[cfg(test)]
     pub(crate) fn audit(&self) {
@@ -764,6 +860,8 @@ impl Bus {
         for peer in Peer::all() {
             let state = self.peer(peer);
             let mut charges = Charges::default();
+            let mut brought = [0; NODES];
+            let mut told = [false; NODES];
             for entry in state.queue.iter() {
                 match entry {
                     Entry::Message(index) => {
@@ -774,11 +872,19 @@ impl Bus {
                         named[message.destination.index()] += 1;
                         for node in message.attached() {
                             named[node.index()] += 1;
+                            if self.node(*node).lived_at(message.send) {
+                                // No earlier message is behind the notice.
+                                assert!(!told[node.index()]);
+                                brought[node.index()] += 1;
+                            }
                         }
                     }
-                    Entry::Notice(Notice::Destroyed, node) => {
-                        assert!(!self.node(node).live);
-                        assert!(self.node(node).holders & peer.bit() != 0);
+                    Entry::Notice(Notice::Destroyed, index) => {
+                        let node = self.node(index);
+                        assert!(!node.live && node.died < self.accepted);
+                        // Not for nothing.
+                        assert!(node.is_held_by(peer) || brought[index.index()] > 0);
+                        told[index.index()] = true;
                     }
                     Entry::Notice(Notice::Released, node) => {
                         let node = self.node(node);
@@ -787,6 +893,11 @@ impl Bus {
                 }
             }
             assert_eq!(state.charges, charges);
+            for (index, node) in self.nodes.iter().enumerate() {
+                assert_eq!(node.brought[peer.index()], brought[index]);
+                // Nobody who will be brought it is left untold.
+                assert!(node.live || brought[index] == 0 || told[index]);
+            }
             for node in state.seed.iter().flat_map(|seed| &seed.attached) {
                 named[node.index()] += 1;
             }
@@ -808,7 +919,7 @@ impl Bus {
             assert_eq!(node.sum, node.handles.iter().map(|h| h.count).sum());
             for peer in Peer::all() {
                 let handle = node.handles[peer.index()];
-                let holds = node.holders & peer.bit() != 0;
+                let holds = node.is_held_by(peer);
                 assert_eq!(holds, handle.count > 0);
                 if holds {
                     let found = self.peer(peer).handles.find(handle.id);
@@ -817,21 +928,26 @@ impl Bus {
             }
             // Its owner holds it while it lives and while messages wait for it.
             if node.live || node.messages > 0 {
-                assert!(node.holders & node.owner.bit() != 0);
+                assert!(node.is_held_by(node.owner));
             }
         }
     }
 
-    /// Takes a message out undelivered.
+    /// Takes a message out undelivered, and the notices that only it kept.
     fn drop_message(&mut self, peer: Peer, index: MessageIndex) {
         let state = &mut self.peers[peer.index()];
         let message = state.queue.remove_message(index);
         let destination = &mut self.nodes[message.destination.index()];
         destination.messages -= 1;
         destination.named -= 1;
-        for node in message.attached() {
-            self.nodes[node.index()].named -= 1;
-        }
         state.charges.discharge(message.user, message.charge());
+        let sent = message.send;
+        let mut attached = [NodeIndex::FIRST; MAX_ATTACHED];
+        let attached = &mut attached[..message.attached().len()];
+        attached.copy_from_slice(message.attached());
+        for &mut node in attached {
+            self.carry_no_more(node, peer, sent);
+            self.settle_notice(node, peer);
+        }
     }
 }

@@ -66,7 +66,8 @@ impl User {
 pub struct HandleId(pub u64);
 
 impl HandleId {
-    /// Shown for an attached handle whose node is destroyed; never held.
+    /// Shown for an attached handle whose node was destroyed before its message;
+    /// never held.
     pub const INVALID: HandleId = HandleId(u64::MAX);
 
     /// The ID in eight big-endian bytes.

@@ -1,5 +1,5 @@
-//! The message bus of document 01 in ordinary Rust, with the seed message and
-//! the journal of document 02, No. 1 and No. 4.
+//! The message bus of document 01 in ordinary Rust, with the seed message, the
+//! invalid handles by order and the journal of document 02, No. 1, No. 2 and No. 4.
 //!
 //! Written from these documents and the readings of their doubtful clauses in docs/DECISIONS.md,
 //! not from the proved core's definitions, so that agreement with the core

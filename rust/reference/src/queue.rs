@@ -36,7 +36,8 @@ pub(crate) enum Entry {
 /// A queued message.
 #[derive(Clone)]
 pub(crate) struct Message {
-    /// Which send it belongs to: no two accepted sends have the same number.
+    /// Which send it belongs to: no two accepted commands have the same number,
+    /// and a later one has a higher.
     pub(crate) send: u64,
     /// The sender's user.
     pub(crate) user: User,

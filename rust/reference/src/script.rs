@@ -57,15 +57,19 @@ pub enum Profile {
     Quota,
     /// Nodes created, destroyed and released at the limit of 16.
     Churn,
+    /// Nodes destroyed while messages carry them: handles let go meanwhile,
+    /// carriers dropped, disconnects, seeds of the same nodes.
+    Order,
 }
 
 impl Profile {
     /// Every profile.
-    pub const ALL: [Profile; 4] = [
+    pub const ALL: [Profile; 5] = [
         Profile::Legal,
         Profile::Malformed,
         Profile::Quota,
         Profile::Churn,
+        Profile::Order,
     ];
 
     /// Its name on the command line.
@@ -75,6 +79,7 @@ impl Profile {
             Profile::Malformed => "malformed",
             Profile::Quota => "quota",
             Profile::Churn => "churn",
+            Profile::Order => "order",
         }
     }
 
@@ -102,6 +107,9 @@ struct Phase {
     attach: usize,
     /// How often the sizes of a send are large, in percent.
     large: usize,
+    /// How often the node of a destroy, or a dead one of a release, is one that
+    /// an earlier message carries, in percent.
+    carried: usize,
 }
 
 const MIXED: Phase = Phase {
@@ -116,6 +124,7 @@ const MIXED: Phase = Phase {
     focus: 30,
     attach: 40,
     large: 10,
+    carried: 0,
 };
 
 /// How every script begins: nodes are made and handed about.
@@ -139,7 +148,7 @@ const GIVEN_BACK: Phase = Phase {
 };
 
 /// The phases of the legal profile, taken at random.
-const PHASES: [Phase; 8] = [
+const PHASES: [Phase; 9] = [
     MIXED,
     // Queues fill.
     Phase {
@@ -199,6 +208,8 @@ const PHASES: [Phase; 8] = [
         attach: 85,
         ..MIXED
     },
+    // Nodes are destroyed while messages carry them.
+    ORDER,
 ];
 
 const QUOTA: Phase = Phase {
@@ -213,6 +224,7 @@ const QUOTA: Phase = Phase {
     focus: 85,
     attach: 50,
     large: 30,
+    carried: 0,
 };
 
 const CHURN: Phase = Phase {
@@ -227,6 +239,24 @@ const CHURN: Phase = Phase {
     focus: 30,
     attach: 85,
     large: 3,
+    carried: 0,
+};
+
+/// Carriers are queued, their nodes destroyed, and handles to them let go
+/// before the carriers are taken out.
+const ORDER: Phase = Phase {
+    create: 14,
+    destroy: 16,
+    release: 40,
+    transfer: 10,
+    send: 46,
+    receive: 22,
+    question: 2,
+    seed: 8,
+    focus: 40,
+    attach: 92,
+    large: 1,
+    carried: 75,
 };
 
 /// Peers that are never disconnected, so that a script does not run dry.
@@ -303,6 +333,7 @@ impl Generator {
                 (_, 0) => break,
                 (Profile::Quota, 122) => 60,
                 (Profile::Churn, 1 | 17 | 28 | 113) => 35,
+                (Profile::Order, 28 | 113) => 20,
                 (Profile::Malformed, _) => 25,
                 _ => 6,
             };
@@ -360,6 +391,16 @@ impl Generator {
             Some(view) => view.id,
             None => self.some_id(),
         }
+    }
+
+    /// Whether this time a node that an earlier message carries is wanted, and
+    /// the peer holds one that fits.
+    fn carried(&mut self, peer: Peer, fits: impl Fn(&HandleView) -> bool) -> bool {
+        if self.phase.carried == 0 || !self.random.chance(self.phase.carried) {
+            return false;
+        }
+        let handles = self.bus.handles(peer);
+        handles.iter().any(|view| view.carried && fits(view))
     }
 
     /// An ID out of a few, so that the same ones come again.
@@ -437,8 +478,14 @@ impl Generator {
                 self.with_id(0x03, peer, id);
             }
             1 => {
-                let id = self.held(peer, |view| view.live && view.owner == peer);
+                let own = |view: &HandleView| view.live && view.owner == peer;
+                let carried = self.carried(peer, own);
+                let id = self.held(peer, |view| own(view) && (view.carried || !carried));
                 self.with_id(0x04, peer, id);
+            }
+            2 if self.carried(peer, |view| !view.live) => {
+                let id = self.held(peer, |view| !view.live && view.carried);
+                self.with_id(0x05, peer, id);
             }
             2 => {
                 // Often one that brings the sum of counts near 1.
@@ -475,6 +522,20 @@ impl Generator {
             Profile::Legal => PHASES[self.random.below(PHASES.len())],
             Profile::Malformed => MIXED,
             Profile::Churn => CHURN,
+            // Carriers pile up, or are taken out.
+            Profile::Order => match self.random.below(3) {
+                0 => Phase {
+                    send: 70,
+                    receive: 6,
+                    ..ORDER
+                },
+                1 => Phase {
+                    send: 20,
+                    receive: 60,
+                    ..ORDER
+                },
+                _ => ORDER,
+            },
             // Each phase presses on one resource.
             Profile::Quota => match self.random.below(4) {
                 0 => Phase {

@@ -1,5 +1,5 @@
-//! Tests for the clauses of document 01 and of document 02, No. 1, that are easy to
-//! get wrong.
+//! Tests for the clauses of document 01 and of document 02, No. 1 and No. 2, that
+//! are easy to get wrong.
 //! Frames and answers are in hexadecimal; blanks are for the reader.
 
 use std::cell::RefCell;
@@ -533,21 +533,21 @@ fn invalid_id_shown_to_a_holder() {
         &[
             ("0600 0000000000000004 01", "00 0000000000000007"),
             ("0601 0000000000000008 00", "00 0000000000000007"),
+            ("0300 000000000000000c", "00"),
+            ("0400 0000000000000004", "00"),
             ("0700 01 01 0000 0000000000000007 0000000000000004", "00"),
             // To the owner itself, too.
-            ("0300 000000000000000c", "00"),
             ("0700 01 01 0000 000000000000000c 0000000000000004", "00"),
-            ("0400 0000000000000004", "00"),
+            ("0801 ffff", "00 02 0000000000000007"),
             (
                 "0801 ffff",
                 "00 01 0000000000000008 00 00 0000 01 ffffffffffffffff",
             ),
-            ("0801 ffff", "00 02 0000000000000007"),
+            ("0800 ffff", "00 02 0000000000000004"),
             (
                 "0800 ffff",
                 "00 01 000000000000000c 00 00 0000 01 ffffffffffffffff",
             ),
-            ("0800 ffff", "00 02 0000000000000004"),
             // Counts stayed at 1.
             ("0501 0000000000000007", "00"),
             ("0501 0000000000000007", "06"),
@@ -588,10 +588,12 @@ fn disconnect_keeps_what_was_sent() {
         &[
             ("0904 00", "00 0002 0001 0001 001e 07ff 001f"),
             ("0804 ffff", "00 01 0000000000000008 00 00 0001 00 01"),
+            // The node was destroyed behind the message: a new handle, then the notice.
             (
                 "0804 ffff",
-                "00 01 0000000000000008 00 00 0000 01 ffffffffffffffff",
+                "00 01 0000000000000008 00 00 0000 01 0000000000000007",
             ),
+            ("0804 ffff", "00 02 0000000000000007"),
             // 8 is still held by others, 10 by nobody but its owner.
             ("0804 ffff", "00 03 0000000000000010"),
             ("0804 ffff", "0b"),
@@ -644,12 +646,239 @@ fn room_not_used_again_while_named() {
             // The old ID for a new node, in other room.
             ("0300 0000000000000008", "00"),
             ("0300 000000000000000c", "1c"),
+            // The message installs the old node's handle, so its room stays taken
+            // until that is let go, with its notice.
             (
                 "0801 ffff",
-                "00 01 0000000000000040 00 00 0000 01 ffffffffffffffff",
+                "00 01 0000000000000040 00 00 0000 01 0000000000000007",
             ),
+            ("0300 000000000000000c", "1c"),
+            ("0501 0000000000000007", "00"),
+            ("0801 ffff", "0b"),
             ("0300 000000000000000c", "00"),
             ("0300 0000000000000044", "1c"),
+        ],
+    );
+}
+
+/// Peer 0 owns 4; peer 1 owns 8 and 10, which peer 0 holds as 7 and b; peer 2
+/// owns 20, which peer 0 holds as f.
+fn carriers() -> Bus {
+    let mut bus = Bus::new();
+    bus.accept(&["010000", "010101", "010202", "0300 0000000000000004"]);
+    bus.accept(&["0301 0000000000000008", "0301 0000000000000010"]);
+    bus.accept(&["0302 0000000000000020"]);
+    check(
+        &mut bus,
+        &[
+            ("0601 0000000000000008 00", "00 0000000000000007"),
+            ("0601 0000000000000010 00", "00 000000000000000b"),
+            ("0602 0000000000000020 00", "00 000000000000000f"),
+        ],
+    );
+    bus
+}
+
+/// Document 02, No. 2: "such a message installs the handle, and the notice
+/// follows it"; "one notice for a peer and node".
+#[test]
+fn earlier_messages_install_and_one_notice_follows() {
+    let mut bus = carriers();
+    bus.accept(&[
+        &send(0, &[7], &[4, 4], &[1]),
+        &send(0, &[7], &[4], &[2]),
+        "0400 0000000000000004",
+        &send(0, &[7], &[4], &[3]),
+    ]);
+    let ones = "ffffffffffffffff";
+    let shows =
+        |nh: &str, ids: &str, nb: &str| format!("00 01 {} 00 00 0001 {nh} {ids} {nb}", id(8));
+    check(
+        &mut bus,
+        &[
+            ("0801 ffff", &shows("02", &format!("{0} {0}", id(7)), "01")),
+            // A partial release leaves the notice.
+            ("0501 0000000000000007", "00"),
+            ("0801 ffff", &shows("01", &id(7), "02")),
+            ("0801 ffff", "00 02 0000000000000007"),
+            // Sent after the destruction: invalid, also to a holder.
+            ("0801 ffff", &shows("01", ones, "03")),
+            ("0801 ffff", "0b"),
+            ("0a00 0000000000000004", "00 03 02"),
+            ("0601 0000000000000007 02", "71"),
+            ("0501 0000000000000007", "00"),
+            ("0501 0000000000000007", "00"),
+            ("0501 0000000000000007", "06"),
+            // Peer 2 was brought nothing.
+            ("0802 ffff", "0b"),
+        ],
+    );
+}
+
+/// "It is now withdrawn as soon as the peer holds no handle and no earlier
+/// message carrying the node is left": by a release, and not before.
+#[test]
+fn notice_kept_by_a_message_and_withdrawn() {
+    let mut bus = carriers();
+    check(
+        &mut bus,
+        &[("0600 0000000000000004 01", "00 0000000000000007")],
+    );
+    bus.accept(&[
+        &send(0, &[7], &[4], &[]),
+        &send(0, &[7], &[4], &[]),
+        "0400 0000000000000004",
+        // A later message keeps nothing.
+        &send(0, &[7], &[4], &[]),
+        // The handle goes, the messages are left.
+        "0501 0000000000000007",
+    ]);
+    let shows = |shown: &str| format!("00 01 {} 00 00 0000 01 {shown}", id(8));
+    let mut other = bus.clone();
+    check(
+        &mut bus,
+        &[
+            ("0801 ffff", &shows("000000000000000b")),
+            ("0501 000000000000000b", "00"),
+            ("0801 ffff", &shows("000000000000000f")),
+            // The ID that is held when the notice is taken out.
+            ("0801 ffff", "00 02 000000000000000f"),
+            ("0801 ffff", &shows("ffffffffffffffff")),
+            ("0801 ffff", "0b"),
+        ],
+    );
+    check(
+        &mut other,
+        &[
+            ("0801 ffff", &shows("000000000000000b")),
+            ("0801 ffff", &shows("000000000000000b")),
+            ("0501 000000000000000b", "00"),
+            ("0501 000000000000000b", "00"),
+            ("0801 ffff", &shows("ffffffffffffffff")),
+            ("0801 ffff", "0b"),
+        ],
+    );
+}
+
+/// The same by a drop: the messages for 8 go with its owner's handle.
+#[test]
+fn notice_withdrawn_with_the_last_message_dropped() {
+    let mut bus = carriers();
+    bus.accept(&[
+        &send(0, &[7, 0xb], &[4], &[]),
+        "0400 0000000000000004",
+        "0401 0000000000000008",
+        "0501 0000000000000008",
+    ]);
+    let mut other = bus.clone();
+    check(
+        &mut bus,
+        &[
+            // The message for 10 is left, so the notice is.
+            (
+                "0801 ffff",
+                "00 01 0000000000000010 00 00 0000 01 0000000000000007",
+            ),
+            ("0801 ffff", "00 02 0000000000000007"),
+            ("0801 ffff", "0b"),
+        ],
+    );
+    other.accept(&["0401 0000000000000010", "0501 0000000000000010"]);
+    assert_eq!(other.ask("0801 ffff"), "0b");
+}
+
+/// "An owner whose own handle is gone is still shown the invalid ID."
+#[test]
+fn owner_without_handle_is_shown_the_invalid_id() {
+    let mut bus = carriers();
+    // Peer 0 sends 4's owner, itself, two messages that carry 4, to c.
+    bus.accept(&[
+        "0300 000000000000000c",
+        &send(0, &[0xc], &[4], &[]),
+        &send(0, &[0xc], &[4, 7], &[]),
+        "0400 0000000000000004",
+    ]);
+    let shows = |nh: &str, ids: &str| format!("00 01 {} 00 00 0000 {nh} {ids}", id(0xc));
+    let mut holds = bus.clone();
+    check(
+        &mut bus,
+        &[
+            ("0500 0000000000000004", "00"),
+            // The ID chosen again is another node.
+            ("0300 0000000000000004", "00"),
+            ("0800 ffff", &shows("01", "ffffffffffffffff")),
+            (
+                "0800 ffff",
+                &shows("02", "ffffffffffffffff 0000000000000007"),
+            ),
+            // Nothing was installed, and the notice went with the last message.
+            ("0800 ffff", "0b"),
+            ("0a00 0000000000000004", "00 01 01"),
+        ],
+    );
+    check(
+        &mut holds,
+        &[
+            ("0800 ffff", &shows("01", "0000000000000004")),
+            // Count 2: one is released, and the second message raises it again.
+            ("0500 0000000000000004", "00"),
+            (
+                "0800 ffff",
+                &shows("02", "0000000000000004 0000000000000007"),
+            ),
+            ("0800 ffff", "00 02 0000000000000004"),
+            ("0500 0000000000000004", "00"),
+            ("0500 0000000000000004", "00"),
+            ("0500 0000000000000004", "06"),
+        ],
+    );
+}
+
+/// Disconnect destroys too: notices by ascending owner ID, then release notices;
+/// a seed shows the invalid ID from then on, and keeps no notice.
+#[test]
+fn disconnect_tells_who_will_be_brought_its_nodes() {
+    let mut bus = carriers();
+    bus.accept(&[
+        "0300 0000000000000000",
+        &send(0, &[7, 0xf], &[4], &[]),
+        &send(0, &[7], &[0], &[]),
+    ]);
+    check(
+        &mut bus,
+        &[("0600 0000000000000004 02", "00 0000000000000007")],
+    );
+    bus.accept(&["0702 00 01 0000 0000000000000007", "0200"]);
+    check(
+        &mut bus,
+        &[
+            (
+                "0801 ffff",
+                "00 01 0000000000000008 00 00 0000 01 0000000000000007",
+            ),
+            (
+                "0801 ffff",
+                "00 01 0000000000000008 00 00 0000 01 000000000000000b",
+            ),
+            // 0 before 4, then the owner's own nodes that came back.
+            ("0801 ffff", "00 02 000000000000000b"),
+            ("0801 ffff", "00 02 0000000000000007"),
+            ("0801 ffff", "00 03 0000000000000008"),
+            ("0801 ffff", "00 03 0000000000000010"),
+            ("0801 ffff", "0b"),
+            (
+                "0c02 ffff",
+                "00 04 ffffffffffffffff 02 00 0000 01 ffffffffffffffff",
+            ),
+            ("0502 0000000000000007", "00"),
+            (
+                "0802 ffff",
+                "00 01 0000000000000020 00 00 0000 01 000000000000000b",
+            ),
+            ("0502 000000000000000b", "00"),
+            // The notice is withdrawn although the seed names the node.
+            ("0802 ffff", "00 03 0000000000000020"),
+            ("0802 ffff", "0b"),
         ],
     );
 }
@@ -875,8 +1104,9 @@ fn handle_table_against_a_map() {
 fn random_scripts_keep_the_sums_and_reach_deep_states() {
     let (mut deepest, mut most_handles, mut legal, mut lines) = (0, 0, 0, 0);
     let mut seeded = 0;
+    let mut lines_with = [0; 5];
     for profile in Profile::ALL {
-        for seed in 0..4 {
+        for seed in 0..6 {
             let mut generator = Generator::new(seed, 2000, profile);
             let mut script = Vec::new();
             for _ in 0..2000 {
@@ -888,6 +1118,11 @@ fn random_scripts_keep_the_sums_and_reach_deep_states() {
                 }
                 let seeds = Peer::all().filter(|peer| generator.bus().has_seed(*peer));
                 seeded = seeded.max(seeds.count());
+                if profile == Profile::Order {
+                    for (lines, case) in lines_with.iter_mut().zip(generator.bus().order_cases()) {
+                        *lines += usize::from(case > 0);
+                    }
+                }
             }
             if profile == Profile::Legal {
                 legal += generator.accepted();
@@ -899,6 +1134,11 @@ fn random_scripts_keep_the_sums_and_reach_deep_states() {
     assert!(most_handles >= 40, "most handles {most_handles}");
     assert!(legal * 10 >= lines * 9, "{legal} of {lines} accepted");
     assert!(seeded >= 6, "peers with a seed {seeded}");
+    // Of 12000 lines.
+    assert!(
+        lines_with.iter().all(|lines| *lines >= 1500),
+        "{lines_with:?}"
+    );
 }
 
 #[test]

@@ -30,7 +30,7 @@ same-length-6 : tie.Need-same-length-6
 same-length-6 c = search needs
 
 returns : tie.Need-returns
-returns c = let a = (c .before .before .before .before .before .before .before .before .before .before .before .before .before .before .before .before .before .before .before .before .before .before .before .before .before .before .before .args) in destroy-done (a .peers .now) (a .nodes .now) (a .handles .now) (ringsOf (a .ends .now) (a .entries .now) (a .carried .now) (a .numbers .now)) (a .p .0) (a .s) ((c .before .before .before .before .before .before .before .before .before .before .before .before .before .before .before .before .before .before .next-number) .ensures) ((c .before .before .before .before .before .before .before .before .before .before .destroy-one) .ensures)
+returns c = let a = (c .before .before .before .before .before .before .before .before .before .before .before .before .before .before .before .before .before .before .before .before .before .before .before .before .before .before .before .before .args) in destroy-done (a .peers .now) (a .nodes .now) (a .handles .now) (a .charges .now) (ringsOf (a .ends .now) (a .entries .now) (a .carried .now) (a .numbers .now)) (a .p .0) (a .s) ((c .before .before .before .before .before .before .before .before .before .before .before .before .before .before .before .before .before .before .next-number) .ensures) ((c .before .before .before .before .before .before .before .before .before .before .destroy-one) .ensures)
 
 pub destroy-spec : {M : Type 1} → statement M
 destroy-spec =

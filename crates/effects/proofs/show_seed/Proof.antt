@@ -6,8 +6,8 @@ use borrow.Author.Needs.{needs}
 use Rattle.effects.proofs.show_seed.Statement.{statement}
 use Rattle.effects.proofs.show_seed.Tie as tie
 
-count-command-requires : tie.Need-count-command-requires
-count-command-requires c κs = search needs
+next-number-requires : tie.Need-next-number-requires
+next-number-requires c κs = search needs
 
 user-of-requires : tie.Need-user-of-requires
 user-of-requires c κs = search needs
@@ -25,7 +25,7 @@ write-seed-requires : tie.Need-write-seed-requires
 write-seed-requires c κs = let z = (c .before .before .before .before .before .before .before .before .before .before .before .before .before .before .before .before .before .before .before .before .before .before .before .before .before .before .before .before .before .before .before .before .before .before .before .before .before) .pre in (z .4, z .5, (c .before .before .before .before .before .before .before .before .before .before .before .before .before .before .before .before .before .before .before .before .nh-of) .ensures .1)
 
 same-length : tie.Need-same-length
-same-length c = omega (arith, (c .before .before .before .before .before .before .before .before .before .before .before .before .before .before .before .before .before .before .before .before .before .before .before .before .before .before .before .before .before .count-command) .kept .0, (c .before .before .before .before .before .before .before .before .before .before .before .before .before .before .before .before .give-all) .kept .0)
+same-length c = omega (arith, (c .before .before .before .before .before .before .before .before .before .before .before .before .before .before .before .before .before .before .before .before .before .before .before .before .before .before .before .before .before .next-number) .kept .0, (c .before .before .before .before .before .before .before .before .before .before .before .before .before .before .before .before .give-all) .kept .0)
 
 same-length-2 : tie.Need-same-length-2
 same-length-2 c = search needs
@@ -46,13 +46,13 @@ same-length-7 : tie.Need-same-length-7
 same-length-7 c = search needs
 
 returns : tie.Need-returns
-returns c = let a = (c .before .before .before .before .before .before .before .before .before .before .before .before .before .before .before .before .before .before .before .before .before .before .before .before .before .before .before .before .before .before .before .before .before .before .before .before .before .before .before .before .args) in show-done (a .peers .now) (a .nodes .now) (a .handles .now) (ringsOf (a .ends .now) (a .entries .now) (a .carried .now) (a .numbers .now)) (a .seeds .now) (a .p .0) (a .out .now) ((c .before .before .before .before .before .before .before .before .before .before .before .before .before .before .before .before .before .before .before .before .before .before .before .before .before .before .before .before .before .count-command) .ensures) ((c .before .before .before .before .before .before .before .before .before .before .before .before .before .before .before .before .before .before .before .before .before .before .before .before .before .user-of) .ensures) ((c .before .before .before .before .before .before .before .before .before .before .before .before .before .before .before .before .before .before .before .before .before .before .before .before .slots-of) .ensures) ((c .before .before .before .before .before .before .before .before .before .before .before .before .before .before .before .before .before .before .before .before .before .before .before .nh-of) .ensures .0) ((c .before .before .before .before .before .before .before .before .before .before .before .before .before .before .before .before .give-all) .ensures) ((c .before .before .write-seed) .ensures)
+returns c = let a = (c .before .before .before .before .before .before .before .before .before .before .before .before .before .before .before .before .before .before .before .before .before .before .before .before .before .before .before .before .before .before .before .before .before .before .before .before .before .before .before .before .args) in show-done (a .peers .now) (a .nodes .now) (a .handles .now) (ringsOf (a .ends .now) (a .entries .now) (a .carried .now) (a .numbers .now)) (a .seeds .now) (a .p .0) (a .out .now) ((c .before .before .before .before .before .before .before .before .before .before .before .before .before .before .before .before .before .before .before .before .before .before .before .before .before .before .before .before .before .next-number) .ensures) ((c .before .before .before .before .before .before .before .before .before .before .before .before .before .before .before .before .before .before .before .before .before .before .before .before .before .user-of) .ensures) ((c .before .before .before .before .before .before .before .before .before .before .before .before .before .before .before .before .before .before .before .before .before .before .before .before .slots-of) .ensures) ((c .before .before .before .before .before .before .before .before .before .before .before .before .before .before .before .before .before .before .before .before .before .before .before .nh-of) .ensures .0) ((c .before .before .before .before .before .before .before .before .before .before .before .before .before .before .before .before .give-all) .ensures) ((c .before .before .write-seed) .ensures)
 
 pub show-seed-spec : {M : Type 1} → statement M
 show-seed-spec =
     tie.close
     (tie.spec
-    count-command-requires
+    next-number-requires
     user-of-requires
     slots-of-requires
     nh-of-requires

@@ -5,8 +5,8 @@ use borrow.Author.Needs.{needs}
 use Rattle.effects.proofs.transfer.Statement.{statement}
 use Rattle.effects.proofs.transfer.Tie as tie
 
-count-command-requires : tie.Need-count-command-requires
-count-command-requires c κs = search needs
+next-number-requires : tie.Need-next-number-requires
+next-number-requires c κs = search needs
 
 give-requires : tie.Need-give-requires
 give-requires c κs = search needs
@@ -30,13 +30,13 @@ same-length-6 : tie.Need-same-length-6
 same-length-6 c = search needs
 
 returns : tie.Need-returns
-returns c = let a = (c .before .before .before .before .before .before .before .before .before .before .before .before .before .before .before .before .before .before .before .before .before .before .before .before .before .before .before .before .before .before .args) in transfer-done (a .peers .now) ((c .before .before .before .before .before .before .before .before .before .before .before .before .before .before .before .before .before .before .before .before .before .count-command) .ensures) (a .nodes .now) (a .handles .now) (ringsOf (a .ends .now) (a .entries .now) (a .carried .now) (a .numbers .now)) (a .q .0) (a .s) ((c .before .before .before .before .before .before .before .before .before .before .before .before .give) .ensures)
+returns c = let a = (c .before .before .before .before .before .before .before .before .before .before .before .before .before .before .before .before .before .before .before .before .before .before .before .before .before .before .before .before .before .before .args) in transfer-done (a .peers .now) (a .nodes .now) (a .handles .now) (ringsOf (a .ends .now) (a .entries .now) (a .carried .now) (a .numbers .now)) (a .q .0) (a .s) ((c .before .before .before .before .before .before .before .before .before .before .before .before .before .before .before .before .before .before .before .before .before .next-number) .ensures) ((c .before .before .before .before .before .before .before .before .before .before .before .before .give) .ensures)
 
 pub transfer-spec : {M : Type 1} → statement M
 transfer-spec =
     tie.close
     (tie.spec
-    count-command-requires
+    next-number-requires
     give-requires
     same-length
     same-length-2

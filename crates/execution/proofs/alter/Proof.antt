@@ -58,7 +58,7 @@ enum-known-order-4 : tie.Need-enum-known-order-4
 enum-known-order-4 c = search needs
 
 destroy-requires : tie.Need-destroy-requires
-destroy-requires c κs = let z = (c .before .before .before .before .before .before .before .before .before .before .before .before .before .before .before .before .before .before .before .before) .pre .0 in let h = fair-as ((c .before .before .before .before .before .before .before .before .order4) .given .1) ((c .before .before .before .before .before .before .before .before .before .before .before .before .before .before .before .before .before .before .before .before) .pre .1) in (z .peers, z .nodes, z .handles, record { ends = z .ends; rows = z .rows }, h)
+destroy-requires c κs = let z = (c .before .before .before .before .before .before .before .before .before .before .before .before .before .before .before .before .before .before .before .before .before) .pre .0 in let h = fair-as ((c .before .before .before .before .before .before .before .before .before .order4) .given .1) ((c .before .before .before .before .before .before .before .before .before .before .before .before .before .before .before .before .before .before .before .before .before) .pre .1) in (z .peers, z .nodes, z .handles, z .charges, record { ends = z .ends; rows = z .rows }, h)
 
 enum-known-order-5 : tie.Need-enum-known-order-5
 enum-known-order-5 c = search needs
@@ -135,11 +135,11 @@ same-length-19 c = search needs
 same-length-20 : tie.Need-same-length-20
 same-length-20 c = search needs
 
-returns-4 : tie.Need-returns-4
-returns-4 c = alters-destroy _ _ _ _ _ _ _ _ _ _ ((c .before .before .before .before .before .before .before .before .before .before .before .before .before .before .before .before .before .before .before .before .before .order4) .given .1) ((c .before .before .before .before .before .before .before .before .before .before .before .before .destroy) .ensures)
-
 same-length-21 : tie.Need-same-length-21
 same-length-21 c = search needs
+
+returns-4 : tie.Need-returns-4
+returns-4 c = alters-destroy _ _ _ _ _ _ _ _ _ _ ((c .before .before .before .before .before .before .before .before .before .before .before .before .before .before .before .before .before .before .before .before .before .before .order4) .given .1) ((c .before .before .before .before .before .before .before .before .before .before .before .before .destroy) .ensures)
 
 same-length-22 : tie.Need-same-length-22
 same-length-22 c = search needs
@@ -164,6 +164,9 @@ same-length-28 c = search needs
 
 same-length-29 : tie.Need-same-length-29
 same-length-29 c = search needs
+
+same-length-30 : tie.Need-same-length-30
+same-length-30 c = search needs
 
 returns-5 : tie.Need-returns-5
 returns-5 c = alters-release _ _ _ _ _ _ _ _ _ _ ((c .before .before .before .before .before .before .before .before .before .before .before .before .before .before .before .before .before .before .before .before .before .before .before .before .before .before .before .order5) .given .1) ((c .before .before .before .before .before .before .before .before .before .before .before .before .before .before .before .before .release) .ensures)
@@ -209,8 +212,8 @@ alter-spec =
     same-length-18
     same-length-19
     same-length-20
-    returns-4
     same-length-21
+    returns-4
     same-length-22
     same-length-23
     same-length-24
@@ -219,5 +222,6 @@ alter-spec =
     same-length-27
     same-length-28
     same-length-29
+    same-length-30
     returns-5
     returns-6)

@@ -7,14 +7,14 @@ use Rattle.grants.proofs.give_all.Statement.{statement}
 use Rattle.grants.proofs.give_all.Tie as tie
 
 abbrev Inv-loop : tie.InvT-loop
-Inv-loop peers₀ nodes handles₀ ends₀ entries₀ carried₀ numbers₀ p n slots ids₀ k₀ peers handles ends entries carried numbers ids k =
-    Giving nodes peers₀ handles₀ ends₀ entries₀ carried₀ numbers₀ (p .0) slots n ids peers handles ends entries carried numbers k
+Inv-loop peers₀ nodes handles₀ ends₀ entries₀ carried₀ numbers₀ p n nh slots ids₀ k₀ peers handles ends entries carried numbers ids k =
+    Giving nodes peers₀ handles₀ ends₀ entries₀ carried₀ numbers₀ (p .0) n slots nh ids peers handles ends entries carried numbers k
 
 abbrev μ-loop : tie.MeasureT-loop
-μ-loop peers₀ nodes handles₀ ends₀ entries₀ carried₀ numbers₀ p n slots ids₀ k₀ peers handles ends entries carried numbers ids k = n - k
+μ-loop peers₀ nodes handles₀ ends₀ entries₀ carried₀ numbers₀ p n nh slots ids₀ k₀ peers handles ends entries carried numbers ids k = nh - k
 
 loop-holds : tie.Need-loop-holds Inv-loop μ-loop
-loop-holds c = giving-start _ _ _ _ _ _ _ _ _ _
+loop-holds c = giving-start _ _ _ _ _ _ _ _ _ _ _
 
 array-read-s : tie.Need-array-read-s Inv-loop μ-loop
 array-read-s c = search needs
@@ -38,7 +38,7 @@ loop-less : tie.Need-loop-less Inv-loop μ-loop
 loop-less c = search needs
 
 loop-again : tie.Need-loop-again Inv-loop μ-loop
-loop-again c = let g = (c .before .before .before .before .before .before .before .before .before .before .before .before .give) in let v = (c .before .before .before .before .before .before .before .before .before .before .before .before .before .before .before .before .before .before .before .before .loop) .inv in record { within = omega arith; peers = omega (arith, v .peers, g .kept .0); handles = omega (arith, v .handles, g .kept .1 .1 .0); ends = omega (arith, v .ends, g .kept .1 .1 .1 .0); entries = omega (arith, v .entries, g .kept .1 .1 .1 .1 .0); carried = omega (arith, v .carried, g .kept .1 .1 .1 .1 .1 .0); numbers = omega (arith, v .numbers, g .kept .1 .1 .1 .1 .1 .1 .0); made = gives-next _ _ _ _ _ _ _ (v .made) (g .ensures) }
+loop-again c = let g = (c .before .before .before .before .before .before .before .before .before .before .before .before .give) in let v = (c .before .before .before .before .before .before .before .before .before .before .before .before .before .before .before .before .before .before .before .before .loop) .inv in record { within = omega arith; peers = omega (arith, v .peers, g .kept .0); handles = omega (arith, v .handles, g .kept .1 .1 .0); ends = omega (arith, v .ends, g .kept .1 .1 .1 .0); entries = omega (arith, v .entries, g .kept .1 .1 .1 .1 .0); carried = omega (arith, v .carried, g .kept .1 .1 .1 .1 .1 .0); numbers = omega (arith, v .numbers, g .kept .1 .1 .1 .1 .1 .1 .0); made = gives-next _ _ _ _ _ _ _ _ (v .made) (g .ensures) }
 
 same-length : tie.Need-same-length Inv-loop μ-loop
 same-length c = search needs
@@ -59,7 +59,7 @@ same-length-6 : tie.Need-same-length-6 Inv-loop μ-loop
 same-length-6 c = search needs
 
 returns : tie.Need-returns Inv-loop μ-loop
-returns c = gives-done _ _ _ _ _ _ _ _ ((c .before .loop) .inv .made) ((c .before .loop) .inv .within) ((c .loop-test) .left)
+returns c = gives-done _ _ _ _ _ _ _ _ _ ((c .before .loop) .inv .made) ((c .before .loop) .inv .within) ((c .loop-test) .left)
 
 pub give-all-spec : {M : Type 1} → statement M
 give-all-spec =

@@ -2,13 +2,19 @@
 use Prim.Native.Nat.{_-_}
 use Rattle.rings.specs.Rings.{ringsOf}
 use Rattle.notices.specs.Code.{Owning, owning-start, owning-next, owning-all}
+use Rattle.ids.specs.Sizes.{peers}
+use native.Mathlib.Omega.{arith}
 use borrow.Author.Needs.{needs}
 use Rattle.notices.proofs.tell_owners.Statement.{statement}
 use Rattle.notices.proofs.tell_owners.Tie as tie
-use Rattle.ids.specs.Sizes.{peers}
+use Rattle.notices.proofs.tell_owners.Reads as reads
+use Rattle.notices.proofs.tell_owners.Lts as lts
+use Rattle.notices.proofs.set_of.Reads as set-of-reads
+use Rattle.notices.proofs.tell.Reads as tell-reads
 
 abbrev Inv-loop : tie.InvT-loop
-Inv-loop nodes handles ends₀ entries₀ carried₀ numbers₀ p n q₀ ends entries carried numbers q = Owning nodes handles (p .0) n (ringsOf ends₀ entries₀ carried₀ numbers₀) (ringsOf ends entries carried numbers) q
+Inv-loop nodes handles ends₀ entries₀ carried₀ numbers₀ p n q₀ ends entries carried numbers q =
+    Owning nodes handles (p .0) n (ringsOf ends₀ entries₀ carried₀ numbers₀) (ringsOf ends entries carried numbers) q
 
 abbrev μ-loop : tie.MeasureT-loop
 μ-loop nodes handles ends₀ entries₀ carried₀ numbers₀ p n q₀ ends entries carried numbers q = peers - q
@@ -18,6 +24,12 @@ loop-holds c = let a = (c .before .before .before .before .before .before .args)
 
 set-of-requires : tie.Need-set-of-requires Inv-loop μ-loop
 set-of-requires c κs = search needs
+
+cast-tell : tie.Need-cast-tell Inv-loop μ-loop
+cast-tell c = search needs
+
+shl-tell : tie.Need-shl-tell Inv-loop μ-loop
+shl-tell c = search needs
 
 tell-requires : tie.Need-tell-requires Inv-loop μ-loop
 tell-requires c κs = search needs
@@ -54,6 +66,8 @@ tell-owners-spec =
     μ-loop
     loop-holds
     set-of-requires
+    cast-tell
+    shl-tell
     tell-requires
     add-q
     loop-less

@@ -130,7 +130,7 @@ fn script(seed: u64, lines: usize, profile: Profile, tally: &mut Tally) -> Resul
     Ok(())
 }
 
-/// Compares both on random scripts of the four profiles in turn, short ones
+/// Compares both on random scripts of every profile in turn, short ones
 /// and long ones, until `over` says so after a script.
 ///
 /// # Errors
