@@ -49,7 +49,10 @@ fn sized(
     pool: &[u8],
     seeds: &[u8],
 ) -> bool
-    ensures { λ r. ⌜ r ≡ sizedOk (busOf (now (peers .entry)) (now (nodes .entry)) (now (handles .entry)) (now (charges .entry)) (now (ends .entry)) (now (entries .entry)) (now (carried .entry)) (now (numbers .entry)) (now (pool .entry)) (now (seeds .entry))) ⌝ }
+    ensures { λ r.
+        let bus = busOf (now (peers .entry)) (now (nodes .entry)) (now (handles .entry)) (now (charges .entry))
+        (now (ends .entry)) (now (entries .entry)) (now (carried .entry)) (now (numbers .entry)) (now (pool .entry)) (now (seeds .entry)) in
+        ⌜ r ≡ sizedOk bus ⌝ }
 {
     if peers.len() != PEERS_SIZE {
         return false;
@@ -130,7 +133,10 @@ pub fn is_sound(
     pool: &[u8],
     seeds: &[u8],
 ) -> bool
-    ensures { λ r. ⌜ r ≡ soundOk (busOf (now (peers .entry)) (now (nodes .entry)) (now (handles .entry)) (now (charges .entry)) (now (ends .entry)) (now (entries .entry)) (now (carried .entry)) (now (numbers .entry)) (now (pool .entry)) (now (seeds .entry))) ⌝ }
+    ensures { λ r.
+        let bus = busOf (now (peers .entry)) (now (nodes .entry)) (now (handles .entry)) (now (charges .entry))
+        (now (ends .entry)) (now (entries .entry)) (now (carried .entry)) (now (numbers .entry)) (now (pool .entry)) (now (seeds .entry)) in
+        ⌜ r ≡ soundOk bus ⌝ }
 {
     if !sized(
         peers,
@@ -168,8 +174,17 @@ fn execute(
     c: Command,
     out: &mut [u8],
 ) -> Outcome
-    requires { ⌜ Shape (busOf (now ps) (now ns) (now hs) (now cs) (now ends) (now entries) (now carried) (now numbers) (now pool) (now seeds)) × Short (now ends) × Legal (now f) c ⌝ }
-    ensures { λ o. ⌜ doneOf o (busOf (now (ps .exit)) (now (ns .exit)) (now (hs .exit)) (now (cs .exit)) (now (ends .exit)) (now (entries .exit)) (now (carried .exit)) (now (numbers .exit)) (now (pool .exit)) (now (seeds .exit))) (now (out .exit)) ≡ carriedOut (busOf (now (ps .entry)) (now (ns .entry)) (now (hs .entry)) (now (cs .entry)) (now (ends .entry)) (now (entries .entry)) (now (carried .entry)) (now (numbers .entry)) (now (pool .entry)) (now (seeds .entry))) (now (f .entry)) (now (out .entry)) (rulingOf (sight (now (ps .entry)) (now (ns .entry)) (now (hs .entry)) (now (cs .entry)) (ringsOf (now (ends .entry)) (now (entries .entry)) (now (carried .entry)) (now (numbers .entry))) (now (seeds .entry))) (now (f .entry)) c) ⌝ }
+    requires { ⌜ Shape (busOf (now ps) (now ns) (now hs) (now cs) (now ends) (now entries) (now carried) (now numbers) (now pool) (now seeds))
+        × Short (now ends) × Legal (now f) c ⌝ }
+    ensures { λ o.
+        let before = busOf (now (ps .entry)) (now (ns .entry)) (now (hs .entry)) (now (cs .entry))
+        (now (ends .entry)) (now (entries .entry)) (now (carried .entry)) (now (numbers .entry)) (now (pool .entry)) (now (seeds .entry)) in
+        let after = busOf (now (ps .exit)) (now (ns .exit)) (now (hs .exit)) (now (cs .exit))
+        (now (ends .exit)) (now (entries .exit)) (now (carried .exit)) (now (numbers .exit)) (now (pool .exit)) (now (seeds .exit)) in
+        let rings = ringsOf (now (ends .entry)) (now (entries .entry)) (now (carried .entry)) (now (numbers .entry)) in
+        let tables = sight (now (ps .entry)) (now (ns .entry)) (now (hs .entry)) (now (cs .entry)) rings (now (seeds .entry)) in
+        ⌜ doneOf o after (now (out .exit))
+        ≡ carriedOut before (now (f .entry)) (now (out .entry)) (rulingOf tables (now (f .entry)) c) ⌝ }
 {
     let r = judges::judge(ps, ns, hs, cs, ends, entries, carried, numbers, seeds, f, c);
     execution::carry_out(
@@ -205,7 +220,12 @@ fn obey(
     out: &mut [u8],
 ) -> Outcome
     requires { ⌜ answerSize ≤ length (now out) ⌝ }
-    ensures { λ o. ⌜ doneOf o (busOf (now (ps .exit)) (now (ns .exit)) (now (hs .exit)) (now (cs .exit)) (now (ends .exit)) (now (entries .exit)) (now (carried .exit)) (now (numbers .exit)) (now (pool .exit)) (now (seeds .exit))) (now (out .exit)) ≡ commandOf (busOf (now (ps .entry)) (now (ns .entry)) (now (hs .entry)) (now (cs .entry)) (now (ends .entry)) (now (entries .entry)) (now (carried .entry)) (now (numbers .entry)) (now (pool .entry)) (now (seeds .entry))) (now (f .entry)) (now (out .entry)) ⌝ }
+    ensures { λ o.
+        let before = busOf (now (ps .entry)) (now (ns .entry)) (now (hs .entry)) (now (cs .entry))
+        (now (ends .entry)) (now (entries .entry)) (now (carried .entry)) (now (numbers .entry)) (now (pool .entry)) (now (seeds .entry)) in
+        let after = busOf (now (ps .exit)) (now (ns .exit)) (now (hs .exit)) (now (cs .exit))
+        (now (ends .exit)) (now (entries .exit)) (now (carried .exit)) (now (numbers .exit)) (now (pool .exit)) (now (seeds .exit)) in
+        ⌜ doneOf o after (now (out .exit)) ≡ commandOf before (now (f .entry)) (now (out .entry)) ⌝ }
 {
     if !is_sound(ps, ns, hs, cs, ends, entries, carried, numbers, pool, seeds) {
         return answers::write_refusal(out, EIO);
@@ -246,7 +266,12 @@ pub fn command(
     frame: &[u8],
     out: &mut [u8],
 ) -> Outcome
-    ensures { λ o. ⌜ doneOf o (busOf (now (peers .exit)) (now (nodes .exit)) (now (handles .exit)) (now (charges .exit)) (now (ends .exit)) (now (entries .exit)) (now (carried .exit)) (now (numbers .exit)) (now (pool .exit)) (now (seeds .exit))) (now (out .exit)) ≡ commandOf (busOf (now (peers .entry)) (now (nodes .entry)) (now (handles .entry)) (now (charges .entry)) (now (ends .entry)) (now (entries .entry)) (now (carried .entry)) (now (numbers .entry)) (now (pool .entry)) (now (seeds .entry))) (now (frame .entry)) (now (out .entry)) ⌝ }
+    ensures { λ o.
+        let before = busOf (now (peers .entry)) (now (nodes .entry)) (now (handles .entry)) (now (charges .entry))
+        (now (ends .entry)) (now (entries .entry)) (now (carried .entry)) (now (numbers .entry)) (now (pool .entry)) (now (seeds .entry)) in
+        let after = busOf (now (peers .exit)) (now (nodes .exit)) (now (handles .exit)) (now (charges .exit))
+        (now (ends .exit)) (now (entries .exit)) (now (carried .exit)) (now (numbers .exit)) (now (pool .exit)) (now (seeds .exit)) in
+        ⌜ doneOf o after (now (out .exit)) ≡ commandOf before (now (frame .entry)) (now (out .entry)) ⌝ }
 {
     if out.len() < ANSWER_SIZE {
         return Outcome {
@@ -313,7 +338,12 @@ pub fn fresh(
     pool: &mut [u8],
     seeds: &mut [u8],
 ) -> u8
-    ensures { λ r. ⌜ (r ≡ freshNumber (busOf (now (peers .entry)) (now (nodes .entry)) (now (handles .entry)) (now (charges .entry)) (now (ends .entry)) (now (entries .entry)) (now (carried .entry)) (now (numbers .entry)) (now (pool .entry)) (now (seeds .entry)))) × (busOf (now (peers .exit)) (now (nodes .exit)) (now (handles .exit)) (now (charges .exit)) (now (ends .exit)) (now (entries .exit)) (now (carried .exit)) (now (numbers .exit)) (now (pool .exit)) (now (seeds .exit)) ≡ freshOf (busOf (now (peers .entry)) (now (nodes .entry)) (now (handles .entry)) (now (charges .entry)) (now (ends .entry)) (now (entries .entry)) (now (carried .entry)) (now (numbers .entry)) (now (pool .entry)) (now (seeds .entry)))) ⌝ }
+    ensures { λ r.
+        let before = busOf (now (peers .entry)) (now (nodes .entry)) (now (handles .entry)) (now (charges .entry))
+        (now (ends .entry)) (now (entries .entry)) (now (carried .entry)) (now (numbers .entry)) (now (pool .entry)) (now (seeds .entry)) in
+        let after = busOf (now (peers .exit)) (now (nodes .exit)) (now (handles .exit)) (now (charges .exit))
+        (now (ends .exit)) (now (entries .exit)) (now (carried .exit)) (now (numbers .exit)) (now (pool .exit)) (now (seeds .exit)) in
+        ⌜ (r ≡ freshNumber before) × (after ≡ freshOf before) ⌝ }
 {
     if !sized(
         peers,

@@ -167,7 +167,12 @@ fn answer_chunk(
     text: &mut [u8],
 ) -> Sent
     requires { ⌜ longest ≤ length (now text) ⌝ }
-    ensures { λ r. ⌜ Chunk (busOf (now (peers .entry)) (now (nodes .entry)) (now (handles .entry)) (now (charges .entry)) (now (ends .entry)) (now (entries .entry)) (now (carried .entry)) (now (numbers .entry)) (now (pool .entry)) (now (seeds .entry))) (now (s .entry)) (busOf (now (peers .exit)) (now (nodes .exit)) (now (handles .exit)) (now (charges .exit)) (now (ends .exit)) (now (entries .exit)) (now (carried .exit)) (now (numbers .exit)) (now (pool .exit)) (now (seeds .exit))) (r .from) (r .whole) ⌝ }
+    ensures { λ r.
+        let before = busOf (now (peers .entry)) (now (nodes .entry)) (now (handles .entry)) (now (charges .entry))
+        (now (ends .entry)) (now (entries .entry)) (now (carried .entry)) (now (numbers .entry)) (now (pool .entry)) (now (seeds .entry)) in
+        let after = busOf (now (peers .exit)) (now (nodes .exit)) (now (handles .exit)) (now (charges .exit))
+        (now (ends .exit)) (now (entries .exit)) (now (carried .exit)) (now (numbers .exit)) (now (pool .exit)) (now (seeds .exit)) in
+        ⌜ Chunk before (now (s .entry)) after (r .from) (r .whole) ⌝ }
 {
     let mut p = beginning();
     while p.more {
@@ -245,7 +250,11 @@ fn ended() -> Turn
 
 // The piece of a chunk carried over, or where an answer is not written the end.
 fn carry(buf: &mut [u8], sent: Sent, end: usize) -> Turn
-    ensures { λ r. ⌜ (r .held ≤ mostCarried) × (r .more ≡ true → (sent .whole ≡ true) × (r .held ≡ length (carriedOf (now (buf .entry)) (sent .from) end)) × (now (buf .exit) ≡ carriedOf (now (buf .entry)) (sent .from) end ++ drop (length (carriedOf (now (buf .entry)) (sent .from) end)) (now (buf .entry)))) ⌝ }
+    ensures { λ r.
+        let rest = carriedOf (now (buf .entry)) (sent .from) end in
+        ⌜ (r .held ≤ mostCarried)
+        × (r .more ≡ true →
+        (sent .whole ≡ true) × (r .held ≡ length rest) × (now (buf .exit) ≡ rest ++ drop (length rest) (now (buf .entry)))) ⌝ }
 {
     if !sent.whole {
         say_not_written();
@@ -275,8 +284,13 @@ fn take_turn(
     held: usize,
     text: &mut [u8],
 ) -> Turn
-    requires { ⌜ (held ≤ mostCarried) × (length (now buf) ≡ 65536) × (longest ≤ length (now text)) × Underway (busOf (now peers) (now nodes) (now handles) (now charges) (now ends) (now entries) (now carried) (now numbers) (now pool) (now seeds)) (take held (now buf)) ⌝ }
-    ensures { λ r. ⌜ (r .held ≤ mostCarried) × (r .more ≡ true → Underway (busOf (now (peers .exit)) (now (nodes .exit)) (now (handles .exit)) (now (charges .exit)) (now (ends .exit)) (now (entries .exit)) (now (carried .exit)) (now (numbers .exit)) (now (pool .exit)) (now (seeds .exit))) (take (r .held) (now (buf .exit)))) ⌝ }
+    requires { let bus = busOf (now peers) (now nodes) (now handles) (now charges)
+        (now ends) (now entries) (now carried) (now numbers) (now pool) (now seeds) in
+        ⌜ (held ≤ mostCarried) × (length (now buf) ≡ 65536) × (longest ≤ length (now text)) × Underway bus (take held (now buf)) ⌝ }
+    ensures { λ r.
+        let bus = busOf (now (peers .exit)) (now (nodes .exit)) (now (handles .exit)) (now (charges .exit))
+        (now (ends .exit)) (now (entries .exit)) (now (carried .exit)) (now (numbers .exit)) (now (pool .exit)) (now (seeds .exit)) in
+        ⌜ (r .held ≤ mostCarried) × (r .more ≡ true → Underway bus (take (r .held) (now (buf .exit)))) ⌝ }
 {
     let got = next_chunk(buf, held);
     if got == 0 {
@@ -315,7 +329,9 @@ fn run(
     buf: &mut [u8],
     text: &mut [u8],
 )
-    requires { ⌜ (length (now buf) ≡ 65536) × (longest ≤ length (now text)) × (busOf (now peers) (now nodes) (now handles) (now charges) (now ends) (now entries) (now carried) (now numbers) (now pool) (now seeds) ≡ freshBus) ⌝ }
+    requires { let bus = busOf (now peers) (now nodes) (now handles) (now charges)
+        (now ends) (now entries) (now carried) (now numbers) (now pool) (now seeds) in
+        ⌜ (length (now buf) ≡ 65536) × (longest ≤ length (now text)) × (bus ≡ freshBus) ⌝ }
 {
     let mut held = 0;
     let mut turns = u64::MAX;

@@ -37,7 +37,8 @@ pub fn put(out: &mut [u8], at: usize, bytes: &[u8])
 
 // Moves the n bytes from `from` on down to `to`; where `to` is above `from`, nothing.
 pub fn down(buf: &mut [u8], to: usize, from: usize, n: usize)
-    ensures { λ _. ⌜ now (buf .exit) ≡ pick (leb to from) (sets (now (buf .entry)) to (take n (drop from (now (buf .entry))))) (now (buf .entry)) ⌝ }
+    ensures { λ _. ⌜ now (buf .exit)
+        ≡ pick (leb to from) (sets (now (buf .entry)) to (take n (drop from (now (buf .entry))))) (now (buf .entry)) ⌝ }
 {
     if from < to {
         return;

@@ -9,7 +9,10 @@ ghost use Rattle.queues.specs.Queues.{queuesOf};
 ghost use Rattle.view.specs.View.{busOf};
 ghost use Rattle.grants.specs.Grants.{givenOf};
 ghost use Rattle.tables.specs.Handles.{handlesSize};
-ghost use Rattle.effects.specs.Effects.{countedOf, counted, openedPeers, createdOf, created, destroysOf, destroys, dropped, droppedOf, forgottenOwn, forgotten, notified, releasesOf, releases, transfers, messageTo, sentTo, sends, sendsOf, disconnectsOf, disconnects, messageAnswer, shownIds, shownBytes, receivedMessage, noticeTaken, noticeTakenOf, received, receivedOf, replaced, seedAnswer, shownOf, shows};
+ghost use Rattle.effects.specs.Effects.{countedOf, counted, openedPeers, createdOf, created, destroysOf, destroys, dropped, droppedOf};
+ghost use Rattle.effects.specs.Effects.{forgottenOwn, forgotten, notified, releasesOf, releases, transfers, messageTo, sentTo, sends};
+ghost use Rattle.effects.specs.Effects.{sendsOf, disconnectsOf, disconnects, messageAnswer, shownIds, shownBytes, receivedMessage};
+ghost use Rattle.effects.specs.Effects.{noticeTaken, noticeTakenOf, received, receivedOf, replaced, seedAnswer, shownOf, shows};
 ghost use Rattle.ids.specs.Sizes.{peers as peerCount, peersSize, nodesSize, seedsSize, mostIds};
 ghost use Rattle.model.specs.Numbers.{nodes as nodeCount};
 ghost use Rattle.tables.specs.Charges.{chargesSize};
@@ -57,8 +60,10 @@ pub fn create(
     i: HandleId,
     s: usize,
 )
-    requires { ⌜ (length (now peers) ≡ peersSize) × (length (now nodes) ≡ nodesSize) × (length (now handles) ≡ handlesSize) × (p .0 < peerCount) × (s < nodeCount) ⌝ }
-    ensures { λ _. ⌜ createdOf (now (peers .exit)) (now (nodes .exit)) (now (handles .exit)) ≡ created (now (peers .entry)) (now (nodes .entry)) (now (handles .entry)) (p .0) (i .0) s ⌝ }
+    requires { ⌜ (length (now peers) ≡ peersSize) × (length (now nodes) ≡ nodesSize) × (length (now handles) ≡ handlesSize)
+        × (p .0 < peerCount) × (s < nodeCount) ⌝ }
+    ensures { λ _. ⌜ createdOf (now (peers .exit)) (now (nodes .exit)) (now (handles .exit))
+        ≡ created (now (peers .entry)) (now (nodes .entry)) (now (handles .entry)) (p .0) (i .0) s ⌝ }
 {
     tables::count_command(peers);
     tables::set_live(nodes, s);
@@ -117,8 +122,10 @@ fn forget_own(
     requires { ⌜ (length (now nodes) ≡ nodesSize) × (length (now handles) ≡ handlesSize) × (length (now charges) ≡ chargesSize)
         × QueueTables (now ends) (now entries) (now carried) (now numbers) × (p .0 < peerCount) ⌝ }
     ensures { λ _.
-        let before = queuesOf (now (charges .entry)) (now (ends .entry)) (now (entries .entry)) (now (carried .entry)) (now (numbers .entry)) (now (pool .entry)) in
-        let after = queuesOf (now (charges .exit)) (now (ends .exit)) (now (entries .exit)) (now (carried .exit)) (now (numbers .exit)) (now (pool .exit)) in
+        let before = queuesOf (now (charges .entry))
+        (now (ends .entry)) (now (entries .entry)) (now (carried .entry)) (now (numbers .entry)) (now (pool .entry)) in
+        let after = queuesOf (now (charges .exit))
+        (now (ends .exit)) (now (entries .exit)) (now (carried .exit)) (now (numbers .exit)) (now (pool .exit)) in
         ⌜ after ≡ forgottenOwn (now (nodes .entry)) (now (handles .entry)) before (p .0) s ⌝ }
 {
     if queues::attached(tables::load(charges, p)) == 0 {
@@ -147,8 +154,10 @@ fn forget(
     requires { ⌜ (length (now nodes) ≡ nodesSize) × (length (now handles) ≡ handlesSize) × (length (now charges) ≡ chargesSize)
         × QueueTables (now ends) (now entries) (now carried) (now numbers) × (p .0 < peerCount) × (s < nodeCount) ⌝ }
     ensures { λ _.
-        let before = queuesOf (now (charges .entry)) (now (ends .entry)) (now (entries .entry)) (now (carried .entry)) (now (numbers .entry)) (now (pool .entry)) in
-        let after = queuesOf (now (charges .exit)) (now (ends .exit)) (now (entries .exit)) (now (carried .exit)) (now (numbers .exit)) (now (pool .exit)) in
+        let before = queuesOf (now (charges .entry))
+        (now (ends .entry)) (now (entries .entry)) (now (carried .entry)) (now (numbers .entry)) (now (pool .entry)) in
+        let after = queuesOf (now (charges .exit))
+        (now (ends .exit)) (now (entries .exit)) (now (carried .exit)) (now (numbers .exit)) (now (pool .exit)) in
         ⌜ after ≡ forgotten (now (nodes .entry)) (now (handles .entry)) before (p .0) s ⌝ }
 {
     if s / SLOTS == p.0 {
@@ -198,8 +207,12 @@ fn notify(
     s: usize,
     n: u64,
 )
-    requires { ⌜ (length (now nodes) ≡ nodesSize) × (length (now handles) ≡ handlesSize) × QueueTables (now ends) (now entries) (now carried) (now numbers) × (s < nodeCount) ⌝ }
-    ensures { λ _. ⌜ ringsOf (now (ends .exit)) (now (entries .exit)) (now (carried .exit)) (now (numbers .exit)) ≡ notified (now (nodes .entry)) (now (handles .entry)) (ringsOf (now (ends .entry)) (now (entries .entry)) (now (carried .entry)) (now (numbers .entry))) s n ⌝ }
+    requires { ⌜ (length (now nodes) ≡ nodesSize) × (length (now handles) ≡ handlesSize)
+        × QueueTables (now ends) (now entries) (now carried) (now numbers) × (s < nodeCount) ⌝ }
+    ensures { λ _.
+        let before = ringsOf (now (ends .entry)) (now (entries .entry)) (now (carried .entry)) (now (numbers .entry)) in
+        let after = ringsOf (now (ends .exit)) (now (entries .exit)) (now (carried .exit)) (now (numbers .exit)) in
+        ⌜ after ≡ notified (now (nodes .entry)) (now (handles .entry)) before s n ⌝ }
 {
     if !tables::is_live(nodes, s) {
         return;
@@ -223,8 +236,16 @@ pub fn release(
     p: Peer,
     s: usize,
 )
-    requires { ⌜ (length (now peers) ≡ peersSize) × (length (now nodes) ≡ nodesSize) × (length (now handles) ≡ handlesSize) × (length (now charges) ≡ chargesSize) × QueueTables (now ends) (now entries) (now carried) (now numbers) × (p .0 < peerCount) × (s < nodeCount) ⌝ }
-    ensures { λ _. ⌜ releasesOf (now (peers .exit)) (now (handles .exit)) (queuesOf (now (charges .exit)) (now (ends .exit)) (now (entries .exit)) (now (carried .exit)) (now (numbers .exit)) (now (pool .exit))) ≡ releases (now (peers .entry)) (now (nodes .entry)) (now (handles .entry)) (queuesOf (now (charges .entry)) (now (ends .entry)) (now (entries .entry)) (now (carried .entry)) (now (numbers .entry)) (now (pool .entry))) (p .0) s ⌝ }
+    requires { ⌜ (length (now peers) ≡ peersSize) × (length (now nodes) ≡ nodesSize)
+        × (length (now handles) ≡ handlesSize) × (length (now charges) ≡ chargesSize)
+        × QueueTables (now ends) (now entries) (now carried) (now numbers) × (p .0 < peerCount) × (s < nodeCount) ⌝ }
+    ensures { λ _.
+        let before = queuesOf (now (charges .entry))
+        (now (ends .entry)) (now (entries .entry)) (now (carried .entry)) (now (numbers .entry)) (now (pool .entry)) in
+        let after = queuesOf (now (charges .exit))
+        (now (ends .exit)) (now (entries .exit)) (now (carried .exit)) (now (numbers .exit)) (now (pool .exit)) in
+        ⌜ releasesOf (now (peers .exit)) (now (handles .exit)) after
+        ≡ releases (now (peers .entry)) (now (nodes .entry)) (now (handles .entry)) before (p .0) s ⌝ }
 {
     let n = next_number(peers);
     let left = drop_reference(handles, p, s);
@@ -256,8 +277,13 @@ pub fn transfer(
     q: Peer,
     s: usize,
 ) -> HandleId
-    requires { ⌜ (length (now peers) ≡ peersSize) × (length (now nodes) ≡ nodesSize) × (length (now handles) ≡ handlesSize) × QueueTables (now ends) (now entries) (now carried) (now numbers) × (q .0 < peerCount) × (s < nodeCount) ⌝ }
-    ensures { λ r. ⌜ givenOf (r .0) (now (peers .exit)) (now (handles .exit)) (ringsOf (now (ends .exit)) (now (entries .exit)) (now (carried .exit)) (now (numbers .exit))) ≡ transfers (now (peers .entry)) (now (nodes .entry)) (now (handles .entry)) (ringsOf (now (ends .entry)) (now (entries .entry)) (now (carried .entry)) (now (numbers .entry))) (q .0) s ⌝ }
+    requires { ⌜ (length (now peers) ≡ peersSize) × (length (now nodes) ≡ nodesSize) × (length (now handles) ≡ handlesSize)
+        × QueueTables (now ends) (now entries) (now carried) (now numbers) × (q .0 < peerCount) × (s < nodeCount) ⌝ }
+    ensures { λ r.
+        let before = ringsOf (now (ends .entry)) (now (entries .entry)) (now (carried .entry)) (now (numbers .entry)) in
+        let after = ringsOf (now (ends .exit)) (now (entries .exit)) (now (carried .exit)) (now (numbers .exit)) in
+        ⌜ givenOf (r .0) (now (peers .exit)) (now (handles .exit)) after
+        ≡ transfers (now (peers .entry)) (now (nodes .entry)) (now (handles .entry)) before (q .0) s ⌝ }
 {
     let n = next_number(peers);
     HandleId(grants::give(
@@ -305,7 +331,12 @@ fn deliver(
     n: u64,
 )
     requires { ⌜ (length (now charges) ≡ chargesSize) × QueueTables (now ends) (now entries) (now carried) (now numbers) × (z .nd ≤ mostIds) ⌝ }
-    ensures { λ _. ⌜ queuesOf (now (charges .exit)) (now (ends .exit)) (now (entries .exit)) (now (carried .exit)) (now (numbers .exit)) (now (pool .exit)) ≡ sentTo (queuesOf (now (charges .entry)) (now (ends .entry)) (now (entries .entry)) (now (carried .entry)) (now (numbers .entry)) (now (pool .entry))) (u .0) (z .nh) w (now (payload .entry)) n (z .nd) ⌝ }
+    ensures { λ _.
+        let before = queuesOf (now (charges .entry))
+        (now (ends .entry)) (now (entries .entry)) (now (carried .entry)) (now (numbers .entry)) (now (pool .entry)) in
+        let after = queuesOf (now (charges .exit))
+        (now (ends .exit)) (now (entries .exit)) (now (carried .exit)) (now (numbers .exit)) (now (pool .exit)) in
+        ⌜ after ≡ sentTo before (u .0) (z .nh) w (now (payload .entry)) n (z .nd) ⌝ }
 {
     let to = w.to;
     let slots = w.carried;
@@ -341,8 +372,14 @@ pub fn send(
     w: Places,
     payload: &[u8],
 )
-    requires { ⌜ (length (now peers) ≡ peersSize) × (length (now charges) ≡ chargesSize) × QueueTables (now ends) (now entries) (now carried) (now numbers) × (p .0 < peerCount) × (z .nd ≤ mostIds) ⌝ }
-    ensures { λ _. ⌜ sendsOf (now (peers .exit)) (queuesOf (now (charges .exit)) (now (ends .exit)) (now (entries .exit)) (now (carried .exit)) (now (numbers .exit)) (now (pool .exit))) ≡ sends (now (peers .entry)) (queuesOf (now (charges .entry)) (now (ends .entry)) (now (entries .entry)) (now (carried .entry)) (now (numbers .entry)) (now (pool .entry))) (p .0) z w (now (payload .entry)) ⌝ }
+    requires { ⌜ (length (now peers) ≡ peersSize) × (length (now charges) ≡ chargesSize)
+        × QueueTables (now ends) (now entries) (now carried) (now numbers) × (p .0 < peerCount) × (z .nd ≤ mostIds) ⌝ }
+    ensures { λ _.
+        let before = queuesOf (now (charges .entry))
+        (now (ends .entry)) (now (entries .entry)) (now (carried .entry)) (now (numbers .entry)) (now (pool .entry)) in
+        let after = queuesOf (now (charges .exit))
+        (now (ends .exit)) (now (entries .exit)) (now (carried .exit)) (now (numbers .exit)) (now (pool .exit)) in
+        ⌜ sendsOf (now (peers .exit)) after ≡ sends (now (peers .entry)) before (p .0) z w (now (payload .entry)) ⌝ }
 {
     let n = next_number(peers);
     let u = tables::user_of(peers, p);
@@ -383,8 +420,13 @@ pub fn disconnect(
     numbers: &mut [u64],
     p: Peer,
 )
-    requires { ⌜ (length (now peers) ≡ peersSize) × (length (now nodes) ≡ nodesSize) × (length (now handles) ≡ handlesSize) × (length (now charges) ≡ chargesSize) × QueueTables (now ends) (now entries) (now carried) (now numbers) × (p .0 < peerCount) ⌝ }
-    ensures { λ _. ⌜ disconnectsOf (now (peers .exit)) (now (nodes .exit)) (now (handles .exit)) (now (charges .exit)) (ringsOf (now (ends .exit)) (now (entries .exit)) (now (carried .exit)) (now (numbers .exit))) ≡ disconnects (now (peers .entry)) (now (nodes .entry)) (now (handles .entry)) (now (charges .entry)) (ringsOf (now (ends .entry)) (now (entries .entry)) (now (carried .entry)) (now (numbers .entry))) (p .0) ⌝ }
+    requires { ⌜ (length (now peers) ≡ peersSize) × (length (now nodes) ≡ nodesSize) × (length (now handles) ≡ handlesSize)
+        × (length (now charges) ≡ chargesSize) × QueueTables (now ends) (now entries) (now carried) (now numbers) × (p .0 < peerCount) ⌝ }
+    ensures { λ _.
+        let before = ringsOf (now (ends .entry)) (now (entries .entry)) (now (carried .entry)) (now (numbers .entry)) in
+        let after = ringsOf (now (ends .exit)) (now (entries .exit)) (now (carried .exit)) (now (numbers .exit)) in
+        ⌜ disconnectsOf (now (peers .exit)) (now (nodes .exit)) (now (handles .exit)) (now (charges .exit)) after
+        ≡ disconnects (now (peers .entry)) (now (nodes .entry)) (now (handles .entry)) (now (charges .entry)) before (p .0) ⌝ }
 {
     let n = next_number(peers);
     let set = notices::set_of(nodes, handles, p, Asked::Living);
@@ -418,7 +460,11 @@ fn write_message(
     ids: [u64; 8],
 ) -> Outcome
     requires { ⌜ (length (now charges) ≡ chargesSize) × (length (now pool) ≡ poolSize) × (p .0 < peerCount) ⌝ }
-    ensures { λ r. ⌜ (r ≡ outcomeOf (messageAnswer (now (charges .entry)) (p .0) to flag e) (shownIds e ids) (shownBytes (now (charges .entry)) (now (pool .entry)) (p .0) e) (now (out .entry))) × (now (out .exit) ≡ answerAfter (messageAnswer (now (charges .entry)) (p .0) to flag e) (shownIds e ids) (shownBytes (now (charges .entry)) (now (pool .entry)) (p .0) e) (now (out .entry))) ⌝ }
+    ensures { λ r.
+        let a = messageAnswer (now (charges .entry)) (p .0) to flag e in
+        let bytes = shownBytes (now (charges .entry)) (now (pool .entry)) (p .0) e in
+        ⌜ (r ≡ outcomeOf a (shownIds e ids) bytes (now (out .entry)))
+        × (now (out .exit) ≡ answerAfter a (shownIds e ids) bytes (now (out .entry))) ⌝ }
 {
     let c = tables::load(charges, p);
     let all = queues::used(c);
@@ -454,8 +500,16 @@ fn receive_message(
     e: Entry,
     out: &mut [u8],
 ) -> Outcome
-    requires { ⌜ (length (now peers) ≡ peersSize) × (length (now nodes) ≡ nodesSize) × (length (now handles) ≡ handlesSize) × (length (now charges) ≡ chargesSize) × QueueTables (now ends) (now entries) (now carried) (now numbers) × (length (now pool) ≡ poolSize) × (p .0 < peerCount) × (lengthOf (now ends) (p .0) ≤ ringSize) ⌝ }
-    ensures { λ r. ⌜ receivedOf r (now (out .exit)) (now (peers .exit)) (now (handles .exit)) (queuesOf (now (charges .exit)) (now (ends .exit)) (now (entries .exit)) (now (carried .exit)) (now (numbers .exit)) (now (pool .exit))) ≡ receivedMessage (now (peers .entry)) (now (nodes .entry)) (now (handles .entry)) (queuesOf (now (charges .entry)) (now (ends .entry)) (now (entries .entry)) (now (carried .entry)) (now (numbers .entry)) (now (pool .entry))) (p .0) e (now (out .entry)) ⌝ }
+    requires { ⌜ (length (now peers) ≡ peersSize) × (length (now nodes) ≡ nodesSize) × (length (now handles) ≡ handlesSize)
+        × (length (now charges) ≡ chargesSize) × QueueTables (now ends) (now entries) (now carried) (now numbers)
+        × (length (now pool) ≡ poolSize) × (p .0 < peerCount) × (lengthOf (now ends) (p .0) ≤ ringSize) ⌝ }
+    ensures { λ r.
+        let before = queuesOf (now (charges .entry))
+        (now (ends .entry)) (now (entries .entry)) (now (carried .entry)) (now (numbers .entry)) (now (pool .entry)) in
+        let after = queuesOf (now (charges .exit))
+        (now (ends .exit)) (now (entries .exit)) (now (carried .exit)) (now (numbers .exit)) (now (pool .exit)) in
+        ⌜ receivedOf r (now (out .exit)) (now (peers .exit)) (now (handles .exit)) after
+        ≡ receivedMessage (now (peers .entry)) (now (nodes .entry)) (now (handles .entry)) before (p .0) e (now (out .entry)) ⌝ }
 {
     let flag = queues::follows(ends, entries, carried, numbers, p, e.number);
     let to = grants::id_or_invalid(handles, p, rings::wide(e.slot) % NODES);
@@ -496,7 +550,8 @@ fn receive_message(
 // The oldest notice is taken out.
 fn receive_notice(handles: &[u64], ends: &mut [u16], p: Peer, e: Entry, out: &mut [u8]) -> Outcome
     requires { ⌜ (length (now handles) ≡ handlesSize) × (length (now ends) ≡ endsSize) × (p .0 < peerCount) ⌝ }
-    ensures { λ r. ⌜ noticeTakenOf r (now (out .exit)) (now (ends .exit)) ≡ noticeTaken (now (handles .entry)) (now (ends .entry)) (p .0) e (now (out .entry)) ⌝ }
+    ensures { λ r. ⌜ noticeTakenOf r (now (out .exit)) (now (ends .exit))
+        ≡ noticeTaken (now (handles .entry)) (now (ends .entry)) (p .0) e (now (out .entry)) ⌝ }
 {
     let id = grants::id_or_invalid(handles, p, rings::wide(e.slot) % NODES);
     rings::pop(ends, p);
@@ -520,8 +575,16 @@ pub fn receive(
     p: Peer,
     out: &mut [u8],
 ) -> Outcome
-    requires { ⌜ (length (now peers) ≡ peersSize) × (length (now nodes) ≡ nodesSize) × (length (now handles) ≡ handlesSize) × (length (now charges) ≡ chargesSize) × QueueTables (now ends) (now entries) (now carried) (now numbers) × (length (now pool) ≡ poolSize) × (p .0 < peerCount) × (lengthOf (now ends) (p .0) ≤ ringSize) ⌝ }
-    ensures { λ r. ⌜ receivedOf r (now (out .exit)) (now (peers .exit)) (now (handles .exit)) (queuesOf (now (charges .exit)) (now (ends .exit)) (now (entries .exit)) (now (carried .exit)) (now (numbers .exit)) (now (pool .exit))) ≡ received (now (peers .entry)) (now (nodes .entry)) (now (handles .entry)) (queuesOf (now (charges .entry)) (now (ends .entry)) (now (entries .entry)) (now (carried .entry)) (now (numbers .entry)) (now (pool .entry))) (p .0) (now (out .entry)) ⌝ }
+    requires { ⌜ (length (now peers) ≡ peersSize) × (length (now nodes) ≡ nodesSize) × (length (now handles) ≡ handlesSize)
+        × (length (now charges) ≡ chargesSize) × QueueTables (now ends) (now entries) (now carried) (now numbers)
+        × (length (now pool) ≡ poolSize) × (p .0 < peerCount) × (lengthOf (now ends) (p .0) ≤ ringSize) ⌝ }
+    ensures { λ r.
+        let before = queuesOf (now (charges .entry))
+        (now (ends .entry)) (now (entries .entry)) (now (carried .entry)) (now (numbers .entry)) (now (pool .entry)) in
+        let after = queuesOf (now (charges .exit))
+        (now (ends .exit)) (now (entries .exit)) (now (carried .exit)) (now (numbers .exit)) (now (pool .exit)) in
+        ⌜ receivedOf r (now (out .exit)) (now (peers .exit)) (now (handles .exit)) after
+        ≡ received (now (peers .entry)) (now (nodes .entry)) (now (handles .entry)) before (p .0) (now (out .entry)) ⌝ }
 {
     tables::count_command(peers);
     let e = rings::first_entry(ends, entries, carried, numbers, p);
@@ -558,7 +621,8 @@ fn write_seed(
         let nb = bytesAt (now (seeds .entry)) (p .0) in
         let a = seedAnswer (user .0) nb nh in
         let bytes = pieceAt (now (seeds .entry)) (p .0) nb in
-        ⌜ (r ≡ outcomeOf a (take nh ids) bytes (now (out .entry))) × (now (out .exit) ≡ answerAfter a (take nh ids) bytes (now (out .entry))) ⌝ }
+        ⌜ (r ≡ outcomeOf a (take nh ids) bytes (now (out .entry)))
+        × (now (out .exit) ≡ answerAfter a (take nh ids) bytes (now (out .entry))) ⌝ }
 {
     let nb = seeds::nb_of(seeds, p);
     let h = Header {

@@ -42,8 +42,14 @@ fn alter(
     seeds: &mut [u8],
     order: Order,
 )
-    requires { ⌜ Shape (busOf (now ps) (now ns) (now hs) (now cs) (now ends) (now entries) (now carried) (now numbers) (now pool) (now seeds)) × Fair order ⌝ }
-    ensures { λ _. ⌜ busOf (now (ps .exit)) (now (ns .exit)) (now (hs .exit)) (now (cs .exit)) (now (ends .exit)) (now (entries .exit)) (now (carried .exit)) (now (numbers .exit)) (now (pool .exit)) (now (seeds .exit)) ≡ altered (busOf (now (ps .entry)) (now (ns .entry)) (now (hs .entry)) (now (cs .entry)) (now (ends .entry)) (now (entries .entry)) (now (carried .entry)) (now (numbers .entry)) (now (pool .entry)) (now (seeds .entry))) order ⌝ }
+    requires { ⌜ Shape (busOf (now ps) (now ns) (now hs) (now cs) (now ends) (now entries) (now carried) (now numbers) (now pool) (now seeds))
+        × Fair order ⌝ }
+    ensures { λ _.
+        let before = busOf (now (ps .entry)) (now (ns .entry)) (now (hs .entry)) (now (cs .entry))
+        (now (ends .entry)) (now (entries .entry)) (now (carried .entry)) (now (numbers .entry)) (now (pool .entry)) (now (seeds .entry)) in
+        let after = busOf (now (ps .exit)) (now (ns .exit)) (now (hs .exit)) (now (cs .exit))
+        (now (ends .exit)) (now (entries .exit)) (now (carried .exit)) (now (numbers .exit)) (now (pool .exit)) (now (seeds .exit)) in
+        ⌜ after ≡ altered before order ⌝ }
 {
     match order {
         Order::Open(p, u) => effects::open_peer(ps, p, u),
@@ -77,8 +83,14 @@ fn change(
     f: &[u8],
     r: Ruling,
 ) -> Answer
-    requires { ⌜ Shape (busOf (now ps) (now ns) (now hs) (now cs) (now ends) (now entries) (now carried) (now numbers) (now pool) (now seeds)) × Fair (r .order) ⌝ }
-    ensures { λ a. ⌜ changedOf a (busOf (now (ps .exit)) (now (ns .exit)) (now (hs .exit)) (now (cs .exit)) (now (ends .exit)) (now (entries .exit)) (now (carried .exit)) (now (numbers .exit)) (now (pool .exit)) (now (seeds .exit))) ≡ changed (busOf (now (ps .entry)) (now (ns .entry)) (now (hs .entry)) (now (cs .entry)) (now (ends .entry)) (now (entries .entry)) (now (carried .entry)) (now (numbers .entry)) (now (pool .entry)) (now (seeds .entry))) (now (f .entry)) (r .order) (r .places) ⌝ }
+    requires { ⌜ Shape (busOf (now ps) (now ns) (now hs) (now cs) (now ends) (now entries) (now carried) (now numbers) (now pool) (now seeds))
+        × Fair (r .order) ⌝ }
+    ensures { λ a.
+        let before = busOf (now (ps .entry)) (now (ns .entry)) (now (hs .entry)) (now (cs .entry))
+        (now (ends .entry)) (now (entries .entry)) (now (carried .entry)) (now (numbers .entry)) (now (pool .entry)) (now (seeds .entry)) in
+        let after = busOf (now (ps .exit)) (now (ns .exit)) (now (hs .exit)) (now (cs .exit))
+        (now (ends .exit)) (now (entries .exit)) (now (carried .exit)) (now (numbers .exit)) (now (pool .exit)) (now (seeds .exit)) in
+        ⌜ changedOf a after ≡ changed before (now (f .entry)) (r .order) (r .places) ⌝ }
 {
     let order = r.order;
     match order {
@@ -129,8 +141,14 @@ pub fn carry_out(
     r: Ruling,
     out: &mut [u8],
 ) -> Outcome
-    requires { ⌜ Shape (busOf (now ps) (now ns) (now hs) (now cs) (now ends) (now entries) (now carried) (now numbers) (now pool) (now seeds)) × Short (now ends) × Fair (r .order) ⌝ }
-    ensures { λ o. ⌜ doneOf o (busOf (now (ps .exit)) (now (ns .exit)) (now (hs .exit)) (now (cs .exit)) (now (ends .exit)) (now (entries .exit)) (now (carried .exit)) (now (numbers .exit)) (now (pool .exit)) (now (seeds .exit))) (now (out .exit)) ≡ carriedOut (busOf (now (ps .entry)) (now (ns .entry)) (now (hs .entry)) (now (cs .entry)) (now (ends .entry)) (now (entries .entry)) (now (carried .entry)) (now (numbers .entry)) (now (pool .entry)) (now (seeds .entry))) (now (f .entry)) (now (out .entry)) r ⌝ }
+    requires { ⌜ Shape (busOf (now ps) (now ns) (now hs) (now cs) (now ends) (now entries) (now carried) (now numbers) (now pool) (now seeds))
+        × Short (now ends) × Fair (r .order) ⌝ }
+    ensures { λ o.
+        let before = busOf (now (ps .entry)) (now (ns .entry)) (now (hs .entry)) (now (cs .entry))
+        (now (ends .entry)) (now (entries .entry)) (now (carried .entry)) (now (numbers .entry)) (now (pool .entry)) (now (seeds .entry)) in
+        let after = busOf (now (ps .exit)) (now (ns .exit)) (now (hs .exit)) (now (cs .exit))
+        (now (ends .exit)) (now (entries .exit)) (now (carried .exit)) (now (numbers .exit)) (now (pool .exit)) (now (seeds .exit)) in
+        ⌜ doneOf o after (now (out .exit)) ≡ carriedOut before (now (f .entry)) (now (out .entry)) r ⌝ }
 {
     let order = r.order;
     match order {

@@ -30,7 +30,13 @@ pub extern "C" fn eikelzwier_command_with_journal(
     journal: &mut [u8],
     used: usize,
 ) -> BusReport
-    ensures { λ k. ⌜ returnedWith (record { number = k .number; len = k .len; used = k .used }) (busOf (now (peers .exit)) (now (nodes .exit)) (now (handles .exit)) (now (charges .exit)) (now (ends .exit)) (now (entries .exit)) (now (carried .exit)) (now (numbers .exit)) (now (pool .exit)) (now (seeds .exit))) (now (out .exit)) (now (journal .exit)) ≡ commandWith (busOf (now (peers .entry)) (now (nodes .entry)) (now (handles .entry)) (now (charges .entry)) (now (ends .entry)) (now (entries .entry)) (now (carried .entry)) (now (numbers .entry)) (now (pool .entry)) (now (seeds .entry))) (now (frame .entry)) (now (out .entry)) (now (journal .entry)) used ⌝ }
+    ensures { λ k.
+        let before = busOf (now (peers .entry)) (now (nodes .entry)) (now (handles .entry)) (now (charges .entry))
+        (now (ends .entry)) (now (entries .entry)) (now (carried .entry)) (now (numbers .entry)) (now (pool .entry)) (now (seeds .entry)) in
+        let after = busOf (now (peers .exit)) (now (nodes .exit)) (now (handles .exit)) (now (charges .exit))
+        (now (ends .exit)) (now (entries .exit)) (now (carried .exit)) (now (numbers .exit)) (now (pool .exit)) (now (seeds .exit)) in
+        ⌜ returnedWith (record { number = k .number; len = k .len; used = k .used }) after (now (out .exit)) (now (journal .exit))
+        ≡ commandWith before (now (frame .entry)) (now (out .entry)) (now (journal .entry)) used ⌝ }
 {
     let k = journal::command_with_journal(
         peers,

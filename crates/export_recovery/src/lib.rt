@@ -64,7 +64,12 @@ pub extern "C" fn eikelzwier_recover(
     seeds: &mut [u8],
     kept: &[u8],
 ) -> BusRecovery
-    ensures { λ t. ⌜ toldFrom (t .number) (t .line) (t .place) (t .used) (busOf (now (peers .exit)) (now (nodes .exit)) (now (handles .exit)) (now (charges .exit)) (now (ends .exit)) (now (entries .exit)) (now (carried .exit)) (now (numbers .exit)) (now (pool .exit)) (now (seeds .exit))) ≡ toldOf (recovered (busOf (now (peers .entry)) (now (nodes .entry)) (now (handles .entry)) (now (charges .entry)) (now (ends .entry)) (now (entries .entry)) (now (carried .entry)) (now (numbers .entry)) (now (pool .entry)) (now (seeds .entry))) (now (kept .entry))) ⌝ }
+    ensures { λ t.
+        let before = busOf (now (peers .entry)) (now (nodes .entry)) (now (handles .entry)) (now (charges .entry))
+        (now (ends .entry)) (now (entries .entry)) (now (carried .entry)) (now (numbers .entry)) (now (pool .entry)) (now (seeds .entry)) in
+        let after = busOf (now (peers .exit)) (now (nodes .exit)) (now (handles .exit)) (now (charges .exit))
+        (now (ends .exit)) (now (entries .exit)) (now (carried .exit)) (now (numbers .exit)) (now (pool .exit)) (now (seeds .exit)) in
+        ⌜ toldFrom (t .number) (t .line) (t .place) (t .used) after ≡ toldOf (recovered before (now (kept .entry))) ⌝ }
 {
     let r = recovery::recover(
         peers,

@@ -4,7 +4,8 @@ ghost use Prim.Native.Nat.{_<_, _≤_};
 ghost use lib.ListN.{length};
 ghost use Rattle.rings.specs.Rings.{ringsOf, QueueTables};
 ghost use Rattle.tables.specs.Handles.{handlesSize};
-ghost use Rattle.grants.specs.Grants.{numbered, numberedOf, shownTo, referencedOf, referenced, validAt, givenOf, givenTo, givesOf, givesTo, idOrInvalid};
+ghost use Rattle.grants.specs.Grants.{numbered, numberedOf, shownTo, referencedOf, referenced};
+ghost use Rattle.grants.specs.Grants.{validAt, givenOf, givenTo, givesOf, givesTo, idOrInvalid};
 ghost use Rattle.ids.specs.Sizes.{peers as peerCount, peersSize, nodesSize, mostIds};
 ghost use Rattle.model.specs.Numbers.{nodes as nodeCount};
 use ids::HandleId;
@@ -38,7 +39,8 @@ fn shown_id(peers: &mut [u64], handles: &[u64], p: Peer, s: usize) -> HandleId
 // One more reference of the peer to the slot's node: the ID.
 fn add_reference(peers: &mut [u64], handles: &mut [u64], p: Peer, s: usize) -> u64
     requires { ⌜ (length (now peers) ≡ peersSize) × (length (now handles) ≡ handlesSize) × (p .0 < peerCount) × (s < nodeCount) ⌝ }
-    ensures { λ r. ⌜ referencedOf r (now (peers .exit)) (now (handles .exit)) ≡ referenced (now (peers .entry)) (now (handles .entry)) (p .0) s ⌝ }
+    ensures { λ r. ⌜ referencedOf r (now (peers .exit)) (now (handles .exit))
+        ≡ referenced (now (peers .entry)) (now (handles .entry)) (p .0) s ⌝ }
 {
     let id = shown_id(peers, handles, p, s);
     tables::raise(handles, p, s, id);
@@ -77,8 +79,13 @@ pub fn give(
     n: u64,
     s: usize,
 ) -> u64
-    requires { ⌜ (length (now peers) ≡ peersSize) × (length (now nodes) ≡ nodesSize) × (length (now handles) ≡ handlesSize) × QueueTables (now ends) (now entries) (now carried) (now numbers) × (p .0 < peerCount) × (s < nodeCount) ⌝ }
-    ensures { λ r. ⌜ givenOf r (now (peers .exit)) (now (handles .exit)) (ringsOf (now (ends .exit)) (now (entries .exit)) (now (carried .exit)) (now (numbers .exit))) ≡ givenTo (now (nodes .entry)) (now (peers .entry)) (now (handles .entry)) (ringsOf (now (ends .entry)) (now (entries .entry)) (now (carried .entry)) (now (numbers .entry))) (p .0) n s ⌝ }
+    requires { ⌜ (length (now peers) ≡ peersSize) × (length (now nodes) ≡ nodesSize) × (length (now handles) ≡ handlesSize)
+        × QueueTables (now ends) (now entries) (now carried) (now numbers) × (p .0 < peerCount) × (s < nodeCount) ⌝ }
+    ensures { λ r.
+        let before = ringsOf (now (ends .entry)) (now (entries .entry)) (now (carried .entry)) (now (numbers .entry)) in
+        let after = ringsOf (now (ends .exit)) (now (entries .exit)) (now (carried .exit)) (now (numbers .exit)) in
+        ⌜ givenOf r (now (peers .exit)) (now (handles .exit)) after
+        ≡ givenTo (now (nodes .entry)) (now (peers .entry)) (now (handles .entry)) before (p .0) n s ⌝ }
 {
     if !valid(nodes, handles, n, p, s) {
         return INVALID;
@@ -110,8 +117,13 @@ pub fn give_all(
     slots: [u8; 8],
     nh: usize,
 ) -> [u64; 8]
-    requires { ⌜ (length (now peers) ≡ peersSize) × (length (now nodes) ≡ nodesSize) × (length (now handles) ≡ handlesSize) × QueueTables (now ends) (now entries) (now carried) (now numbers) × (p .0 < peerCount) × (nh ≤ mostIds) ⌝ }
-    ensures { λ r. ⌜ givesOf r (now (peers .exit)) (now (handles .exit)) (ringsOf (now (ends .exit)) (now (entries .exit)) (now (carried .exit)) (now (numbers .exit))) ≡ givesTo (now (nodes .entry)) (now (peers .entry)) (now (handles .entry)) (ringsOf (now (ends .entry)) (now (entries .entry)) (now (carried .entry)) (now (numbers .entry))) (p .0) n slots nh ⌝ }
+    requires { ⌜ (length (now peers) ≡ peersSize) × (length (now nodes) ≡ nodesSize) × (length (now handles) ≡ handlesSize)
+        × QueueTables (now ends) (now entries) (now carried) (now numbers) × (p .0 < peerCount) × (nh ≤ mostIds) ⌝ }
+    ensures { λ r.
+        let before = ringsOf (now (ends .entry)) (now (entries .entry)) (now (carried .entry)) (now (numbers .entry)) in
+        let after = ringsOf (now (ends .exit)) (now (entries .exit)) (now (carried .exit)) (now (numbers .exit)) in
+        ⌜ givesOf r (now (peers .exit)) (now (handles .exit)) after
+        ≡ givesTo (now (nodes .entry)) (now (peers .entry)) (now (handles .entry)) before (p .0) n slots nh ⌝ }
 {
     let mut ids = [0u64; 8];
     let mut k = 0;

@@ -46,7 +46,8 @@ fn is_change(order: Order) -> bool
 
 // The line of a command whose order changes the bus, appended to the journal; a refusal and a question are not kept.
 fn append_line(journal: &mut [u8], used: usize, f: &[u8], order: Order) -> Written
-    ensures { λ w. ⌜ (w ≡ appendWritten order (now (journal .entry)) used (now (f .entry))) × (now (journal .exit) ≡ journalAfter order (now (journal .entry)) used (now (f .entry))) ⌝ }
+    ensures { λ w. ⌜ (w ≡ appendWritten order (now (journal .entry)) used (now (f .entry)))
+        × (now (journal .exit) ≡ journalAfter order (now (journal .entry)) used (now (f .entry))) ⌝ }
 {
     if !is_change(order) {
         return Written::Next(used);
@@ -73,8 +74,17 @@ fn execute(
     journal: &mut [u8],
     used: usize,
 ) -> JournalOutcome
-    requires { ⌜ Shape (busOf (now ps) (now ns) (now hs) (now cs) (now ends) (now es) (now carried) (now numbers) (now pool) (now seeds)) × Short (now ends) × Legal (now f) c × (answerSize ≤ length (now out)) ⌝ }
-    ensures { λ k. ⌜ returnedWith k (busOf (now (ps .exit)) (now (ns .exit)) (now (hs .exit)) (now (cs .exit)) (now (ends .exit)) (now (es .exit)) (now (carried .exit)) (now (numbers .exit)) (now (pool .exit)) (now (seeds .exit))) (now (out .exit)) (now (journal .exit)) ≡ executedWith (busOf (now (ps .entry)) (now (ns .entry)) (now (hs .entry)) (now (cs .entry)) (now (ends .entry)) (now (es .entry)) (now (carried .entry)) (now (numbers .entry)) (now (pool .entry)) (now (seeds .entry))) (now (f .entry)) (now (out .entry)) (rulingOf (sight (now (ps .entry)) (now (ns .entry)) (now (hs .entry)) (now (cs .entry)) (ringsOf (now (ends .entry)) (now (es .entry)) (now (carried .entry)) (now (numbers .entry))) (now (seeds .entry))) (now (f .entry)) c) (now (journal .entry)) used ⌝ }
+    requires { ⌜ Shape (busOf (now ps) (now ns) (now hs) (now cs) (now ends) (now es) (now carried) (now numbers) (now pool) (now seeds))
+        × Short (now ends) × Legal (now f) c × (answerSize ≤ length (now out)) ⌝ }
+    ensures { λ k.
+        let before = busOf (now (ps .entry)) (now (ns .entry)) (now (hs .entry)) (now (cs .entry))
+        (now (ends .entry)) (now (es .entry)) (now (carried .entry)) (now (numbers .entry)) (now (pool .entry)) (now (seeds .entry)) in
+        let after = busOf (now (ps .exit)) (now (ns .exit)) (now (hs .exit)) (now (cs .exit))
+        (now (ends .exit)) (now (es .exit)) (now (carried .exit)) (now (numbers .exit)) (now (pool .exit)) (now (seeds .exit)) in
+        let rings = ringsOf (now (ends .entry)) (now (es .entry)) (now (carried .entry)) (now (numbers .entry)) in
+        let tables = sight (now (ps .entry)) (now (ns .entry)) (now (hs .entry)) (now (cs .entry)) rings (now (seeds .entry)) in
+        ⌜ returnedWith k after (now (out .exit)) (now (journal .exit))
+        ≡ executedWith before (now (f .entry)) (now (out .entry)) (rulingOf tables (now (f .entry)) c) (now (journal .entry)) used ⌝ }
 {
     let r = judges::judge(ps, ns, hs, cs, ends, es, carried, numbers, seeds, f, c);
     let order = r.order;
@@ -117,7 +127,13 @@ fn obey(
     used: usize,
 ) -> JournalOutcome
     requires { ⌜ answerSize ≤ length (now out) ⌝ }
-    ensures { λ k. ⌜ returnedWith k (busOf (now (ps .exit)) (now (ns .exit)) (now (hs .exit)) (now (cs .exit)) (now (ends .exit)) (now (es .exit)) (now (carried .exit)) (now (numbers .exit)) (now (pool .exit)) (now (seeds .exit))) (now (out .exit)) (now (journal .exit)) ≡ obeyedWith (busOf (now (ps .entry)) (now (ns .entry)) (now (hs .entry)) (now (cs .entry)) (now (ends .entry)) (now (es .entry)) (now (carried .entry)) (now (numbers .entry)) (now (pool .entry)) (now (seeds .entry))) (now (f .entry)) (now (out .entry)) (now (journal .entry)) used ⌝ }
+    ensures { λ k.
+        let before = busOf (now (ps .entry)) (now (ns .entry)) (now (hs .entry)) (now (cs .entry))
+        (now (ends .entry)) (now (es .entry)) (now (carried .entry)) (now (numbers .entry)) (now (pool .entry)) (now (seeds .entry)) in
+        let after = busOf (now (ps .exit)) (now (ns .exit)) (now (hs .exit)) (now (cs .exit))
+        (now (ends .exit)) (now (es .exit)) (now (carried .exit)) (now (numbers .exit)) (now (pool .exit)) (now (seeds .exit)) in
+        ⌜ returnedWith k after (now (out .exit)) (now (journal .exit))
+        ≡ obeyedWith before (now (f .entry)) (now (out .entry)) (now (journal .entry)) used ⌝ }
 {
     if journal.len() < used {
         return with_used(answers::write_refusal(out, EIO), used);
@@ -166,7 +182,13 @@ pub fn command_with_journal(
     journal: &mut [u8],
     used: usize,
 ) -> JournalOutcome
-    ensures { λ k. ⌜ returnedWith k (busOf (now (ps .exit)) (now (ns .exit)) (now (hs .exit)) (now (cs .exit)) (now (ends .exit)) (now (es .exit)) (now (carried .exit)) (now (numbers .exit)) (now (pool .exit)) (now (seeds .exit))) (now (out .exit)) (now (journal .exit)) ≡ commandWith (busOf (now (ps .entry)) (now (ns .entry)) (now (hs .entry)) (now (cs .entry)) (now (ends .entry)) (now (es .entry)) (now (carried .entry)) (now (numbers .entry)) (now (pool .entry)) (now (seeds .entry))) (now (f .entry)) (now (out .entry)) (now (journal .entry)) used ⌝ }
+    ensures { λ k.
+        let before = busOf (now (ps .entry)) (now (ns .entry)) (now (hs .entry)) (now (cs .entry))
+        (now (ends .entry)) (now (es .entry)) (now (carried .entry)) (now (numbers .entry)) (now (pool .entry)) (now (seeds .entry)) in
+        let after = busOf (now (ps .exit)) (now (ns .exit)) (now (hs .exit)) (now (cs .exit))
+        (now (ends .exit)) (now (es .exit)) (now (carried .exit)) (now (numbers .exit)) (now (pool .exit)) (now (seeds .exit)) in
+        ⌜ returnedWith k after (now (out .exit)) (now (journal .exit))
+        ≡ commandWith before (now (f .entry)) (now (out .entry)) (now (journal .entry)) used ⌝ }
 {
     if out.len() < ANSWER_SIZE {
         return JournalOutcome {

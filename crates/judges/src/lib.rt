@@ -9,10 +9,12 @@ ghost use Rattle.frames.specs.Legal.{Legal, Sized as Sent};
 ghost use Rattle.rings.specs.Rings.{ringsOf, QueueTables};
 ghost use Rattle.model.specs.Numbers.{slots};
 ghost use Rattle.model.specs.Requests.{destinations, attached};
-ghost use Rattle.model.specs.Refusals.{placesAt, pinned as isPinned, refusesOpen, refusesDisconnect, createBy, destroyBy, releaseBy, transferBy, sendBy, refusesReceive, refusesQuota, holdersBy, refusesSeed};
+ghost use Rattle.model.specs.Refusals.{placesAt, pinned as isPinned, refusesOpen, refusesDisconnect, createBy, destroyBy};
+ghost use Rattle.model.specs.Refusals.{releaseBy, transferBy, sendBy, refusesReceive, refusesQuota, holdersBy, refusesSeed};
 ghost use Rattle.tables.specs.Handles.{handlesSize, findAt};
 ghost use Rattle.queues.specs.Queues.{Short};
-ghost use Rattle.judges.specs.Orders.{placesOf, unless, unlessAt, plainly, rulingOf, seen, seenWith, sight, countsAt, freeAt, noRings, startsAt, placeFound, idsFrom, slotsAt, livingAt, allowedAt, affordableAt, tooLarge};
+ghost use Rattle.judges.specs.Orders.{placesOf, unless, unlessAt, plainly, rulingOf, seen, seenWith, sight, countsAt, freeAt};
+ghost use Rattle.judges.specs.Orders.{noRings, startsAt, placeFound, idsFrom, slotsAt, livingAt, allowedAt, affordableAt, tooLarge};
 ghost use Rattle.judges.specs.declared.Order.the-variants as order;
 ghost use Rattle.ids.specs.Sizes.{peers as peerCount, peersSize, nodesSize, mostIds, mostBytes, seedsSize};
 ghost use Rattle.model.specs.Numbers.{nodes as nodeCount};
@@ -131,8 +133,12 @@ fn counts(
     seeds: &[u8],
     s: usize,
 ) -> bool
-    requires { ⌜ (length (now nodes) ≡ nodesSize) × (length (now handles) ≡ handlesSize) × (length (now charges) ≡ chargesSize) × QueueTables (now ends) (now entries) (now carried) (now numbers) × Short (now ends) × (length (now seeds) ≡ seedsSize) × (s < nodeCount) ⌝ }
-    ensures { λ r. ⌜ r ≡ countsAt (now (nodes .entry)) (now (handles .entry)) (now (charges .entry)) (ringsOf (now (ends .entry)) (now (entries .entry)) (now (carried .entry)) (now (numbers .entry))) (now (seeds .entry)) s ⌝ }
+    requires { ⌜ (length (now nodes) ≡ nodesSize) × (length (now handles) ≡ handlesSize) × (length (now charges) ≡ chargesSize)
+        × QueueTables (now ends) (now entries) (now carried) (now numbers) × Short (now ends) × (length (now seeds) ≡ seedsSize)
+        × (s < nodeCount) ⌝ }
+    ensures { λ r.
+        let rings = ringsOf (now (ends .entry)) (now (entries .entry)) (now (carried .entry)) (now (numbers .entry)) in
+        ⌜ r ≡ countsAt (now (nodes .entry)) (now (handles .entry)) (now (charges .entry)) rings (now (seeds .entry)) s ⌝ }
 {
     if tables::is_live(nodes, s) {
         return true;
@@ -158,8 +164,13 @@ fn free_slot(
     seeds: &[u8],
     p: Peer,
 ) -> Found
-    requires { ⌜ (length (now nodes) ≡ nodesSize) × (length (now handles) ≡ handlesSize) × (length (now charges) ≡ chargesSize) × QueueTables (now ends) (now entries) (now carried) (now numbers) × Short (now ends) × (length (now seeds) ≡ seedsSize) × (p .0 < peerCount) ⌝ }
-    ensures { λ r. ⌜ r ≡ placeFound (p .0) (freeAt (now (nodes .entry)) (now (handles .entry)) (now (charges .entry)) (ringsOf (now (ends .entry)) (now (entries .entry)) (now (carried .entry)) (now (numbers .entry))) (now (seeds .entry)) (p .0)) ⌝ }
+    requires { ⌜ (length (now nodes) ≡ nodesSize) × (length (now handles) ≡ handlesSize) × (length (now charges) ≡ chargesSize)
+        × QueueTables (now ends) (now entries) (now carried) (now numbers) × Short (now ends) × (length (now seeds) ≡ seedsSize)
+        × (p .0 < peerCount) ⌝ }
+    ensures { λ r.
+        let rings = ringsOf (now (ends .entry)) (now (entries .entry)) (now (carried .entry)) (now (numbers .entry)) in
+        let free = freeAt (now (nodes .entry)) (now (handles .entry)) (now (charges .entry)) rings (now (seeds .entry)) (p .0) in
+        ⌜ r ≡ placeFound (p .0) free ⌝ }
 {
     let mut k = 0;
     while k < SLOTS {
@@ -195,8 +206,15 @@ fn judge_create(
     p: Peer,
     i: HandleId,
 ) -> Order
-    requires { ⌜ (length (now peers) ≡ peersSize) × (length (now nodes) ≡ nodesSize) × (length (now handles) ≡ handlesSize) × (length (now charges) ≡ chargesSize) × QueueTables (now ends) (now entries) (now carried) (now numbers) × Short (now ends) × (length (now seeds) ≡ seedsSize) × (p .0 < peerCount) ⌝ }
-    ensures { λ r. ⌜ r ≡ unless (createBy (findAt (now (handles .entry)) (p .0)) (freeAt (now (nodes .entry)) (now (handles .entry)) (now (charges .entry)) (ringsOf (now (ends .entry)) (now (entries .entry)) (now (carried .entry)) (now (numbers .entry))) (now (seeds .entry)) (p .0)) (seen (now (peers .entry)) [] [] [] noRings) (p .0) (i .0)) (order.Create p i (p .0 * slots + freeAt (now (nodes .entry)) (now (handles .entry)) (now (charges .entry)) (ringsOf (now (ends .entry)) (now (entries .entry)) (now (carried .entry)) (now (numbers .entry))) (now (seeds .entry)) (p .0))) ⌝ }
+    requires { ⌜ (length (now peers) ≡ peersSize) × (length (now nodes) ≡ nodesSize) × (length (now handles) ≡ handlesSize)
+        × (length (now charges) ≡ chargesSize) × QueueTables (now ends) (now entries) (now carried) (now numbers)
+        × Short (now ends) × (length (now seeds) ≡ seedsSize) × (p .0 < peerCount) ⌝ }
+    ensures { λ r.
+        let rings = ringsOf (now (ends .entry)) (now (entries .entry)) (now (carried .entry)) (now (numbers .entry)) in
+        let tables = seen (now (peers .entry)) [] [] [] noRings in
+        let find = findAt (now (handles .entry)) (p .0) in
+        let free = freeAt (now (nodes .entry)) (now (handles .entry)) (now (charges .entry)) rings (now (seeds .entry)) (p .0) in
+        ⌜ r ≡ unless (createBy find free tables (p .0) (i .0)) (order.Create p i (p .0 * slots + free)) ⌝ }
 {
     let n = starts(peers, p);
     if n != 0 {
@@ -222,8 +240,12 @@ fn judge_create(
 }
 
 fn judge_destroy(peers: &[u64], nodes: &[u64], handles: &[u64], p: Peer, i: HandleId) -> Order
-    requires { ⌜ (length (now peers) ≡ peersSize) × (length (now nodes) ≡ nodesSize) × (length (now handles) ≡ handlesSize) × (p .0 < peerCount) ⌝ }
-    ensures { λ r. ⌜ r ≡ unless (destroyBy (findAt (now (handles .entry)) (p .0)) (seen (now (peers .entry)) (now (nodes .entry)) (now (handles .entry)) [] noRings) (p .0) (i .0)) (order.Destroy p (findAt (now (handles .entry)) (p .0) (i .0))) ⌝ }
+    requires { ⌜ (length (now peers) ≡ peersSize) × (length (now nodes) ≡ nodesSize) × (length (now handles) ≡ handlesSize)
+        × (p .0 < peerCount) ⌝ }
+    ensures { λ r.
+        let tables = seen (now (peers .entry)) (now (nodes .entry)) (now (handles .entry)) [] noRings in
+        let find = findAt (now (handles .entry)) (p .0) in
+        ⌜ r ≡ unless (destroyBy find tables (p .0) (i .0)) (order.Destroy p (find (i .0))) ⌝ }
 {
     let n = starts(peers, p);
     if n != 0 {
@@ -256,8 +278,12 @@ fn pinned(nodes: &[u64], handles: &[u64], p: Peer, s: usize) -> bool
 }
 
 fn judge_release(peers: &[u64], nodes: &[u64], handles: &[u64], p: Peer, i: HandleId) -> Order
-    requires { ⌜ (length (now peers) ≡ peersSize) × (length (now nodes) ≡ nodesSize) × (length (now handles) ≡ handlesSize) × (p .0 < peerCount) ⌝ }
-    ensures { λ r. ⌜ r ≡ unless (releaseBy (findAt (now (handles .entry)) (p .0)) (seen (now (peers .entry)) (now (nodes .entry)) (now (handles .entry)) [] noRings) (p .0) (i .0)) (order.Release p (findAt (now (handles .entry)) (p .0) (i .0))) ⌝ }
+    requires { ⌜ (length (now peers) ≡ peersSize) × (length (now nodes) ≡ nodesSize) × (length (now handles) ≡ handlesSize)
+        × (p .0 < peerCount) ⌝ }
+    ensures { λ r.
+        let tables = seen (now (peers .entry)) (now (nodes .entry)) (now (handles .entry)) [] noRings in
+        let find = findAt (now (handles .entry)) (p .0) in
+        ⌜ r ≡ unless (releaseBy find tables (p .0) (i .0)) (order.Release p (find (i .0))) ⌝ }
 {
     let n = starts(peers, p);
     if n != 0 {
@@ -280,8 +306,12 @@ fn judge_transfer(
     i: HandleId,
     q: Peer,
 ) -> Order
-    requires { ⌜ (length (now peers) ≡ peersSize) × (length (now nodes) ≡ nodesSize) × (length (now handles) ≡ handlesSize) × (p .0 < peerCount) × (q .0 < peerCount) ⌝ }
-    ensures { λ r. ⌜ r ≡ unless (transferBy (findAt (now (handles .entry)) (p .0)) (seen (now (peers .entry)) (now (nodes .entry)) (now (handles .entry)) [] noRings) (p .0) (i .0) (q .0)) (order.Transfer q (findAt (now (handles .entry)) (p .0) (i .0))) ⌝ }
+    requires { ⌜ (length (now peers) ≡ peersSize) × (length (now nodes) ≡ nodesSize) × (length (now handles) ≡ handlesSize)
+        × (p .0 < peerCount) × (q .0 < peerCount) ⌝ }
+    ensures { λ r.
+        let tables = seen (now (peers .entry)) (now (nodes .entry)) (now (handles .entry)) [] noRings in
+        let find = findAt (now (handles .entry)) (p .0) in
+        ⌜ r ≡ unless (transferBy find tables (p .0) (i .0) (q .0)) (order.Transfer q (find (i .0))) ⌝ }
 {
     let n = starts(peers, p);
     if n != 0 {
@@ -398,8 +428,14 @@ fn judge_send(
     p: Peer,
     z: Sizes,
 ) -> Ruling
-    requires { ⌜ (length (now peers) ≡ peersSize) × (length (now nodes) ≡ nodesSize) × (length (now handles) ≡ handlesSize) × (length (now charges) ≡ chargesSize) × (p .0 < peerCount) × Sent (now frame) z ⌝ }
-    ensures { λ r. ⌜ r ≡ unlessAt (sendBy (findAt (now (handles .entry)) (p .0)) (seen (now (peers .entry)) (now (nodes .entry)) (now (handles .entry)) (now (charges .entry)) noRings) (p .0) (destinations (now (frame .entry)) z) (attached (now (frame .entry)) z) (length (payloadOf (now (frame .entry))))) (order.Send p z) (placesOf (findAt (now (handles .entry)) (p .0)) (now (frame .entry)) z) ⌝ }
+    requires { ⌜ (length (now peers) ≡ peersSize) × (length (now nodes) ≡ nodesSize) × (length (now handles) ≡ handlesSize)
+        × (length (now charges) ≡ chargesSize) × (p .0 < peerCount) × Sent (now frame) z ⌝ }
+    ensures { λ r.
+        let tables = seen (now (peers .entry)) (now (nodes .entry)) (now (handles .entry)) (now (charges .entry)) noRings in
+        let find = findAt (now (handles .entry)) (p .0) in
+        let bytes = now (frame .entry) in
+        ⌜ r ≡ unlessAt (sendBy find tables (p .0) (destinations bytes z) (attached bytes z) (length (payloadOf bytes)))
+        (order.Send p z) (placesOf find bytes z) ⌝ }
 {
     let n = starts(peers, p);
     if n != 0 {
@@ -448,7 +484,9 @@ fn judge_receive(
     room: usize,
 ) -> Order
     requires { ⌜ (length (now peers) ≡ peersSize) × QueueTables (now ends) (now entries) (now carried) (now numbers) × (p .0 < peerCount) ⌝ }
-    ensures { λ r. ⌜ r ≡ unless (refusesReceive (seen (now (peers .entry)) [] [] [] (ringsOf (now (ends .entry)) (now (entries .entry)) (now (carried .entry)) (now (numbers .entry)))) (p .0) room) (order.Receive p) ⌝ }
+    ensures { λ r.
+        let rings = ringsOf (now (ends .entry)) (now (entries .entry)) (now (carried .entry)) (now (numbers .entry)) in
+        ⌜ r ≡ unless (refusesReceive (seen (now (peers .entry)) [] [] [] rings) (p .0) room) (order.Receive p) ⌝ }
 {
     let n = starts(peers, p);
     if n != 0 {
@@ -476,7 +514,10 @@ fn judge_quota(peers: &[u64], p: Peer, u: User) -> Order
 
 fn judge_holders(peers: &[u64], handles: &[u64], p: Peer, i: HandleId) -> Order
     requires { ⌜ (length (now peers) ≡ peersSize) × (length (now handles) ≡ handlesSize) × (p .0 < peerCount) ⌝ }
-    ensures { λ r. ⌜ r ≡ unless (holdersBy (findAt (now (handles .entry)) (p .0)) (seen (now (peers .entry)) [] (now (handles .entry)) [] noRings) (p .0) (i .0)) (order.Holders (findAt (now (handles .entry)) (p .0) (i .0))) ⌝ }
+    ensures { λ r.
+        let tables = seen (now (peers .entry)) [] (now (handles .entry)) [] noRings in
+        let find = findAt (now (handles .entry)) (p .0) in
+        ⌜ r ≡ unless (holdersBy find tables (p .0) (i .0)) (order.Holders (find (i .0))) ⌝ }
 {
     let n = tables::standing(peers, p);
     if n != 0 {
@@ -494,7 +535,9 @@ fn judge_holders(peers: &[u64], handles: &[u64], p: Peer, i: HandleId) -> Order
 // 0c: 11 where no seed is set, then the room test of a receive (02 No. 1).
 fn judge_seed(peers: &[u64], seeds: &[u8], p: Peer, room: usize) -> Order
     requires { ⌜ (length (now peers) ≡ peersSize) × (length (now seeds) ≡ seedsSize) × (p .0 < peerCount) ⌝ }
-    ensures { λ r. ⌜ r ≡ unless (refusesSeed (seenWith (now (peers .entry)) [] [] [] noRings (now (seeds .entry))) (p .0) room) (order.ShowSeed p) ⌝ }
+    ensures { λ r.
+        let tables = seenWith (now (peers .entry)) [] [] [] noRings (now (seeds .entry)) in
+        ⌜ r ≡ unless (refusesSeed tables (p .0) room) (order.ShowSeed p) ⌝ }
 {
     let n = starts(peers, p);
     if n != 0 {
@@ -523,8 +566,13 @@ pub fn judge(
     frame: &[u8],
     c: Command,
 ) -> Ruling
-    requires { ⌜ (length (now ps) ≡ peersSize) × (length (now ns) ≡ nodesSize) × (length (now hs) ≡ handlesSize) × (length (now cs) ≡ chargesSize) × QueueTables (now ends) (now entries) (now carried) (now numbers) × Short (now ends) × (length (now seeds) ≡ seedsSize) × Legal (now frame) c ⌝ }
-    ensures { λ r. ⌜ r ≡ rulingOf (sight (now (ps .entry)) (now (ns .entry)) (now (hs .entry)) (now (cs .entry)) (ringsOf (now (ends .entry)) (now (entries .entry)) (now (carried .entry)) (now (numbers .entry))) (now (seeds .entry))) (now (frame .entry)) c ⌝ }
+    requires { ⌜ (length (now ps) ≡ peersSize) × (length (now ns) ≡ nodesSize) × (length (now hs) ≡ handlesSize)
+        × (length (now cs) ≡ chargesSize) × QueueTables (now ends) (now entries) (now carried) (now numbers)
+        × Short (now ends) × (length (now seeds) ≡ seedsSize) × Legal (now frame) c ⌝ }
+    ensures { λ r.
+        let rings = ringsOf (now (ends .entry)) (now (entries .entry)) (now (carried .entry)) (now (numbers .entry)) in
+        let tables = sight (now (ps .entry)) (now (ns .entry)) (now (hs .entry)) (now (cs .entry)) rings (now (seeds .entry)) in
+        ⌜ r ≡ rulingOf tables (now (frame .entry)) c ⌝ }
 {
     match c {
         Command::Open(p, u) => plain(judge_open(ps, p, u)),

@@ -7,7 +7,9 @@ ghost use Rattle.laws.specs.Tests.{pick};
 ghost use Rattle.rings.specs.Rings.{ringSize, ringsOf, oneSlot, QueueTables, releasedBit};
 ghost use Rattle.tables.specs.Handles.{handlesSize};
 ghost use Rattle.tables.specs.Charges.{chargesSize};
-ghost use Rattle.notices.specs.Notices.{noticeOf, fallsAt, aboveAt, Fair, asks, setOf, lowerOf, leastAt, postedTo, tellsAt, addressees as addresseesBits, addresseesAt, addresseesOf, told, deadAll, Destroyed, destroyedOf, destroyedSet, toldOwners, expired, expiredShown, expiredPlace, expiredAll};
+ghost use Rattle.notices.specs.Notices.{noticeOf, fallsAt, aboveAt, Fair, asks, setOf, lowerOf, leastAt, postedTo, tellsAt};
+ghost use Rattle.notices.specs.Notices.{addressees as addresseesBits, addresseesAt, addresseesOf, told, deadAll, Destroyed};
+ghost use Rattle.notices.specs.Notices.{destroyedOf, destroyedSet, toldOwners, expired, expiredShown, expiredPlace, expiredAll};
 ghost use Rattle.ids.specs.Sizes.{peers as peerCount, nodesSize, slots, mostIds};
 ghost use Rattle.model.specs.Numbers.{nodes as nodeCount};
 use ids::INVALID;
@@ -158,7 +160,10 @@ fn post(
     e: Entry,
 )
     requires { ⌜ QueueTables (now ends) (now entries) (now carried) (now numbers) ⌝ }
-    ensures { λ _. ⌜ ringsOf (now (ends .exit)) (now (entries .exit)) (now (carried .exit)) (now (numbers .exit)) ≡ postedTo (ringsOf (now (ends .entry)) (now (entries .entry)) (now (carried .entry)) (now (numbers .entry))) e set peerCount ⌝ }
+    ensures { λ _.
+        let before = ringsOf (now (ends .entry)) (now (entries .entry)) (now (carried .entry)) (now (numbers .entry)) in
+        let after = ringsOf (now (ends .exit)) (now (entries .exit)) (now (carried .exit)) (now (numbers .exit)) in
+        ⌜ after ≡ postedTo before e set peerCount ⌝ }
 {
     let mut rest = set;
     let mut k = 0usize;
@@ -234,8 +239,11 @@ fn addressees(
     s: usize,
     n: u64,
 ) -> u8
-    requires { ⌜ (length (now handles) ≡ handlesSize) × (length (now charges) ≡ chargesSize) × QueueTables (now ends) (now entries) (now carried) (now numbers) × (s < nodeCount) ⌝ }
-    ensures { λ r. ⌜ r ≡ addresseesBits (now (handles .entry)) (now (charges .entry)) (ringsOf (now (ends .entry)) (now (entries .entry)) (now (carried .entry)) (now (numbers .entry))) s n ⌝ }
+    requires { ⌜ (length (now handles) ≡ handlesSize) × (length (now charges) ≡ chargesSize)
+        × QueueTables (now ends) (now entries) (now carried) (now numbers) × (s < nodeCount) ⌝ }
+    ensures { λ r.
+        let rings = ringsOf (now (ends .entry)) (now (entries .entry)) (now (carried .entry)) (now (numbers .entry)) in
+        ⌜ r ≡ addresseesBits (now (handles .entry)) (now (charges .entry)) rings s n ⌝ }
 {
     let mut o = 0;
     let mut bit = 1u64;
@@ -273,8 +281,11 @@ fn addressees_at(
     n: u64,
     k: usize,
 ) -> u8
-    requires { ⌜ (length (now handles) ≡ handlesSize) × (length (now charges) ≡ chargesSize) × QueueTables (now ends) (now entries) (now carried) (now numbers) × (p .0 < peerCount) × (k < slots) ⌝ }
-    ensures { λ r. ⌜ r ≡ addresseesAt (now (handles .entry)) (now (charges .entry)) (ringsOf (now (ends .entry)) (now (entries .entry)) (now (carried .entry)) (now (numbers .entry))) (p .0) set n k ⌝ }
+    requires { ⌜ (length (now handles) ≡ handlesSize) × (length (now charges) ≡ chargesSize)
+        × QueueTables (now ends) (now entries) (now carried) (now numbers) × (p .0 < peerCount) × (k < slots) ⌝ }
+    ensures { λ r.
+        let rings = ringsOf (now (ends .entry)) (now (entries .entry)) (now (carried .entry)) (now (numbers .entry)) in
+        ⌜ r ≡ addresseesAt (now (handles .entry)) (now (charges .entry)) rings (p .0) set n k ⌝ }
 {
     if !rings::bit(rings::wide(set), k) {
         return 0;
@@ -295,8 +306,11 @@ fn addressees_of(
     set: u16,
     n: u64,
 ) -> [u8; 16]
-    requires { ⌜ (length (now handles) ≡ handlesSize) × (length (now charges) ≡ chargesSize) × QueueTables (now ends) (now entries) (now carried) (now numbers) × (p .0 < peerCount) ⌝ }
-    ensures { λ r. ⌜ r ≡ addresseesOf (now (handles .entry)) (now (charges .entry)) (ringsOf (now (ends .entry)) (now (entries .entry)) (now (carried .entry)) (now (numbers .entry))) (p .0) set n ⌝ }
+    requires { ⌜ (length (now handles) ≡ handlesSize) × (length (now charges) ≡ chargesSize)
+        × QueueTables (now ends) (now entries) (now carried) (now numbers) × (p .0 < peerCount) ⌝ }
+    ensures { λ r.
+        let rings = ringsOf (now (ends .entry)) (now (entries .entry)) (now (carried .entry)) (now (numbers .entry)) in
+        ⌜ r ≡ addresseesOf (now (handles .entry)) (now (charges .entry)) rings (p .0) set n ⌝ }
 {
     let mut to = [0u8; 16];
     let mut k = 0;
@@ -332,8 +346,12 @@ pub fn tell(
     kind: u16,
     n: u64,
 )
-    requires { ⌜ (length (now nodes) ≡ nodesSize) × (length (now handles) ≡ handlesSize) × QueueTables (now ends) (now entries) (now carried) (now numbers) × (q .0 < peerCount) ⌝ }
-    ensures { λ _. ⌜ ringsOf (now (ends .exit)) (now (entries .exit)) (now (carried .exit)) (now (numbers .exit)) ≡ told (now (handles .entry)) to (q .0) kind n (ringsOf (now (ends .entry)) (now (entries .entry)) (now (carried .entry)) (now (numbers .entry))) set slots ⌝ }
+    requires { ⌜ (length (now nodes) ≡ nodesSize) × (length (now handles) ≡ handlesSize)
+        × QueueTables (now ends) (now entries) (now carried) (now numbers) × (q .0 < peerCount) ⌝ }
+    ensures { λ _.
+        let before = ringsOf (now (ends .entry)) (now (entries .entry)) (now (carried .entry)) (now (numbers .entry)) in
+        let after = ringsOf (now (ends .exit)) (now (entries .exit)) (now (carried .exit)) (now (numbers .exit)) in
+        ⌜ after ≡ told (now (handles .entry)) to (q .0) kind n before set slots ⌝ }
 {
     let mut rest = set;
     let mut k = 0;
@@ -377,8 +395,13 @@ pub fn destroy_set(
     set: u16,
     n: u64,
 )
-    requires { ⌜ (length (now nodes) ≡ nodesSize) × (length (now handles) ≡ handlesSize) × (length (now charges) ≡ chargesSize) × QueueTables (now ends) (now entries) (now carried) (now numbers) × (p .0 < peerCount) ⌝ }
-    ensures { λ _. ⌜ destroyedOf (now (nodes .exit)) (ringsOf (now (ends .exit)) (now (entries .exit)) (now (carried .exit)) (now (numbers .exit))) ≡ destroyedSet (now (nodes .entry)) (now (handles .entry)) (now (charges .entry)) (ringsOf (now (ends .entry)) (now (entries .entry)) (now (carried .entry)) (now (numbers .entry))) (p .0) set n ⌝ }
+    requires { ⌜ (length (now nodes) ≡ nodesSize) × (length (now handles) ≡ handlesSize) × (length (now charges) ≡ chargesSize)
+        × QueueTables (now ends) (now entries) (now carried) (now numbers) × (p .0 < peerCount) ⌝ }
+    ensures { λ _.
+        let before = ringsOf (now (ends .entry)) (now (entries .entry)) (now (carried .entry)) (now (numbers .entry)) in
+        let after = ringsOf (now (ends .exit)) (now (entries .exit)) (now (carried .exit)) (now (numbers .exit)) in
+        ⌜ destroyedOf (now (nodes .exit)) after
+        ≡ destroyedSet (now (nodes .entry)) (now (handles .entry)) (now (charges .entry)) before (p .0) set n ⌝ }
 {
     let to = addressees_of(handles, charges, ends, entries, carried, numbers, p, set, n);
     let m = Match {
@@ -416,8 +439,13 @@ pub fn destroy_one(
     s: usize,
     n: u64,
 )
-    requires { ⌜ (length (now nodes) ≡ nodesSize) × (length (now handles) ≡ handlesSize) × (length (now charges) ≡ chargesSize) × QueueTables (now ends) (now entries) (now carried) (now numbers) × (p .0 < peerCount) ⌝ }
-    ensures { λ _. ⌜ destroyedOf (now (nodes .exit)) (ringsOf (now (ends .exit)) (now (entries .exit)) (now (carried .exit)) (now (numbers .exit))) ≡ destroyedSet (now (nodes .entry)) (now (handles .entry)) (now (charges .entry)) (ringsOf (now (ends .entry)) (now (entries .entry)) (now (carried .entry)) (now (numbers .entry))) (p .0) (oneSlot releasedBit s .mask) n ⌝ }
+    requires { ⌜ (length (now nodes) ≡ nodesSize) × (length (now handles) ≡ handlesSize) × (length (now charges) ≡ chargesSize)
+        × QueueTables (now ends) (now entries) (now carried) (now numbers) × (p .0 < peerCount) ⌝ }
+    ensures { λ _.
+        let before = ringsOf (now (ends .entry)) (now (entries .entry)) (now (carried .entry)) (now (numbers .entry)) in
+        let after = ringsOf (now (ends .exit)) (now (entries .exit)) (now (carried .exit)) (now (numbers .exit)) in
+        ⌜ destroyedOf (now (nodes .exit)) after
+        ≡ destroyedSet (now (nodes .entry)) (now (handles .entry)) (now (charges .entry)) before (p .0) (oneSlot releasedBit s .mask) n ⌝ }
 {
     let own = p.0 * SLOTS + s % SLOTS;
     let to = addressees(handles, charges, ends, entries, carried, numbers, own, n);
@@ -439,8 +467,12 @@ pub fn tell_owners(
     p: Peer,
     n: u64,
 )
-    requires { ⌜ (length (now nodes) ≡ nodesSize) × (length (now handles) ≡ handlesSize) × QueueTables (now ends) (now entries) (now carried) (now numbers) × (p .0 < peerCount) ⌝ }
-    ensures { λ _. ⌜ ringsOf (now (ends .exit)) (now (entries .exit)) (now (carried .exit)) (now (numbers .exit)) ≡ toldOwners (now (nodes .entry)) (now (handles .entry)) (p .0) n (ringsOf (now (ends .entry)) (now (entries .entry)) (now (carried .entry)) (now (numbers .entry))) peerCount ⌝ }
+    requires { ⌜ (length (now nodes) ≡ nodesSize) × (length (now handles) ≡ handlesSize)
+        × QueueTables (now ends) (now entries) (now carried) (now numbers) × (p .0 < peerCount) ⌝ }
+    ensures { λ _.
+        let before = ringsOf (now (ends .entry)) (now (entries .entry)) (now (carried .entry)) (now (numbers .entry)) in
+        let after = ringsOf (now (ends .exit)) (now (entries .exit)) (now (carried .exit)) (now (numbers .exit)) in
+        ⌜ after ≡ toldOwners (now (nodes .entry)) (now (handles .entry)) (p .0) n before peerCount ⌝ }
 {
     let mut q = 0;
     while q < PEERS {

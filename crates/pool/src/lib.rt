@@ -74,7 +74,9 @@ pub fn remove(
     m: Match,
 ) -> usize
     requires { ⌜ QueueTables (now ends) (now entries) (now carried) (now numbers) × (p .0 < peers) × (lengthOf (now ends) (p .0) ≤ ringSize) ⌝ }
-    ensures { λ r. ⌜ kept r (now (pool .exit)) ≡ keptPieces (now (pool .entry)) (p .0) 0 0 m (queueOf (ringsOf (now (ends .entry)) (now (entries .entry)) (now (carried .entry)) (now (numbers .entry))) (p .0)) ⌝ }
+    ensures { λ r.
+        let rings = ringsOf (now (ends .entry)) (now (entries .entry)) (now (carried .entry)) (now (numbers .entry)) in
+        ⌜ kept r (now (pool .exit)) ≡ keptPieces (now (pool .entry)) (p .0) 0 0 m (queueOf rings (p .0)) ⌝ }
 {
     let head = rings::head_of(ends, p);
     let len = rings::len_of(ends, p);

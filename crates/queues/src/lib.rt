@@ -7,12 +7,15 @@ ghost use mathlib.Core.List.{List};
 ghost use Prim.Native.Nat.{ℕ, _*_, _<_, _≤_};
 ghost use lib.ListN.{length, take};
 ghost use Rattle.laws.specs.Rows.{rowIn};
-ghost use Rattle.rings.specs.Rings.{peers, ringSize, rowCount, carriedFields, endsSize, entriesSize, carriedSize, rowsOf, Sized, ringsOf, QueueTables, entryAt, lengthOf, queueOf, cleared};
+ghost use Rattle.rings.specs.Rings.{peers, ringSize, rowCount, carriedFields, endsSize, entriesSize, carriedSize};
+ghost use Rattle.rings.specs.Rings.{rowsOf, Sized, ringsOf, QueueTables, entryAt, lengthOf, queueOf, cleared};
 ghost use Rattle.pool.specs.Pool.{areaSize, keptPieces};
 ghost use Rattle.tables.specs.Charges.{chargesSize};
 ghost use Rattle.model.specs.Lists.{any};
 ghost use lib.Dec.{eqb};
-ghost use Rattle.queues.specs.Queues.{queuesOf, Short, usedOf, messageKind, isMessage, chargeIn, entered, enqueued, settledCharges, settledPool, lessened, lessenedAll, lessenedCharges, withdrawn, removedFrom, emptiedCharges, followsIn, namesIn, attachedOf, carriesIn, namedIn, bringsIn, carriedBefore};
+ghost use Rattle.queues.specs.Queues.{queuesOf, Short, usedOf, messageKind, isMessage, chargeIn, entered, enqueued};
+ghost use Rattle.queues.specs.Queues.{settledCharges, settledPool, lessened, lessenedAll, lessenedCharges, withdrawn, removedFrom};
+ghost use Rattle.queues.specs.Queues.{emptiedCharges, followsIn, namesIn, attachedOf, carriesIn, namedIn, bringsIn, carriedBefore};
 use ids::AREA;
 use ids::CARRIED_FIELDS;
 use ids::ENTRY_FIELDS;
@@ -76,7 +79,10 @@ pub fn enter(
     e: Entry,
 )
     requires { ⌜ QueueTables (now ends) (now entries) (now carried) (now numbers) × (p .0 < peers) ⌝ }
-    ensures { λ _. ⌜ ringsOf (now (ends .exit)) (now (entries .exit)) (now (carried .exit)) (now (numbers .exit)) ≡ entered (ringsOf (now (ends .entry)) (now (entries .entry)) (now (carried .entry)) (now (numbers .entry))) (p .0) e ⌝ }
+    ensures { λ _.
+        let before = ringsOf (now (ends .entry)) (now (entries .entry)) (now (carried .entry)) (now (numbers .entry)) in
+        let after = ringsOf (now (ends .exit)) (now (entries .exit)) (now (carried .exit)) (now (numbers .exit)) in
+        ⌜ after ≡ entered before (p .0) e ⌝ }
 {
     if rings::len_of(ends, p) < RING {
         rings::push(ends, entries, carried, numbers, p, e);
@@ -96,7 +102,12 @@ pub fn enqueue(
     payload: &[u8],
 )
     requires { ⌜ (length (now charges) ≡ chargesSize) × QueueTables (now ends) (now entries) (now carried) (now numbers) × (p .0 < peers) ⌝ }
-    ensures { λ _. ⌜ queuesOf (now (charges .exit)) (now (ends .exit)) (now (entries .exit)) (now (carried .exit)) (now (numbers .exit)) (now (pool .exit)) ≡ enqueued (queuesOf (now (charges .entry)) (now (ends .entry)) (now (entries .entry)) (now (carried .entry)) (now (numbers .entry)) (now (pool .entry))) (p .0) e (now (payload .entry)) ⌝ }
+    ensures { λ _.
+        let before = queuesOf (now (charges .entry))
+        (now (ends .entry)) (now (entries .entry)) (now (carried .entry)) (now (numbers .entry)) (now (pool .entry)) in
+        let after = queuesOf (now (charges .exit))
+        (now (ends .exit)) (now (entries .exit)) (now (carried .exit)) (now (numbers .exit)) (now (pool .exit)) in
+        ⌜ after ≡ enqueued before (p .0) e (now (payload .entry)) ⌝ }
 {
     let c = tables::load(charges, p);
     pool::append(pool, p, used(c), payload);
@@ -111,7 +122,8 @@ pub fn enqueue(
 // The oldest message's payload taken out of the pool, and its charge taken off.
 pub fn settle(charges: &mut [u16], pool: &mut [u8], p: Peer, e: Entry)
     requires { ⌜ (length (now charges) ≡ chargesSize) × (p .0 < peers) ⌝ }
-    ensures { λ _. ⌜ (now (charges .exit) ≡ settledCharges (now (charges .entry)) (p .0) e) × (now (pool .exit) ≡ settledPool (now (charges .entry)) (now (pool .entry)) (p .0) e) ⌝ }
+    ensures { λ _. ⌜ (now (charges .exit) ≡ settledCharges (now (charges .entry)) (p .0) e)
+        × (now (pool .exit) ≡ settledPool (now (charges .entry)) (now (pool .entry)) (p .0) e) ⌝ }
 {
     let c = tables::load(charges, p);
     let all = used(c);
@@ -148,7 +160,9 @@ fn lessen_all(
     m: Match,
 ) -> Charges
     requires { ⌜ QueueTables (now ends) (now entries) (now carried) (now numbers) × (p .0 < peers) × (lengthOf (now ends) (p .0) ≤ ringSize) ⌝ }
-    ensures { λ r. ⌜ r ≡ lessenedAll c m (queueOf (ringsOf (now (ends .entry)) (now (entries .entry)) (now (carried .entry)) (now (numbers .entry))) (p .0)) ⌝ }
+    ensures { λ r.
+        let rings = ringsOf (now (ends .entry)) (now (entries .entry)) (now (carried .entry)) (now (numbers .entry)) in
+        ⌜ r ≡ lessenedAll c m (queueOf rings (p .0)) ⌝ }
 {
     let head = rings::head_of(ends, p);
     let len = rings::len_of(ends, p);
@@ -173,7 +187,10 @@ pub fn withdraw(
     m: Match,
 )
     requires { ⌜ QueueTables (now ends) (now entries) (now carried) (now numbers) × (p .0 < peers) ⌝ }
-    ensures { λ _. ⌜ ringsOf (now (ends .exit)) (now (entries .exit)) (now (carried .exit)) (now (numbers .exit)) ≡ withdrawn (ringsOf (now (ends .entry)) (now (entries .entry)) (now (carried .entry)) (now (numbers .entry))) (p .0) m ⌝ }
+    ensures { λ _.
+        let before = ringsOf (now (ends .entry)) (now (entries .entry)) (now (carried .entry)) (now (numbers .entry)) in
+        let after = ringsOf (now (ends .exit)) (now (entries .exit)) (now (carried .exit)) (now (numbers .exit)) in
+        ⌜ after ≡ withdrawn before (p .0) m ⌝ }
 {
     if rings::len_of(ends, p) <= RING {
         rings::remove(ends, entries, carried, numbers, p, m);
@@ -192,8 +209,12 @@ fn remove_messages(
     p: Peer,
     m: Match,
 )
-    requires { ⌜ (length (now charges) ≡ chargesSize) × QueueTables (now ends) (now entries) (now carried) (now numbers) × (p .0 < peers) × (lengthOf (now ends) (p .0) ≤ ringSize) ⌝ }
-    ensures { λ _. ⌜ (now (charges .exit) ≡ lessenedCharges (now (charges .entry)) (p .0) m (queueOf (ringsOf (now (ends .entry)) (now (entries .entry)) (now (carried .entry)) (now (numbers .entry))) (p .0))) × (now (pool .exit) ≡ keptPieces (now (pool .entry)) (p .0) 0 0 m (queueOf (ringsOf (now (ends .entry)) (now (entries .entry)) (now (carried .entry)) (now (numbers .entry))) (p .0)) .table) ⌝ }
+    requires { ⌜ (length (now charges) ≡ chargesSize) × QueueTables (now ends) (now entries) (now carried) (now numbers)
+        × (p .0 < peers) × (lengthOf (now ends) (p .0) ≤ ringSize) ⌝ }
+    ensures { λ _.
+        let rings = ringsOf (now (ends .entry)) (now (entries .entry)) (now (carried .entry)) (now (numbers .entry)) in
+        ⌜ (now (charges .exit) ≡ lessenedCharges (now (charges .entry)) (p .0) m (queueOf rings (p .0)))
+        × (now (pool .exit) ≡ keptPieces (now (pool .entry)) (p .0) 0 0 m (queueOf rings (p .0)) .table) ⌝ }
 {
     if m.kinds % 2 == 0 {
         return;
@@ -226,7 +247,12 @@ pub fn remove(
     m: Match,
 )
     requires { ⌜ (length (now charges) ≡ chargesSize) × QueueTables (now ends) (now entries) (now carried) (now numbers) × (p .0 < peers) ⌝ }
-    ensures { λ _. ⌜ queuesOf (now (charges .exit)) (now (ends .exit)) (now (entries .exit)) (now (carried .exit)) (now (numbers .exit)) (now (pool .exit)) ≡ removedFrom (queuesOf (now (charges .entry)) (now (ends .entry)) (now (entries .entry)) (now (carried .entry)) (now (numbers .entry)) (now (pool .entry))) (p .0) m ⌝ }
+    ensures { λ _.
+        let before = queuesOf (now (charges .entry))
+        (now (ends .entry)) (now (entries .entry)) (now (carried .entry)) (now (numbers .entry)) (now (pool .entry)) in
+        let after = queuesOf (now (charges .exit))
+        (now (ends .exit)) (now (entries .exit)) (now (carried .exit)) (now (numbers .exit)) (now (pool .exit)) in
+        ⌜ after ≡ removedFrom before (p .0) m ⌝ }
 {
     if RING < rings::len_of(ends, p) {
         return;
@@ -238,7 +264,8 @@ pub fn remove(
 // All entries of a queue dropped, with their charges.
 pub fn empty(charges: &mut [u16], ends: &mut [u16], p: Peer)
     requires { ⌜ (length (now charges) ≡ chargesSize) × (length (now ends) ≡ endsSize) × (p .0 < peers) ⌝ }
-    ensures { λ _. ⌜ (now (charges .exit) ≡ emptiedCharges (now (charges .entry)) (p .0)) × (now (ends .exit) ≡ cleared (now (ends .entry)) (p .0)) ⌝ }
+    ensures { λ _. ⌜ (now (charges .exit) ≡ emptiedCharges (now (charges .entry)) (p .0))
+        × (now (ends .exit) ≡ cleared (now (ends .entry)) (p .0)) ⌝ }
 {
     tables::store(charges, p, Charges::fresh());
     rings::clear(ends, p);
@@ -255,7 +282,9 @@ pub fn follows(
     n: u64,
 ) -> bool
     requires { ⌜ QueueTables (now ends) (now entries) (now carried) (now numbers) × (p .0 < peers) × (lengthOf (now ends) (p .0) ≤ ringSize) ⌝ }
-    ensures { λ r. ⌜ r ≡ followsIn (ringsOf (now (ends .entry)) (now (entries .entry)) (now (carried .entry)) (now (numbers .entry))) (p .0) n ⌝ }
+    ensures { λ r.
+        let rings = ringsOf (now (ends .entry)) (now (entries .entry)) (now (carried .entry)) (now (numbers .entry)) in
+        ⌜ r ≡ followsIn rings (p .0) n ⌝ }
 {
     let head = rings::head_of(ends, p);
     let len = rings::len_of(ends, p);
@@ -316,7 +345,9 @@ fn named_at(
     s: usize,
 ) -> bool
     requires { ⌜ QueueTables (now ends) (now entries) (now carried) (now numbers) × (p .0 < peers) × (lengthOf (now ends) (p .0) ≤ ringSize) ⌝ }
-    ensures { λ r. ⌜ r ≡ any (namesIn s) (queueOf (ringsOf (now (ends .entry)) (now (entries .entry)) (now (carried .entry)) (now (numbers .entry))) (p .0)) ⌝ }
+    ensures { λ r.
+        let rings = ringsOf (now (ends .entry)) (now (entries .entry)) (now (carried .entry)) (now (numbers .entry)) in
+        ⌜ r ≡ any (namesIn s) (queueOf rings (p .0)) ⌝ }
 {
     let head = rings::head_of(ends, p);
     let len = rings::len_of(ends, p);
@@ -352,8 +383,11 @@ fn carries(
     p: Peer,
     s: usize,
 ) -> bool
-    requires { ⌜ (length (now charges) ≡ chargesSize) × QueueTables (now ends) (now entries) (now carried) (now numbers) × (p .0 < peers) × (lengthOf (now ends) (p .0) ≤ ringSize) ⌝ }
-    ensures { λ r. ⌜ r ≡ carriesIn (now (charges .entry)) (ringsOf (now (ends .entry)) (now (entries .entry)) (now (carried .entry)) (now (numbers .entry))) s (p .0) ⌝ }
+    requires { ⌜ (length (now charges) ≡ chargesSize) × QueueTables (now ends) (now entries) (now carried) (now numbers)
+        × (p .0 < peers) × (lengthOf (now ends) (p .0) ≤ ringSize) ⌝ }
+    ensures { λ r.
+        let rings = ringsOf (now (ends .entry)) (now (entries .entry)) (now (carried .entry)) (now (numbers .entry)) in
+        ⌜ r ≡ carriesIn (now (charges .entry)) rings s (p .0) ⌝ }
 {
     if rings::len_of(ends, p) == 0 {
         return false;
@@ -374,7 +408,9 @@ pub fn named(
     s: usize,
 ) -> bool
     requires { ⌜ (length (now charges) ≡ chargesSize) × QueueTables (now ends) (now entries) (now carried) (now numbers) × Short (now ends) ⌝ }
-    ensures { λ r. ⌜ r ≡ namedIn (now (charges .entry)) (ringsOf (now (ends .entry)) (now (entries .entry)) (now (carried .entry)) (now (numbers .entry))) s ⌝ }
+    ensures { λ r.
+        let rings = ringsOf (now (ends .entry)) (now (entries .entry)) (now (carried .entry)) (now (numbers .entry)) in
+        ⌜ r ≡ namedIn (now (charges .entry)) rings s ⌝ }
 {
     let mut q = 0;
     while q < PEERS {
@@ -420,7 +456,9 @@ fn carried_at(
     n: u64,
 ) -> bool
     requires { ⌜ QueueTables (now ends) (now entries) (now carried) (now numbers) × (p .0 < peers) × (lengthOf (now ends) (p .0) ≤ ringSize) ⌝ }
-    ensures { λ r. ⌜ r ≡ any (bringsIn n s) (queueOf (ringsOf (now (ends .entry)) (now (entries .entry)) (now (carried .entry)) (now (numbers .entry))) (p .0)) ⌝ }
+    ensures { λ r.
+        let rings = ringsOf (now (ends .entry)) (now (entries .entry)) (now (carried .entry)) (now (numbers .entry)) in
+        ⌜ r ≡ any (bringsIn n s) (queueOf rings (p .0)) ⌝ }
 {
     let head = rings::head_of(ends, p);
     let len = rings::len_of(ends, p);
@@ -447,7 +485,9 @@ pub fn carried_before(
     n: u64,
 ) -> bool
     requires { ⌜ (length (now charges) ≡ chargesSize) × QueueTables (now ends) (now entries) (now carried) (now numbers) × (p .0 < peers) ⌝ }
-    ensures { λ r. ⌜ r ≡ carriedBefore (now (charges .entry)) (ringsOf (now (ends .entry)) (now (entries .entry)) (now (carried .entry)) (now (numbers .entry))) s n (p .0) ⌝ }
+    ensures { λ r.
+        let rings = ringsOf (now (ends .entry)) (now (entries .entry)) (now (carried .entry)) (now (numbers .entry)) in
+        ⌜ r ≡ carriedBefore (now (charges .entry)) rings s n (p .0) ⌝ }
 {
     let len = rings::len_of(ends, p);
     if len == 0 {

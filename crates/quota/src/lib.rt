@@ -3,7 +3,8 @@
 ghost use mathlib.Core.Path.{_≡_};
 ghost use Prim.Native.Nat.{_+_, _-_, _<_, min};
 ghost use Rattle.quota.specs.Rule.{half, allowed as allowedBy, left as leftOf};
-ghost use Rattle.quota.specs.Charges.{nothing, plus as plusOf, less as lessOf, freshCharges, own as ownOf, charged, discharged, othersAll, allowsAll, balanceOf};
+ghost use Rattle.quota.specs.Charges.{nothing, plus as plusOf, less as lessOf, freshCharges};
+ghost use Rattle.quota.specs.Charges.{own as ownOf, charged, discharged, othersAll, allowsAll, balanceOf};
 use ids::User;
 
 // What is queued of each resource, or what a message adds: 1, its payload bytes and its attached handles.

@@ -46,7 +46,12 @@ fn replay_frame(
     out: &mut [u8],
 ) -> bool
     requires { ⌜ length (now out) ≡ answerSize ⌝ }
-    ensures { λ r. ⌜ triedOf r (busOf (now (ps .exit)) (now (ns .exit)) (now (hs .exit)) (now (cs .exit)) (now (ends .exit)) (now (es .exit)) (now (carried .exit)) (now (numbers .exit)) (now (pool .exit)) (now (seeds .exit))) ≡ tried (busOf (now (ps .entry)) (now (ns .entry)) (now (hs .entry)) (now (cs .entry)) (now (ends .entry)) (now (es .entry)) (now (carried .entry)) (now (numbers .entry)) (now (pool .entry)) (now (seeds .entry))) (now (f .entry)) ⌝ }
+    ensures { λ r.
+        let before = busOf (now (ps .entry)) (now (ns .entry)) (now (hs .entry)) (now (cs .entry))
+        (now (ends .entry)) (now (es .entry)) (now (carried .entry)) (now (numbers .entry)) (now (pool .entry)) (now (seeds .entry)) in
+        let after = busOf (now (ps .exit)) (now (ns .exit)) (now (hs .exit)) (now (cs .exit))
+        (now (ends .exit)) (now (es .exit)) (now (carried .exit)) (now (numbers .exit)) (now (pool .exit)) (now (seeds .exit)) in
+        ⌜ triedOf r after ≡ tried before (now (f .entry)) ⌝ }
 {
     if is_question(f) {
         return false;
@@ -94,7 +99,12 @@ fn replay_read(
     out: &mut [u8],
 ) -> Step
     requires { ⌜ (length (now frame) ≡ longestFrame) × (length (now out) ≡ answerSize) ⌝ }
-    ensures { λ r. ⌜ steppedOf r (busOf (now (ps .exit)) (now (ns .exit)) (now (hs .exit)) (now (cs .exit)) (now (ends .exit)) (now (es .exit)) (now (carried .exit)) (now (numbers .exit)) (now (pool .exit)) (now (seeds .exit))) ≡ readStep (busOf (now (ps .entry)) (now (ns .entry)) (now (hs .entry)) (now (cs .entry)) (now (ends .entry)) (now (es .entry)) (now (carried .entry)) (now (numbers .entry)) (now (pool .entry)) (now (seeds .entry))) (now (frame .entry)) read ⌝ }
+    ensures { λ r.
+        let before = busOf (now (ps .entry)) (now (ns .entry)) (now (hs .entry)) (now (cs .entry))
+        (now (ends .entry)) (now (es .entry)) (now (carried .entry)) (now (numbers .entry)) (now (pool .entry)) (now (seeds .entry)) in
+        let after = busOf (now (ps .exit)) (now (ns .exit)) (now (hs .exit)) (now (cs .exit))
+        (now (ends .exit)) (now (es .exit)) (now (carried .exit)) (now (numbers .exit)) (now (pool .exit)) (now (seeds .exit)) in
+        ⌜ steppedOf r after ≡ readStep before (now (frame .entry)) read ⌝ }
 {
     match read {
         LineRead::Frame(m, next) => {
@@ -140,7 +150,12 @@ fn replay_line(
     out: &mut [u8],
 ) -> Step
     requires { ⌜ length (now out) ≡ answerSize ⌝ }
-    ensures { λ r. ⌜ steppedOf r (busOf (now (ps .exit)) (now (ns .exit)) (now (hs .exit)) (now (cs .exit)) (now (ends .exit)) (now (es .exit)) (now (carried .exit)) (now (numbers .exit)) (now (pool .exit)) (now (seeds .exit))) ≡ lineStep (busOf (now (ps .entry)) (now (ns .entry)) (now (hs .entry)) (now (cs .entry)) (now (ends .entry)) (now (es .entry)) (now (carried .entry)) (now (numbers .entry)) (now (pool .entry)) (now (seeds .entry))) (now (s .entry)) ⌝ }
+    ensures { λ r.
+        let before = busOf (now (ps .entry)) (now (ns .entry)) (now (hs .entry)) (now (cs .entry))
+        (now (ends .entry)) (now (es .entry)) (now (carried .entry)) (now (numbers .entry)) (now (pool .entry)) (now (seeds .entry)) in
+        let after = busOf (now (ps .exit)) (now (ns .exit)) (now (hs .exit)) (now (cs .exit))
+        (now (ends .exit)) (now (es .exit)) (now (carried .exit)) (now (numbers .exit)) (now (pool .exit)) (now (seeds .exit)) in
+        ⌜ steppedOf r after ≡ lineStep before (now (s .entry)) ⌝ }
 {
     let read = lines::read_line(s, frame);
     replay_read(
@@ -190,7 +205,12 @@ fn replay_lines(
     most: usize,
 ) -> Recovered
     requires { ⌜ length (now out) ≡ answerSize ⌝ }
-    ensures { λ r. ⌜ recoveryFrom r (busOf (now (ps .exit)) (now (ns .exit)) (now (hs .exit)) (now (cs .exit)) (now (ends .exit)) (now (es .exit)) (now (carried .exit)) (now (numbers .exit)) (now (pool .exit)) (now (seeds .exit))) ≡ replayFrom most 0 0 (busOf (now (ps .entry)) (now (ns .entry)) (now (hs .entry)) (now (cs .entry)) (now (ends .entry)) (now (es .entry)) (now (carried .entry)) (now (numbers .entry)) (now (pool .entry)) (now (seeds .entry))) (now (kept .entry)) ⌝ }
+    ensures { λ r.
+        let before = busOf (now (ps .entry)) (now (ns .entry)) (now (hs .entry)) (now (cs .entry))
+        (now (ends .entry)) (now (es .entry)) (now (carried .entry)) (now (numbers .entry)) (now (pool .entry)) (now (seeds .entry)) in
+        let after = busOf (now (ps .exit)) (now (ns .exit)) (now (hs .exit)) (now (cs .exit))
+        (now (ends .exit)) (now (es .exit)) (now (carried .exit)) (now (numbers .exit)) (now (pool .exit)) (now (seeds .exit)) in
+        ⌜ recoveryFrom r after ≡ replayFrom most 0 0 before (now (kept .entry)) ⌝ }
 {
     let mut n = 0;
     let mut at = 0;
@@ -234,7 +254,12 @@ pub fn replay(
     kept: &[u8],
     most: usize,
 ) -> Recovered
-    ensures { λ r. ⌜ recoveryFrom r (busOf (now (ps .exit)) (now (ns .exit)) (now (hs .exit)) (now (cs .exit)) (now (ends .exit)) (now (es .exit)) (now (carried .exit)) (now (numbers .exit)) (now (pool .exit)) (now (seeds .exit))) ≡ replayFrom most 0 0 (busOf (now (ps .entry)) (now (ns .entry)) (now (hs .entry)) (now (cs .entry)) (now (ends .entry)) (now (es .entry)) (now (carried .entry)) (now (numbers .entry)) (now (pool .entry)) (now (seeds .entry))) (now (kept .entry)) ⌝ }
+    ensures { λ r.
+        let before = busOf (now (ps .entry)) (now (ns .entry)) (now (hs .entry)) (now (cs .entry))
+        (now (ends .entry)) (now (es .entry)) (now (carried .entry)) (now (numbers .entry)) (now (pool .entry)) (now (seeds .entry)) in
+        let after = busOf (now (ps .exit)) (now (ns .exit)) (now (hs .exit)) (now (cs .exit))
+        (now (ends .exit)) (now (es .exit)) (now (carried .exit)) (now (numbers .exit)) (now (pool .exit)) (now (seeds .exit)) in
+        ⌜ recoveryFrom r after ≡ replayFrom most 0 0 before (now (kept .entry)) ⌝ }
 {
     let mut frame = [0u8; FRAME_SIZE];
     let mut out = [0u8; ANSWER_SIZE];
@@ -280,7 +305,12 @@ pub fn recover(
     seeds: &mut [u8],
     kept: &[u8],
 ) -> Recovered
-    ensures { λ r. ⌜ recoveryFrom r (busOf (now (ps .exit)) (now (ns .exit)) (now (hs .exit)) (now (cs .exit)) (now (ends .exit)) (now (es .exit)) (now (carried .exit)) (now (numbers .exit)) (now (pool .exit)) (now (seeds .exit))) ≡ recovered (busOf (now (ps .entry)) (now (ns .entry)) (now (hs .entry)) (now (cs .entry)) (now (ends .entry)) (now (es .entry)) (now (carried .entry)) (now (numbers .entry)) (now (pool .entry)) (now (seeds .entry))) (now (kept .entry)) ⌝ }
+    ensures { λ r.
+        let before = busOf (now (ps .entry)) (now (ns .entry)) (now (hs .entry)) (now (cs .entry))
+        (now (ends .entry)) (now (es .entry)) (now (carried .entry)) (now (numbers .entry)) (now (pool .entry)) (now (seeds .entry)) in
+        let after = busOf (now (ps .exit)) (now (ns .exit)) (now (hs .exit)) (now (cs .exit))
+        (now (ends .exit)) (now (es .exit)) (now (carried .exit)) (now (numbers .exit)) (now (pool .exit)) (now (seeds .exit)) in
+        ⌜ recoveryFrom r after ≡ recovered before (now (kept .entry)) ⌝ }
 {
     if bus::fresh(ps, ns, hs, cs, ends, es, carried, numbers, pool, seeds) != 0 {
         return Recovered::WrongLength;

@@ -9,7 +9,10 @@ ghost use lib.ListN.{length};
 ghost use lib.Seq.{sets};
 ghost use Rattle.laws.specs.Rows.{rowIn};
 ghost use Rattle.laws.specs.Search.{first};
-ghost use Rattle.rings.specs.Rings.{kindCount, peers, ringSize, rowCount, entryFields, carriedFields, endsSize, entriesSize, carriedSize, rowsOf, ringsOf, Sized, QueueTables, fieldsOf, entryAt, putAt, rowOf, headOf, lengthOf, firstOf, pushed, popped, cleared, bitAt, kindBit, slotIn, matchesOf, matches, oneSlot, removed, swept, keptEntry, keptEntries};
+ghost use Rattle.rings.specs.Rings.{kindCount, peers, ringSize, rowCount, entryFields, carriedFields, endsSize};
+ghost use Rattle.rings.specs.Rings.{entriesSize, carriedSize, rowsOf, ringsOf, Sized, QueueTables, fieldsOf, entryAt};
+ghost use Rattle.rings.specs.Rings.{putAt, rowOf, headOf, lengthOf, firstOf, pushed, popped, cleared, bitAt, kindBit};
+ghost use Rattle.rings.specs.Rings.{slotIn, matchesOf, matches, oneSlot, removed, swept, keptEntry, keptEntries};
 use ids::CARRIED_FIELDS;
 use ids::END_FIELDS;
 use ids::ENTRY_FIELDS;
@@ -143,7 +146,10 @@ fn put_carried(carried: &mut [u8], row: usize, v: [u8; 8])
 // A row of the tables written anew.
 pub fn put_entry(entries: &mut [u16], carried: &mut [u8], numbers: &mut [u64], row: usize, e: Entry)
     requires { ⌜ Sized (rowsOf (now entries) (now carried) (now numbers)) × (row < rowCount) ⌝ }
-    ensures { λ _. ⌜ rowsOf (now (entries .exit)) (now (carried .exit)) (now (numbers .exit)) ≡ putAt (rowsOf (now (entries .entry)) (now (carried .entry)) (now (numbers .entry))) row e ⌝ }
+    ensures { λ _.
+        let before = rowsOf (now (entries .entry)) (now (carried .entry)) (now (numbers .entry)) in
+        let after = rowsOf (now (entries .exit)) (now (carried .exit)) (now (numbers .exit)) in
+        ⌜ after ≡ putAt before row e ⌝ }
 {
     put_fields(entries, row, e);
     let v = e.carried;
@@ -171,7 +177,10 @@ pub fn push(
     e: Entry,
 )
     requires { ⌜ QueueTables (now ends) (now entries) (now carried) (now numbers) × (p .0 < peers) × (lengthOf (now ends) (p .0) < ringSize) ⌝ }
-    ensures { λ _. ⌜ ringsOf (now (ends .exit)) (now (entries .exit)) (now (carried .exit)) (now (numbers .exit)) ≡ pushed (ringsOf (now (ends .entry)) (now (entries .entry)) (now (carried .entry)) (now (numbers .entry))) (p .0) e ⌝ }
+    ensures { λ _.
+        let before = ringsOf (now (ends .entry)) (now (entries .entry)) (now (carried .entry)) (now (numbers .entry)) in
+        let after = ringsOf (now (ends .exit)) (now (entries .exit)) (now (carried .exit)) (now (numbers .exit)) in
+        ⌜ after ≡ pushed before (p .0) e ⌝ }
 {
     let head = head_of(ends, p);
     let len = len_of(ends, p);
@@ -317,8 +326,12 @@ fn keep_entry(
     at: At,
     m: Match,
 ) -> usize
-    requires { ⌜ Sized (rowsOf (now entries) (now carried) (now numbers)) × (at .p .0 < peers) × (at .head < 65536) × (at .read < ringSize) × (at .kept ≤ at .read) ⌝ }
-    ensures { λ r. ⌜ swept r (rowsOf (now (entries .exit)) (now (carried .exit)) (now (numbers .exit))) ≡ keptEntry (rowsOf (now (entries .entry)) (now (carried .entry)) (now (numbers .entry))) (at .p .0) (at .head) (at .read) (at .kept) m ⌝ }
+    requires { ⌜ Sized (rowsOf (now entries) (now carried) (now numbers))
+        × (at .p .0 < peers) × (at .head < 65536) × (at .read < ringSize) × (at .kept ≤ at .read) ⌝ }
+    ensures { λ r.
+        let before = rowsOf (now (entries .entry)) (now (carried .entry)) (now (numbers .entry)) in
+        let after = rowsOf (now (entries .exit)) (now (carried .exit)) (now (numbers .exit)) in
+        ⌜ swept r after ≡ keptEntry before (at .p .0) (at .head) (at .read) (at .kept) m ⌝ }
 {
     let from = row_of(at.p, at.head, at.read);
     let e = get_entry(entries, carried, numbers, from);
@@ -341,8 +354,12 @@ fn sweep(
     m: Match,
     from: usize,
 ) -> usize
-    requires { ⌜ Sized (rowsOf (now entries) (now carried) (now numbers)) × (p .0 < peers) × (head < 65536) × (len ≤ ringSize) × (from ≤ len) × ((j : ℕ) → j < from → matches m (entryAt (rowsOf (now entries) (now carried) (now numbers)) (rowOf (p .0) head j)) ≡ false) ⌝ }
-    ensures { λ r. ⌜ (swept r (rowsOf (now (entries .exit)) (now (carried .exit)) (now (numbers .exit))) ≡ keptEntries (rowsOf (now (entries .entry)) (now (carried .entry)) (now (numbers .entry))) (p .0) head len m) × (r ≤ len) ⌝ }
+    requires { ⌜ Sized (rowsOf (now entries) (now carried) (now numbers)) × (p .0 < peers) × (head < 65536) × (len ≤ ringSize) × (from ≤ len)
+        × ((j : ℕ) → j < from → matches m (entryAt (rowsOf (now entries) (now carried) (now numbers)) (rowOf (p .0) head j)) ≡ false) ⌝ }
+    ensures { λ r.
+        let before = rowsOf (now (entries .entry)) (now (carried .entry)) (now (numbers .entry)) in
+        let after = rowsOf (now (entries .exit)) (now (carried .exit)) (now (numbers .exit)) in
+        ⌜ (swept r after ≡ keptEntries before (p .0) head len m) × (r ≤ len) ⌝ }
 {
     let mut kept = from;
     let mut read = from;
@@ -374,7 +391,10 @@ pub fn remove(
     m: Match,
 )
     requires { ⌜ QueueTables (now ends) (now entries) (now carried) (now numbers) × (p .0 < peers) × (lengthOf (now ends) (p .0) ≤ ringSize) ⌝ }
-    ensures { λ _. ⌜ ringsOf (now (ends .exit)) (now (entries .exit)) (now (carried .exit)) (now (numbers .exit)) ≡ removed (ringsOf (now (ends .entry)) (now (entries .entry)) (now (carried .entry)) (now (numbers .entry))) (p .0) m ⌝ }
+    ensures { λ _.
+        let before = ringsOf (now (ends .entry)) (now (entries .entry)) (now (carried .entry)) (now (numbers .entry)) in
+        let after = ringsOf (now (ends .exit)) (now (entries .exit)) (now (carried .exit)) (now (numbers .exit)) in
+        ⌜ after ≡ removed before (p .0) m ⌝ }
 {
     let head = head_of(ends, p);
     let len = len_of(ends, p);

@@ -25,7 +25,8 @@ const LONGEST: usize = 2 * ANSWER_SIZE + 1;
 // never reached.
 fn put_line(text: &mut [u8], at: usize, bytes: &[u8]) -> usize
     requires { ⌜ at + (2 * length (now bytes) + 1) ≤ length (now text) ⌝ }
-    ensures { λ r. ⌜ (now (text .exit) ≡ sets (now (text .entry)) at (answerLine (now (bytes .entry)))) × (r ≡ at + (2 * length (now (bytes .entry)) + 1)) ⌝ }
+    ensures { λ r. ⌜ (now (text .exit) ≡ sets (now (text .entry)) at (answerLine (now (bytes .entry))))
+        × (r ≡ at + (2 * length (now (bytes .entry)) + 1)) ⌝ }
 {
     match lines::write_line(text, at, bytes) {
         Written::Next(next) => next,
@@ -51,7 +52,12 @@ fn answer_frame(
     at: usize,
 ) -> usize
     requires { ⌜ (length (now out) ≡ answerSize) × (at + longest ≤ length (now text)) ⌝ }
-    ensures { λ r. ⌜ Put (busOf (now (peers .entry)) (now (nodes .entry)) (now (handles .entry)) (now (charges .entry)) (now (ends .entry)) (now (entries .entry)) (now (carried .entry)) (now (numbers .entry)) (now (pool .entry)) (now (seeds .entry))) (frame (now (f .entry))) (now (text .entry)) at (busOf (now (peers .exit)) (now (nodes .exit)) (now (handles .exit)) (now (charges .exit)) (now (ends .exit)) (now (entries .exit)) (now (carried .exit)) (now (numbers .exit)) (now (pool .exit)) (now (seeds .exit))) (now (text .exit)) r ⌝ }
+    ensures { λ r.
+        let before = busOf (now (peers .entry)) (now (nodes .entry)) (now (handles .entry)) (now (charges .entry))
+        (now (ends .entry)) (now (entries .entry)) (now (carried .entry)) (now (numbers .entry)) (now (pool .entry)) (now (seeds .entry)) in
+        let after = busOf (now (peers .exit)) (now (nodes .exit)) (now (handles .exit)) (now (charges .exit))
+        (now (ends .exit)) (now (entries .exit)) (now (carried .exit)) (now (numbers .exit)) (now (pool .exit)) (now (seeds .exit)) in
+        ⌜ Put before (frame (now (f .entry))) (now (text .entry)) at after (now (text .exit)) r ⌝ }
 {
     let o = bus::command(
         peers,
@@ -98,7 +104,12 @@ fn answer_read(
     at: usize,
 ) -> usize
     requires { ⌜ (length (now out) ≡ answerSize) × (at + longest ≤ length (now text)) × (length (now f) ≡ longestFrame) × Holds read ⌝ }
-    ensures { λ r. ⌜ PutRead (busOf (now (peers .entry)) (now (nodes .entry)) (now (handles .entry)) (now (charges .entry)) (now (ends .entry)) (now (entries .entry)) (now (carried .entry)) (now (numbers .entry)) (now (pool .entry)) (now (seeds .entry))) (now (f .entry)) read (now (text .entry)) at (busOf (now (peers .exit)) (now (nodes .exit)) (now (handles .exit)) (now (charges .exit)) (now (ends .exit)) (now (entries .exit)) (now (carried .exit)) (now (numbers .exit)) (now (pool .exit)) (now (seeds .exit))) (now (text .exit)) r ⌝ }
+    ensures { λ r.
+        let before = busOf (now (peers .entry)) (now (nodes .entry)) (now (handles .entry)) (now (charges .entry))
+        (now (ends .entry)) (now (entries .entry)) (now (carried .entry)) (now (numbers .entry)) (now (pool .entry)) (now (seeds .entry)) in
+        let after = busOf (now (peers .exit)) (now (nodes .exit)) (now (handles .exit)) (now (charges .exit))
+        (now (ends .exit)) (now (entries .exit)) (now (carried .exit)) (now (numbers .exit)) (now (pool .exit)) (now (seeds .exit)) in
+        ⌜ PutRead before (now (f .entry)) read (now (text .entry)) at after (now (text .exit)) r ⌝ }
 {
     match read {
         LineRead::Frame(m, _) => answer_frame(
@@ -165,7 +176,12 @@ fn answer_line(
     t: Turn,
 ) -> Turn
     requires { ⌜ (t .from ≤ length (now s)) × (length (now out) ≡ answerSize) × (t .at + longest ≤ length (now text)) ⌝ }
-    ensures { λ r. ⌜ Turned (busOf (now (peers .entry)) (now (nodes .entry)) (now (handles .entry)) (now (charges .entry)) (now (ends .entry)) (now (entries .entry)) (now (carried .entry)) (now (numbers .entry)) (now (pool .entry)) (now (seeds .entry))) (now (s .entry)) (t .from) (t .at) (now (text .entry)) (busOf (now (peers .exit)) (now (nodes .exit)) (now (handles .exit)) (now (charges .exit)) (now (ends .exit)) (now (entries .exit)) (now (carried .exit)) (now (numbers .exit)) (now (pool .exit)) (now (seeds .exit))) (now (text .exit)) (r .from) (r .used) (r .at) ⌝ }
+    ensures { λ r.
+        let before = busOf (now (peers .entry)) (now (nodes .entry)) (now (handles .entry)) (now (charges .entry))
+        (now (ends .entry)) (now (entries .entry)) (now (carried .entry)) (now (numbers .entry)) (now (pool .entry)) (now (seeds .entry)) in
+        let after = busOf (now (peers .exit)) (now (nodes .exit)) (now (handles .exit)) (now (charges .exit))
+        (now (ends .exit)) (now (entries .exit)) (now (carried .exit)) (now (numbers .exit)) (now (pool .exit)) (now (seeds .exit)) in
+        ⌜ Turned before (now (s .entry)) (t .from) (t .at) (now (text .entry)) after (now (text .exit)) (r .from) (r .used) (r .at) ⌝ }
 {
     let from = t.from;
     let read = lines::read_line(&s[from..], f);
@@ -237,7 +253,13 @@ pub fn answer_lines(
     text: &mut [u8],
 ) -> Progress
     requires { ⌜ from ≤ length (now s) ⌝ }
-    ensures { λ r. ⌜ Served (busOf (now (peers .entry)) (now (nodes .entry)) (now (handles .entry)) (now (charges .entry)) (now (ends .entry)) (now (entries .entry)) (now (carried .entry)) (now (numbers .entry)) (now (pool .entry)) (now (seeds .entry))) (now (s .entry)) from 0 (now (text .entry)) (busOf (now (peers .exit)) (now (nodes .exit)) (now (handles .exit)) (now (charges .exit)) (now (ends .exit)) (now (entries .exit)) (now (carried .exit)) (now (numbers .exit)) (now (pool .exit)) (now (seeds .exit))) (now (text .exit)) (r .from) (r .at) × Stopped (now (s .entry)) (now (text .entry)) (r .from) (r .at) (r .more) ⌝ }
+    ensures { λ r.
+        let before = busOf (now (peers .entry)) (now (nodes .entry)) (now (handles .entry)) (now (charges .entry))
+        (now (ends .entry)) (now (entries .entry)) (now (carried .entry)) (now (numbers .entry)) (now (pool .entry)) (now (seeds .entry)) in
+        let after = busOf (now (peers .exit)) (now (nodes .exit)) (now (handles .exit)) (now (charges .exit))
+        (now (ends .exit)) (now (entries .exit)) (now (carried .exit)) (now (numbers .exit)) (now (pool .exit)) (now (seeds .exit)) in
+        ⌜ Served before (now (s .entry)) from 0 (now (text .entry)) after (now (text .exit)) (r .from) (r .at)
+        × Stopped (now (s .entry)) (now (text .entry)) (r .from) (r .at) (r .more) ⌝ }
 {
     let mut f = [0u8; FRAME_SIZE];
     let mut out = [0u8; ANSWER_SIZE];

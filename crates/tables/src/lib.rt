@@ -4,12 +4,16 @@ ghost use mathlib.Core.Path.{_≡_};
 ghost use Prim.Native.Nat.{_+_, _-_, _*_, _^_, _<_, _≤_, min};
 ghost use lib.Count.{trailingZeros};
 ghost use lib.ListN.{length, getD};
-ghost use Rattle.tables.specs.Peers.{modulus, acceptedAt, statusAt, standingAt, userAt, givenAt, setOpen, setDisconnected, setGiven, countCommand};
+ghost use Rattle.tables.specs.Peers.{modulus, acceptedAt, statusAt, standingAt, userAt};
+ghost use Rattle.tables.specs.Peers.{givenAt, setOpen, setDisconnected, setGiven, countCommand};
 ghost use Rattle.tables.specs.Nodes.{liveAt, diedAt, setLive, setDead};
 ghost use Rattle.ids.specs.Sizes.{peers as peerCount, peersSize, nodesSize};
 ghost use Rattle.model.specs.Numbers.{nodes as nodeCount};
 ghost use Rattle.quota.specs.Charges.{users};
-ghost use Rattle.tables.specs.Handles.{listBlock, lengthBlock, handlesSize, mostReads, halvings, listReads, handleRow, idAt, countAt, hasIn, foundOwn, listLength, listedId, wordAt, guess, placeIn, foundAmong, foundListed, lookup, totalAt, bitAt, holdersAt, putHandle, clearPeer, enlisted, shifted, takenOut, unlisted, raised, reduced};
+ghost use Rattle.tables.specs.Handles.{listBlock, lengthBlock, handlesSize, mostReads, halvings, listReads};
+ghost use Rattle.tables.specs.Handles.{handleRow, idAt, countAt, hasIn, foundOwn, listLength, listedId, wordAt};
+ghost use Rattle.tables.specs.Handles.{guess, placeIn, foundAmong, foundListed, lookup, totalAt, bitAt, holdersAt};
+ghost use Rattle.tables.specs.Handles.{putHandle, clearPeer, enlisted, shifted, takenOut, unlisted, raised, reduced};
 ghost use Rattle.tables.specs.CodeLaws.{narrowed};
 ghost use Rattle.tables.specs.Charges.{chargesSize, chargeAt, chargesAt, putCharge, putCharges};
 use ids::CHARGE_FIELDS;
@@ -231,7 +235,8 @@ pub fn id_of(handles: &[u64], p: Peer, s: usize) -> HandleId
 // function alone.
 fn look(handles: &[u64], at: usize, reads: usize) -> Entry
     requires { ⌜ (length (now handles) ≡ handlesSize) × (at + 1 < handlesSize) × (reads < mostReads) ⌝ }
-    ensures { λ r. ⌜ (r .id ≡ getD (now (handles .entry)) at 0) × (r .word ≡ getD (now (handles .entry)) (at + 1) 0) × (r .reads ≡ reads + 1) ⌝ }
+    ensures { λ r. ⌜ (r .id ≡ getD (now (handles .entry)) at 0)
+        × (r .word ≡ getD (now (handles .entry)) (at + 1) 0) × (r .reads ≡ reads + 1) ⌝ }
 {
     Entry {
         id: handles[at],
@@ -286,7 +291,8 @@ fn seek_own(handles: &[u64], p: Peer, id: HandleId) -> Sought
 // An entry of the peer's list.
 fn entry_at(handles: &[u64], p: Peer, k: usize, reads: usize) -> Entry
     requires { ⌜ (length (now handles) ≡ handlesSize) × (p .0 < peerCount) × (k < nodeCount) × (reads < mostReads) ⌝ }
-    ensures { λ r. ⌜ (r .id ≡ listedId (now (handles .entry)) (p .0) k) × (r .word ≡ wordAt (now (handles .entry)) (listBlock (p .0)) k) × (r .reads ≡ reads + 1) ⌝ }
+    ensures { λ r. ⌜ (r .id ≡ listedId (now (handles .entry)) (p .0) k)
+        × (r .word ≡ wordAt (now (handles .entry)) (listBlock (p .0)) k) × (r .reads ≡ reads + 1) ⌝ }
 {
     look(handles, (LISTS + p.0) * BLOCK + HANDLE_FIELDS * k, reads)
 }
