@@ -1,4 +1,7 @@
 // The kinds of answer, and the writer of their bytes into the caller's answer buffer.
+
+#![tactic(auto)]
+
 ghost use Rattle.std.specs.Prelude.{◌≡◌, [], ◌∷◌, ◌+◌, ◌*◌, ◌<◌, ◌≤◌, min, length, take};
 ghost use Rattle.std.proofs.lemmas.List.Edits.{sets};
 ghost use Rattle.laws.specs.Bytes.{be};
@@ -12,7 +15,7 @@ use quota::{Balance, Charge};
 const MOST_IDS: usize = 8;
 
 // A message's numbers. Its IDs and its payload stand beside it.
-#[derive(Drop)]
+#[derive(Clone, Copy)]
 pub struct Header {
     pub to: HandleId,
     pub user: User,
@@ -22,7 +25,7 @@ pub struct Header {
 }
 
 // What a receive takes out: a message, or the notice that a node was destroyed or released. And the seed that 0c shows.
-#[derive(Drop)]
+#[derive(Clone, Copy)]
 pub enum Received {
     Message(Header),
     Destroyed(HandleId),
@@ -30,7 +33,7 @@ pub enum Received {
     Seed(Header),
 }
 
-#[derive(Drop)]
+#[derive(Clone, Copy)]
 pub enum Answer {
     Refused(u8),
     Done,
@@ -41,7 +44,7 @@ pub enum Answer {
 }
 
 // The number that a command returns, 0 or its refusal, and how many bytes of answer were written.
-#[derive(Drop)]
+#[derive(Clone, Copy)]
 pub struct Outcome {
     pub number: u8,
     pub len: usize,

@@ -1,4 +1,7 @@
 // The bus: a fresh one, and one command in, one answer out, over ten lent tables and an answer buffer.
+
+#![tactic(auto)]
+
 ghost use Rattle.std.specs.Prelude.{◌≡◌, ◌<◌, ◌≤◌, length, replicate};
 ghost use Rattle.answers.specs.Answer.{answer_size};
 ghost use Rattle.frames.specs.Legal.{Legal};

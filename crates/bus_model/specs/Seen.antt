@@ -27,7 +27,7 @@ use Rattle.model.specs.State.{State, Handle, held, Life, is_live, Message, Entry
 use Rattle.model.specs.Resources.{Resource.handles}
 use Rattle.model.specs.Charged.{queued_by, from_user, weight_of, Fine, Sound}
 use Rattle.model.specs.Notices.{Stands}
-use Rattle.model.specs.Occurs.{any_below}
+use Rattle.model.specs.Occurs.{any_below_lem}
 use Rattle.model.specs.Refusals.{fits, takeable, countable, present, create_by, destroy_by, release_by, transfer_by, send_by, holders_by, refusal, refusal_by, refuses_open, refuses_disconnect, refuses_create, refuses_destroy, refuses_release, refuses_transfer, refuses_send, refuses_receive, refuses_seed, refuses_quota, refuses_holders}
 use Rattle.seeds.specs.Seeds.{seed_v}
 use Rattle.view.specs.View.{Bus, Shape, state_of, queue_v}
@@ -85,7 +85,7 @@ module _ (b : Bus) (shape : Shape b) (g : Good (state_of b)) (lists : AllListed 
   quiet s q l u e =
       let z : attached_of (charges_v b.charges q) ≡ 0 = rw (charges-is b.charges q l) (eqb-true (attached_of (charges_at b.charges q)) 0 e) in
       let w = g.charged.at q in
-      nobody-names (handle_v b.handles) (state_of b).life q s ((state_of b).queue q) (g.noted.stands q) (any_below (λ p. held (handle_v b.handles p s)) peers q l u)
+      nobody-names (handle_v b.handles) (state_of b).life q s ((state_of b).queue q) (g.noted.stands q) (any_below_lem (λ p. held (handle_v b.handles p s)) peers q l u)
       (none-carried (messages_in ((state_of b).queue q)) w.fine (λ v m. sym (w.sums handles v m) ∙ attached-none (charges_v b.charges q) z v m))
 
   counts_same : (s : ℕ) → s < nodes → counts_at b.nodes b.handles b.charges b.rings b.seeds s ≡ counts (state_of b) s

@@ -1,6 +1,9 @@
 // The line program: for each line of standard input one answer line on standard output. It reads a chunk, calls
 // `session::answer_lines` and writes the text, so every whole line that was read is answered before more is read. After
 // a write or a read that failed for good it writes nothing more, says so in one line on descriptor 2, and ends.
+
+#![tactic(auto)]
+
 ghost use Rattle.std.specs.Prelude.{◌≡◌, true, false, ◌+◌, ◌<◌, ◌≤◌, ◌++◌, length, take, drop};
 ghost use Rattle.lines.specs.Line.{most_carried, carried_of};
 ghost use Rattle.view.specs.View.{bus_of};
@@ -43,7 +46,7 @@ fn try_again(error: i32) -> bool {
 }
 
 // What was read: how many characters, 0 at the end of the input, or that the read failed.
-#[derive(Drop)]
+#[derive(Clone, Copy)]
 struct Input {
     got: usize,
     failed: bool,
@@ -116,7 +119,7 @@ fn say_not_written() {
 }
 
 // What came of a chunk: where its piece starts, and whether all its answers are written.
-#[derive(Drop)]
+#[derive(Clone, Copy)]
 struct Sent {
     from: usize,
     whole: bool,
@@ -211,7 +214,7 @@ fn next_chunk(buf: &mut [u8], held: usize) -> usize
 }
 
 // A turn: how many characters are carried over, and whether there is more to read.
-#[derive(Drop)]
+#[derive(Clone, Copy)]
 struct Turn {
     held: usize,
     more: bool,

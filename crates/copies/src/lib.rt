@@ -1,4 +1,7 @@
 // Bytes copied into a buffer, bytes moved down within one, and the smaller of two numbers. What lies past the buffer's end is left out.
+
+#![tactic(auto)]
+
 ghost use Rattle.std.specs.Prelude.{◌≡◌, ◌-◌, ◌≤◌, min, length, take, drop, leb};
 ghost use Rattle.std.proofs.lemmas.List.Edits.{sets};
 ghost use Rattle.laws.specs.Tests.{pick};

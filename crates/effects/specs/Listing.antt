@@ -11,7 +11,7 @@ use Rattle.tables.specs.Listed.{is_given, AllListed, listed-made, listed-reduced
 use Rattle.model.specs.Numbers.{peers, slots, nodes}
 use Rattle.model.specs.State.{State, Handle, Handle.none, Handle.some, held, count, is_live, held_by_any, named, seeded, counts, free_place}
 use Rattle.model.specs.Lists.{either, any_below}
-use Rattle.model.specs.Occurs.{either-false, any_below}
+use Rattle.model.specs.Occurs.{either-false, any_below_lem}
 use Rattle.tables.specs.PeersView.{given_counted}
 use Rattle.view.specs.View.{Bus, Shape, state_of}
 use Rattle.grants.specs.Listing.{listed-given}
@@ -31,7 +31,7 @@ free-unheld b p lp l =
     let c = not-counts (counts b s) t in
     let x = either-false (is_live (b.life s)) (either (any_below (λ q. held (b.handle q s)) peers) (either (named b.queue s) (seeded b.seed s))) c in
     let y = either-false (any_below (λ q. held (b.handle q s)) peers) (either (named b.queue s) (seeded b.seed s)) x.1 in
-    any_below (λ q. held (b.handle q s)) peers p lp y.0
+    any_below_lem (λ q. held (b.handle q s)) peers p lp y.0
   where
     not-counts : (x : Bool) → not x ≡ true → x ≡ false
     not-counts true e = clash (sym e)

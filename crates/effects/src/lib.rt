@@ -1,4 +1,7 @@
 // What each order does to the tables. The command is counted first; no order fails.
+
+#![tactic(auto)]
+
 ghost use Rattle.std.specs.Prelude.{◌≡◌, ◌-◌, ◌<◌, ◌≤◌, length, take};
 ghost use Rattle.rings.specs.Rings.{rings_of, ends_size, length_of, ring_size, QueueTables};
 ghost use Rattle.pool.specs.Pool.{pool_size};

@@ -1,5 +1,8 @@
 // An order of the judges carried out: what it changes in the tables, and its answer. The tables peers, nodes, handles and
 // charges are ps, ns, hs and cs, and the frame is f, as in the specs.
+
+#![tactic(auto)]
+
 ghost use Rattle.std.specs.Prelude.{◌≡◌, length};
 ghost use Rattle.view.specs.View.{bus_of, Shape};
 ghost use Rattle.queues.specs.Queues.{Short};

@@ -1,12 +1,15 @@
 // The bus as a static library: its two functions under C names, each with the contract of the function that it calls, and the version by
 // which a header is compared with the archive.
+
+#![tactic(auto)]
+
 ghost use Rattle.std.specs.Prelude.{◌≡◌};
 ghost use Rattle.view.specs.View.{bus_of};
 ghost use Rattle.bus_model.specs.Command.{done_of, command_of, fresh_of, fresh_number};
 
 // What comes back of a command: the number, 0 or the refusal, and the answer's length.
 #[repr(C)]
-#[derive(Drop)]
+#[derive(Clone, Copy)]
 pub struct BusOutcome {
     pub number: u8,
     pub len: usize,

@@ -1,12 +1,15 @@
 // A command with a journal under its C name, with the contract of the function that it calls. It is a library of its own, so that
 // each of the exported functions has the core compiled into it.
+
+#![tactic(auto)]
+
 ghost use Rattle.std.specs.Prelude.{◌≡◌};
 ghost use Rattle.view.specs.View.{bus_of};
 ghost use Rattle.journal_model.specs.Journal.{returned_with, command_with};
 
 // What comes back of a command with a journal: the number, the answer's length and the journal's used length.
 #[repr(C)]
-#[derive(Drop)]
+#[derive(Clone, Copy)]
 pub struct BusReport {
     pub number: u8,
     pub len: usize,

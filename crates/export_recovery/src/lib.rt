@@ -1,5 +1,8 @@
 // Recovery under its C name, with the contract of the function that it calls. It is a library of its own, so that each of the
 // exported functions has the core compiled into it.
+
+#![tactic(auto)]
+
 ghost use Rattle.std.specs.Prelude.{◌≡◌};
 ghost use Rattle.view.specs.View.{bus_of};
 ghost use Rattle.journal_model.specs.Journal.{recovered, number_in, line_in, place_in, used_in, told_from, told_of};
@@ -10,7 +13,7 @@ use journal_model::Recovered;
 // What comes back of a recovery: 0 or 5; how many lines were carried out, or the line that stopped it, from 1, or 0; the
 // place of its fault, or all ones where the line reader refused none; and the used length.
 #[repr(C)]
-#[derive(Drop)]
+#[derive(Clone, Copy)]
 pub struct BusRecovery {
     pub number: u8,
     pub line: usize,

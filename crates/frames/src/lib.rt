@@ -1,5 +1,8 @@
 // The frame reader: a frame's bytes to a command with its numbers, or the number of the refusal.
 // A send's IDs are read at their places in the frame, and its payload is a part of the frame.
+
+#![tactic(auto)]
+
 ghost use Rattle.std.specs.Prelude.{◌≡◌, ◌+◌, ◌*◌, ◌<◌, ◌≤◌, length};
 ghost use Rattle.laws.specs.Bytes.{num_at};
 ghost use Rattle.frames.specs.Frame.{oversized as too_large, short_at, id_at, parse_sizes, parse_send, frame_length, parse_open, parse_create, parse_transfer, parse_quota, parse_rest, parse_other, parse as parsed, send_id, payload_of};
@@ -13,7 +16,7 @@ const LAST_USER: u8 = 3;
 const MOST_IDS: u8 = 8;
 
 // The numbers of a send: destinations, attached handles, payload bytes.
-#[derive(Drop)]
+#[derive(Clone, Copy)]
 pub struct Sizes {
     pub nd: usize,
     pub nh: usize,
@@ -21,7 +24,7 @@ pub struct Sizes {
 }
 
 // The eleven commands. The first peer is the acting one.
-#[derive(Drop)]
+#[derive(Clone, Copy)]
 pub enum Command {
     Open(Peer, User),
     Disconnect(Peer),
@@ -37,7 +40,7 @@ pub enum Command {
 }
 
 // What a frame says: a command, or the number of its refusal.
-#[derive(Drop)]
+#[derive(Clone, Copy)]
 pub enum Parsed {
     Read(Command),
     Refused(u8),

@@ -1,4 +1,7 @@
 // Handles given to a peer: the IDs shown, the counts, and the release notice that is withdrawn.
+
+#![tactic(auto)]
+
 ghost use Rattle.std.specs.Prelude.{◌≡◌, ◌<◌, ◌≤◌, length};
 ghost use Rattle.rings.specs.Rings.{rings_of, QueueTables};
 ghost use Rattle.tables.specs.Handles.{handles_size};

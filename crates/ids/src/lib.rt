@@ -1,16 +1,18 @@
 // The three kinds of number of document 01, "three kinds and must not be mixable by accident", the refusal numbers, and the
 // sizes that several crates need.
 
+#![tactic(auto)]
+
 // A peer, 0 to 7 on a bus: the place of its rows in a peer's table.
-#[derive(Drop)]
+#[derive(Clone, Copy)]
 pub struct Peer(pub usize);
 
 // A user, 0 to 3: whom a charge is counted under.
-#[derive(Drop)]
+#[derive(Clone, Copy)]
 pub struct User(pub usize);
 
 // A handle's ID, as one peer knows a node.
-#[derive(Drop)]
+#[derive(Clone, Copy)]
 pub struct HandleId(pub u64);
 
 // The refusal numbers of document 01's table, and 27 of document 02; specs/Refusals.antt has the row of each.

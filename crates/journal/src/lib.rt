@@ -1,4 +1,7 @@
 // A journal: every accepted command kept as its line before it is carried out.
+
+#![tactic(auto)]
+
 ghost use Rattle.std.specs.Prelude.{◌≡◌, ◌≤◌, length};
 ghost use Rattle.answers.specs.Answer.{answer_size};
 ghost use Rattle.frames.specs.Legal.{Legal};

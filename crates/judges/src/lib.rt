@@ -1,5 +1,8 @@
 // What the bus says to a command, before anything is changed: its refusal, or the order that carries it out, in which
 // each ID is the slot that the acting peer knows by it.
+
+#![tactic(auto)]
+
 ghost use Rattle.std.specs.Prelude.{◌≡◌, [], ◌+◌, ◌*◌, ◌<◌, ◌≤◌, length, take};
 ghost use Rattle.frames.specs.Frame.{payload_of};
 ghost use Rattle.frames.specs.Legal.{Legal, Sized as Sent};
@@ -27,14 +30,14 @@ use rings::Entry;
 use tables::{Found, Status};
 
 // A send's slots: its destinations and what it carries, 0 behind them and for every other command.
-#[derive(Drop)]
+#[derive(Clone, Copy)]
 pub struct Places {
     pub to: [u8; 8],
     pub carried: [u8; 8],
 }
 
 // What is to be done.
-#[derive(Drop)]
+#[derive(Clone, Copy)]
 pub enum Order {
     Refuse(u8),
     Open(Peer, User),
@@ -51,7 +54,7 @@ pub enum Order {
 }
 
 // What the bus says: the order, and a send's slots.
-#[derive(Drop)]
+#[derive(Clone, Copy)]
 pub struct Ruling {
     pub order: Order,
     pub places: Places,
@@ -294,7 +297,7 @@ fn judge_transfer(
 }
 
 // The slots of some IDs of a frame, and 0; or the refusal where one of them is not held.
-#[derive(Drop)]
+#[derive(Clone, Copy)]
 struct Slots {
     number: u8,
     at: [u8; 8],

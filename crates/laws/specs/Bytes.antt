@@ -1,7 +1,7 @@
 -- Numbers as bytes, big-endian, over the number of bytes.
 -- Assumes nothing.
 use Rattle.std.specs.Prelude.{ℕ, zero, suc, ◌+◌, ◌*◌, ◌/◌, ◌%◌, ◌^◌, ◌<◌, ◌≡◌, refl, List, [], ◌∷◌, ◌++◌, length, get_or}
-use Rattle.std.proofs.Common.{◌∙◌, append_assoc, arith, add-zero, zero-add, length-append, get_or-append-add}
+use Rattle.std.proofs.Common.{ap, ◌∙◌, append_assoc, arith, add-zero, zero-add, length-append, get_or-append-add}
 use Rattle.std.proofs.lemmas.List.{get_or_at}
 
 -- the w lowest bytes of x, highest first
@@ -87,7 +87,9 @@ num-front (suc w) x ys h =
     let p : 256 ^ suc w ≡ 256 * 256 ^ w = omega arith in
     let l : x / 256 < 256 ^ w = omega arith in
     let e : get_or (be w (x / 256) ++ x % 256 ∷ ys) w 0 ≡ x % 256 = get_or_at (be w (x / 256)) (x % 256) ys 0 w (be-length w (x / 256)) in
-    rw (append_assoc, num-front w (x / 256) (x % 256 ∷ ys) l, zero-add, e) (omega arith)
+    let s : be (suc w) x ++ ys ≡ be w (x / 256) ++ x % 256 ∷ ys = append_assoc (be w (x / 256)) (x % 256 ∷ []) ys in
+    let n : num_at (be (suc w) x ++ ys) 0 w ≡ x / 256 = ap (λ b. num_at b 0 w) s ∙ num-front w (x / 256) (x % 256 ∷ ys) l in
+    rw (n, s, zero-add, e) (omega arith)
 
 pub num-at : (xs ys : List ℕ) (n w x : ℕ) → length xs ≡ n → x < 256 ^ w → num_at (xs ++ (be w x ++ ys)) n w ≡ x
 num-at xs ys n w x e h =

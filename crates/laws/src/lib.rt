@@ -1,1 +1,3 @@
 // General laws over lists, tables and numbers; the crate has no code.
+
+#![tactic(auto)]

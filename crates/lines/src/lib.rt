@@ -1,5 +1,8 @@
 // Lines of lowercase hexadecimal: a line's characters to a frame's bytes, or the place of the first fault; an answer's
 // bytes to a line; and what is carried over from one chunk of input to the next.
+
+#![tactic(auto)]
+
 ghost use Rattle.std.specs.Prelude.{◌≡◌, ◌++◌, true, ℕ, ◌+◌, ◌*◌, ◌-◌, ◌<◌, ◌≤◌, min, length, get_or, take, drop, eqb, leb};
 ghost use Rattle.std.proofs.lemmas.List.Edits.{sets};
 ghost use Rattle.laws.specs.Build.{build};
@@ -14,7 +17,7 @@ const MOST_CARRIED: usize = 1293;
 
 // What stands at the start of the input: a frame of so many bytes, or the place of the first fault, each with the place
 // where the next line starts; or a piece without its LF, with the place of its fault if the input ends here.
-#[derive(Drop)]
+#[derive(Clone, Copy)]
 pub enum LineRead {
     Frame(usize, usize),
     Bad(usize, usize),
@@ -22,7 +25,7 @@ pub enum LineRead {
 }
 
 // Where the next answer line goes, or that the buffer had no room for this one.
-#[derive(Drop)]
+#[derive(Clone, Copy)]
 pub enum Written {
     Next(usize),
     Full,

@@ -85,7 +85,7 @@ module _ (r : Resource) where
 
 pub reached-discharged-all : (c : Charges) (ms : List Message) → Reached c → Reached (discharged_all c ms)
 reached-discharged-all c [] h = h
-reached-discharged-all c (m ∷ ms) h = reached-discharged-all _ ms (reached-discharged c (record { 0 = m.user }) (charge_of m) h)
+reached-discharged-all c (m ∷ ms) h = reached-discharged-all (discharged c (record { 0 = m.user }) (charge_of m)) ms (reached-discharged c (record { 0 = m.user }) (charge_of m) h)
 
 -- A charge that keeps within the share theorem, of which no number is cut off at 65,535: one that the rule allows, and that of nothing.
 pub record Room (c : Charges) (u : User) (a : Charge) : Type 0 where

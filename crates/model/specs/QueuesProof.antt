@@ -294,16 +294,16 @@ module _ (b : State) (new : Entry → Type 0) (of-destroy : (s : ℕ) → new (d
       each-push_all (Lapsed b (deliver (accept b) u ds hs bytes)) new (accept b) (arriving (accept b) u ds hs bytes) (λ r. arriving-new u ds hs bytes r h)
 
   -- A seed moves no entry.
-  unseeded : {a : State} (t : Bool) (q : ℕ) (x : Seed) (p : ℕ) → MovedBy new b a p [] → MovedBy new b (reseed a t q x) p []
+  unseeded : (a : State) (t : Bool) (q : ℕ) (x : Seed) (p : ℕ) → MovedBy new b a p [] → MovedBy new b (reseed a t q x) p []
   unfolding with_seed
-  unseeded {a} true q x p m = later-imp (lapsed-seed b a q x p) (λ e n. n) m
-  unseeded false q x p m = m
+  unseeded a true q x p m = later-imp (lapsed-seed b a q x p) (λ e n. n) m
+  unseeded a false q x p m = m
 
   -- Every accepted command.
   pub moved_by : (f : List ℕ) (k : Command) → All new (sent_by b f k) → Legal f k → refusal b f k ≡ 0 → (p : ℕ) → MovedBy new b (effect b f k) p (taken_by b p k)
   unfolding effect accept
   moved_by f (Open q u) n l e p = unfold opens with_user with_status in later_refl (b.queue p)
-  moved_by f (Disconnect q) n l e p = unseeded true q.0 unset p (moved-disconnect q.0 p)
+  moved_by f (Disconnect q) n l e p = unseeded _ true q.0 unset p (moved-disconnect q.0 p)
   moved_by f (Create q i) n l e p = unfold creates with_handles with_lives in later_refl (b.queue p)
   moved_by f (Destroy q i) n l e p = moved-destroy q.0 (slot b q.0 i.0) (tested b f (Destroy q i) e).owns p
   moved_by f (Release q i) n l e p = moved-releases q.0 (slot b q.0 i.0) (b.handle q.0 (slot b q.0 i.0)) p
@@ -312,7 +312,7 @@ module _ (b : State) (new : Entry → Type 0) (of-destroy : (s : ℕ) → new (d
       let m : t.0 < peers = omega (arith, l.1) in
       moved-give new b (give (accept b) t.0 (suc b.accepted) s) (accept b) t.0 (suc b.accepted) s m (λ r. omega arith) (λ r. omega arith) p
   moved_by f (Send q z) n l e p =
-      unseeded (eqb z.nd 0) q.0 (kept (payload_of f) (map (slot b q.0) (attached f z))) p
+      unseeded _ (eqb z.nd 0) q.0 (kept (payload_of f) (map (slot b q.0) (attached f z))) p
       (moved-send (b.user q.0) (map (slot b q.0) (destinations f z)) (map (slot b q.0) (attached f z)) (payload_of f)
       (map-all-of new (λ d. message (suc b.accepted) (record { to = d; user = b.user q.0; payload = payload_of f; carried = map (slot b q.0) (attached f z) }))
       (map (slot b q.0) (destinations f z)) n)

@@ -1,7 +1,7 @@
 -- The places by ascending key: each passes, no two have one key. Two such lists with the same elements are one. The slots of an owner by ascending owner ID.
 -- Assumes nothing.
 use Rattle.std.specs.Prelude.{ℕ, zero, suc, ◌+◌, ◌*◌, ◌≤◌, ◌<◌, ◌≡◌, refl, Bool, true, false, List, [], ◌∷◌, map, eqb, ltb}
-use Rattle.std.proofs.Common.{sym, ap, ap₂, arith, ltb-true, eqb-true, ne_eqb}
+use Rattle.std.proofs.Common.{sym, ap, ap₂, subst, arith, ltb-true, eqb-true, ne_eqb}
 use Rattle.laws.specs.Tests.{pick, Seen, Seen.is_true, Seen.is_false, look, Same, Same.same, Same.other, same?, clash}
 use Rattle.laws.specs.Loads.{all_map}
 use Rattle.laws.specs.Weights.{All, all-imp}
@@ -112,8 +112,10 @@ ascending-same key (x ∷ xs) (y ∷ ys) h k i j = go (same? x y) (ascending-sam
     go : Same x y → (All (λ z. any (eqb z) ys ≡ true) xs → All (λ z. any (eqb z) xs ≡ true) ys → xs ≡ ys) → x ∷ xs ≡ y ∷ ys
     go (other n) ih = absurd (omega (arith, sorted-above key y ys x k i.0 n, sorted-above key x xs y h j.0 (λ e. n (sym e))))
     go (same e) ih =
-        let a : All (λ z. any (eqb z) ys ≡ true) xs = among-rest key x xs ys h.0 (rw (← e) at i.1) in
-        let b : All (λ z. any (eqb z) xs ≡ true) ys = among-rest key y ys xs k.0 (rw e at j.1) in
+        let among-ys : ℕ → Type 0 = λ w. All (λ z. any (eqb z) (w ∷ ys) ≡ true) xs in
+        let among-xs : ℕ → Type 0 = λ w. All (λ z. any (eqb z) (w ∷ xs) ≡ true) ys in
+        let a : All (λ z. any (eqb z) ys ≡ true) xs = among-rest key x xs ys h.0 (subst among-ys (sym e) i.1) in
+        let b : All (λ z. any (eqb z) xs ≡ true) ys = among-rest key y ys xs k.0 (subst among-xs e j.1) in
         ap₂ ◌∷◌ e (ih a b)
 
 -- a key that is the same on every element

@@ -1,7 +1,7 @@
 -- An item with k ahead of it comes out at or before receive k + 1, or is lost: the proof, of histories.
 -- Assumes nothing.
 use Rattle.std.specs.Prelude.{ℕ, ◌+◌, ◌≤◌, ◌≡◌, refl, Bool, true, false, List, [], ◌∷◌, ◌++◌, map, length, get_or, eqb}
-use Rattle.std.proofs.Common.{ap, ◌∙◌, append_assoc, append-nil, arith, length-append, ne_eqb}
+use Rattle.std.proofs.Common.{subst, ap, ◌∙◌, append_assoc, append-nil, arith, length-append, ne_eqb}
 use Rattle.std.proofs.Math.Logic.◌⊎◌.{inl, inr}
 use Rattle.laws.specs.Tests.{pick}
 use Rattle.frames.specs.declared.Command.{Command}
@@ -94,11 +94,12 @@ one_at xs x w p =
     let cs = w.before in
     let s = story (length cs) cs (omega arith) in
     let y = fed w.call (step (run cs) w.call) in
-    let z : length (taken_by (ledger_after cs) p y) ≡ pick (receives_at p y) 1 0 =
+    let one : Fed → Type 0 = λ v. length (taken_by (ledger_after cs) p v) ≡ pick (receives_at p v) 1 0 in
+    let z : one y =
     ap (λ (q : List Item). length (pick (receives_at p y) (front q) [])) (s.follows.queues p)
     ∙ as_many s.name (receives_at p y) ((run cs).queue p)
     ∙ call-one (run cs) p w.call in
-    rw (w.gives, w.first) at z
+    rw w.first at (subst one w.gives z)
 
 pub one-each-in : OneEachIn
 unfolding taken_in receives_in

@@ -1,1 +1,3 @@
 // The bus as definitions and theorems; the crate has no code.
+
+#![tactic(auto)]

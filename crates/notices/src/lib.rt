@@ -1,5 +1,8 @@
 // Notices: which nodes they are about, in which order, and at which peers they are queued. A set of a peer's slots is a
 // number with a bit for each of the 16.
+
+#![tactic(auto)]
+
 ghost use Rattle.std.specs.Prelude.{◌≡◌, ◌<◌, ◌≤◌, length};
 ghost use Rattle.laws.specs.Tests.{pick};
 ghost use Rattle.rings.specs.Rings.{ring_size, rings_of, one_slot, QueueTables, released_bit};
@@ -17,7 +20,7 @@ use tables::Found;
 
 // Which of a peer's slots are asked for: those whose nodes live; those whose sum of counts falls to 1 when a peer's handle
 // goes; those of a set whose IDs are above the one of a place.
-#[derive(Drop)]
+#[derive(Clone, Copy)]
 pub enum Asked {
     Living,
     Falling(Peer),

@@ -1,5 +1,8 @@
 // The payloads of the queued messages in one lent table of 32,768 bytes: of each peer an area of 4,096, in which they
 // stand one behind another from its start, in the order of its queue.
+
+#![tactic(auto)]
+
 ghost use Rattle.std.specs.Prelude.{◌≡◌, ◌+◌, ◌*◌, ◌<◌, ◌≤◌, length};
 ghost use Rattle.rings.specs.Rings.{peers, ring_size, rings_of, QueueTables, length_of, queue_of};
 ghost use Rattle.pool.specs.Pool.{area_size, pool_size, piece_of, appended, closed, bytes_in, kept, kept_piece, kept_pieces};

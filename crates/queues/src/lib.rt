@@ -1,6 +1,9 @@
 // The queues with what belongs to their messages: a queue's rows, its payloads in the pool, and the users' charges at
 // its peer change together. A function requires the sizes of the tables that it is lent and that the peer is one of the
 // eight; any contents have a meaning.
+
+#![tactic(auto)]
+
 ghost use Rattle.std.specs.Prelude.{◌≡◌, false, List, ℕ, ◌*◌, ◌<◌, ◌≤◌, length, take, eqb};
 ghost use Rattle.laws.specs.Rows.{row_in};
 ghost use Rattle.rings.specs.Rings.{peers, ring_size, row_count, carried_fields, ends_size, entries_size, carried_size};

@@ -1,5 +1,8 @@
 // Charges and the quota rule of document 01. A charge counts what is queued of the three resources; the four users'
 // charges at a peer are one value, which charge and discharge take and hand back.
+
+#![tactic(auto)]
+
 ghost use Rattle.std.specs.Prelude.{◌≡◌, ◌+◌, ◌-◌, ◌<◌, min};
 ghost use Rattle.quota.specs.Rule.{half, allowed as allowed_by, left as left_of};
 ghost use Rattle.quota.specs.Charges.{nothing, plus as plus_of, less as less_of, fresh_charges};
@@ -8,7 +11,7 @@ ghost use Rattle.quota.specs.Charges.{own as own_of, charged, discharged, others
 use ids::User;
 
 // What is queued of each resource, or what a message adds: 1, its payload bytes and its attached handles.
-#[derive(Drop)]
+#[derive(Clone, Copy)]
 pub struct Charge {
     pub messages: u16,
     pub bytes: u16,
@@ -16,13 +19,13 @@ pub struct Charge {
 }
 
 // The four users' charges at one peer.
-#[derive(Drop)]
+#[derive(Clone, Copy)]
 pub struct Charges {
     pub by: [Charge; 4],
 }
 
 // The quota question's answer: what a user has queued, and what is left, in two's complement.
-#[derive(Drop)]
+#[derive(Clone, Copy)]
 pub struct Balance {
     pub queued: Charge,
     pub left: Charge,
@@ -120,7 +123,7 @@ impl Charge {
 }
 
 // What the other users have queued of each resource.
-#[derive(Drop)]
+#[derive(Clone, Copy)]
 pub struct Others {
     pub messages: u64,
     pub bytes: u64,

@@ -1,4 +1,7 @@
 // The bus found again from the bytes that were kept of a journal.
+
+#![tactic(auto)]
+
 ghost use Rattle.std.specs.Prelude.{◌≡◌, ◌+◌, ◌≤◌, length};
 ghost use Rattle.answers.specs.Answer.{answer_size};
 ghost use Rattle.frames.specs.Frame.{parse};
@@ -60,7 +63,7 @@ fn replay_frame(
 
 // What came of a line: it was carried out, and the next one starts so many characters on; there is no whole line; it was
 // refused, or is a question; or it is no frame, with the place of its fault.
-#[derive(Drop)]
+#[derive(Clone, Copy)]
 pub enum Step {
     Next(usize),
     End,

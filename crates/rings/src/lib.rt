@@ -1,6 +1,9 @@
 // The queues of the eight peers in four lent tables: of each peer a ring of RING rows, in which its queue stands from its
 // head on, oldest first. Row r of the peer p is row p * RING + r of the tables `entries` (5 numbers a row), `carried`
 // (8 slots a row) and `numbers` (the number of the command that queued it); `ends` has 2 numbers a peer, head and length.
+
+#![tactic(auto)]
+
 ghost use Rattle.std.specs.Prelude.{◌≡◌, false, List, ℕ, ◌+◌, ◌*◌, ◌-◌, ◌<◌, ◌≤◌, length};
 ghost use Rattle.std.proofs.lemmas.List.Edits.{sets};
 ghost use Rattle.laws.specs.Rows.{row_in};
@@ -34,7 +37,7 @@ pub const ALL_BITS: u8 = MESSAGE_BIT + NOTICE_BITS;
 
 // A queued entry: a message has its destination's slot, its sender's user, its payload bytes, its attached handles and
 // their slots; a notice has the slot that it is about.
-#[derive(Drop)]
+#[derive(Clone, Copy)]
 pub struct Entry {
     pub kind: u16,
     pub slot: u16,
@@ -47,7 +50,7 @@ pub struct Entry {
 
 // Which entries a removal takes out: those of a kind whose bit is set and of a slot whose bit is set, of the 16 slots from
 // `first` on.
-#[derive(Drop)]
+#[derive(Clone, Copy)]
 pub struct Match {
     pub kinds: u8,
     pub first: usize,
@@ -303,7 +306,7 @@ pub fn first_match(entries: &[u16], p: Peer, head: usize, len: usize, m: Match) 
 }
 
 // Where a sweep stands: the peer and its head, the entries read, the entries kept.
-#[derive(Drop)]
+#[derive(Clone, Copy)]
 struct At {
     p: Peer,
     head: usize,

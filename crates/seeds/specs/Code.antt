@@ -10,7 +10,7 @@ use Rattle.laws.specs.Rows.{row_in}
 use Rattle.ids.specs.Sizes.{most_ids, most_bytes, seeds_size}
 use Rattle.model.specs.Numbers.{peers, nodes}
 use Rattle.model.specs.Lists.{either, any, any_below}
-use Rattle.model.specs.Occurs.{any_below}
+use Rattle.model.specs.Occurs.{any_below_lem}
 use Rattle.model.specs.State.{Seed.unset, seed_carries, seeded}
 use Rattle.seeds.specs.Seeds.{row_at, area_at, set_at, count_at, slots_at, piece_at, head_of, stored, seed_at, seed_v}
 
@@ -127,7 +127,7 @@ naming-found t s q l eb e = go (look (any_below (naming t s) peers))
   where
     go : Seen (any_below (naming t s) peers) → true ≡ any_below (naming t s) peers
     go (is_true f) = sym f
-    go (is_false f) = clash (sym e ∙ eb ∙ any_below (naming t s) peers q l f)
+    go (is_false f) = clash (sym e ∙ eb ∙ any_below_lem (naming t s) peers q l f)
 
 pub naming-none : (t : List ℕ) (s q : ℕ) → q ≤ peers → peers ≤ q → any_below (naming t s) q ≡ false → false ≡ seeded (seed_v t) s
 unfolding seeded

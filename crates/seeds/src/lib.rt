@@ -1,5 +1,8 @@
 // The seeds of the eight peers in one lent table: of each peer a row (whether a seed is set, how many slots it carries, its
 // payload's length in two bytes, eight slots), and behind the rows the payload of each. Any contents have a meaning.
+
+#![tactic(auto)]
+
 ghost use Rattle.std.specs.Prelude.{◌≡◌, ◌+◌, ◌<◌, ◌≤◌, length, take, eqb};
 ghost use Rattle.std.proofs.lemmas.List.Edits.{sets};
 ghost use Rattle.laws.specs.Rows.{row_in};

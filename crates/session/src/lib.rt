@@ -1,5 +1,8 @@
 // Lines answered: from the lines of a chunk of input to the text of their answers, each line on the bus as the line
 // before left it. Reading the input and writing the text are the program's.
+
+#![tactic(auto)]
+
 ghost use Rattle.std.specs.Prelude.{◌≡◌, ◌+◌, ◌*◌, ◌≤◌, [], ◌∷◌, length, ltb};
 ghost use Rattle.std.proofs.lemmas.List.Edits.{sets};
 ghost use Rattle.lines.specs.Line.{answer_line};
@@ -126,7 +129,7 @@ fn used_by(read: LineRead) -> usize
 }
 
 // A turn: where the next line starts, how many characters the last one took, and where the next answer line goes.
-#[derive(Drop)]
+#[derive(Clone, Copy)]
 struct Turn {
     from: usize,
     used: usize,
@@ -176,7 +179,7 @@ fn answer_line(
 
 // How far the answering came: where the next line starts, where the text ends, and whether there is more to answer, for
 // which the text has to be written out first.
-#[derive(Drop)]
+#[derive(Clone, Copy)]
 pub struct Progress {
     pub from: usize,
     pub at: usize,

@@ -1,5 +1,8 @@
 // The lent tables of peers, nodes, handles and charges, each read and written by small functions of one table. A function
 // requires the size of the table that it is lent and bounds of the indices; any contents have a meaning.
+
+#![tactic(auto)]
+
 ghost use Rattle.std.specs.Prelude.{◌≡◌, ◌+◌, ◌-◌, ◌*◌, ◌^◌, ◌<◌, ◌≤◌, min, length, get_or};
 ghost use Rattle.std.specs.Int.Count.{count_trailing_zeros};
 ghost use Rattle.tables.specs.Peers.{modulus, accepted_at, status_at, standing_at, user_at};
@@ -41,7 +44,7 @@ const LENGTHS: usize = 2 * PEERS;
 const OWN_STEP: usize = BLOCK + HANDLE_FIELDS * SLOTS;
 
 // A peer was never opened, is open, or has disconnected.
-#[derive(Drop)]
+#[derive(Clone, Copy)]
 pub enum Status {
     Unopened,
     Open,
@@ -49,14 +52,14 @@ pub enum Status {
 }
 
 // The slot of an ID, or that the peer does not hold it.
-#[derive(Drop)]
+#[derive(Clone, Copy)]
 pub enum Found {
     At(usize),
     Nothing,
 }
 
 // What a search found, and how many records of the table it read.
-#[derive(Drop)]
+#[derive(Clone, Copy)]
 pub struct Sought {
     pub found: Found,
     pub reads: usize,
@@ -64,26 +67,26 @@ pub struct Sought {
 
 // A record that a search has read, with the number of records read so far; whether it is a handle that is held; a place in a
 // list; the places between which it is looked for.
-#[derive(Drop)]
+#[derive(Clone, Copy)]
 struct Entry {
     id: u64,
     word: u64,
     reads: usize,
 }
 
-#[derive(Drop)]
+#[derive(Clone, Copy)]
 struct Held {
     held: bool,
     reads: usize,
 }
 
-#[derive(Drop)]
+#[derive(Clone, Copy)]
 struct Place {
     at: usize,
     reads: usize,
 }
 
-#[derive(Drop)]
+#[derive(Clone, Copy)]
 struct Span {
     low: usize,
     high: usize,

@@ -11,6 +11,9 @@
 //   09           the balance of its user
 //   0a           the last byte of its ID as holder byte
 //   0c           00
+
+#![tactic(auto)]
+
 ghost use Rattle.std.specs.Prelude.{◌≡◌, ◌+◌, ◌≤◌, length};
 
 use answers::{Answer, Header, Received};
@@ -23,7 +26,7 @@ use quota::{Charge, Charges};
 const EDQUOT: u8 = 122;
 
 // An answer, and the charges after it.
-#[derive(Drop)]
+#[derive(Clone, Copy)]
 struct Answered {
     answer: Answer,
     charges: Charges,
@@ -188,7 +191,7 @@ fn answer_frame(frame: &[u8], charges: Charges) -> Charges {
 }
 
 // One line answered: how many characters it took, 0 where its LF is missing, and the charges after it.
-#[derive(Drop)]
+#[derive(Clone, Copy)]
 struct Turn {
     used: usize,
     charges: Charges,
@@ -218,7 +221,7 @@ fn answer_line(s: &[u8], charges: Charges) -> Turn
 }
 
 // The lines of the input answered: where the piece behind the last LF starts, and the charges.
-#[derive(Drop)]
+#[derive(Clone, Copy)]
 struct Lines {
     at: usize,
     charges: Charges,
@@ -255,7 +258,7 @@ fn answer_end(s: &[u8]) {
 }
 
 // A chunk answered: how many characters are carried over, the charges, and whether the input goes on.
-#[derive(Drop)]
+#[derive(Clone, Copy)]
 struct Chunk {
     held: usize,
     charges: Charges,

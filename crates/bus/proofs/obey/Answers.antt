@@ -1,0 +1,19 @@
+-- `bus::obey` meets its contract: one law for each return, in the order of the tests. Assumes nothing.
+use mathlib.Core.Path.{sym, ◌∙◌}
+use borrow.Author.Tests.{not-true, not-false}
+use Rattle.frames.specs.Legal.{legal-command}
+use Rattle.bus.specs.Code.{not_sound, not-read, was_read, sound-then}
+use borrow.Author.Rules.{rules}
+use Rattle.bus.proofs.obey.Goals as goal
+
+pub returns-then-not-is_sound : goal.returns-then-not-is_sound
+returns-then-not-is_sound c = not_sound _ _ _ c.requires c.is_sound.ensures c.if-not-is_sound.true c.write_refusal.ensures
+
+pub execute-requires : goal.execute-requires
+execute-requires c = let z = sound-then _ c.is_sound.ensures c.if-not-is_sound.false in (z.0, z.1, legal-command _ _ (sym c.parse.ensures ∙ c.in-Read.is))
+
+pub returns-in-Refused : goal.returns-in-Refused
+returns-in-Refused c = not-read _ _ _ c.requires c.is_sound.ensures c.if-not-is_sound.false c.parse.ensures c.in-Refused.is c.write_refusal-in-Refused.ensures
+
+pub returns-in-Read : goal.returns-in-Read
+returns-in-Read c = was_read _ _ _ c.requires c.is_sound.ensures c.if-not-is_sound.false c.parse.ensures c.in-Read.is c.execute.ensures

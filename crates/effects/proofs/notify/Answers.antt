@@ -1,0 +1,15 @@
+-- `effects::notify` meets its contract: nothing changes where the node is dead or the sum of counts is not 1; else the notice is entered at the owner. Assumes nothing.
+use borrow.Author.Tests.{not-true, not-false}
+use Rattle.rings.specs.Rings.{rings_of}
+use Rattle.effects.specs.CodeChanges.{notify-dead, notify-one, notify-more}
+use borrow.Author.Rules.{rules}
+use Rattle.effects.proofs.notify.Goals as goal
+
+pub returns-then-not-is_live : goal.returns-then-not-is_live
+returns-then-not-is_live c = let a = c.args in notify-dead a.nodes.now a.handles.now (rings_of a.ends.now a.entries.now a.carried.now a.numbers.now) a.s a.n c.is_live.ensures c.if-not-is_live.true
+
+pub returns-then-total-eq1 : goal.returns-then-total-eq1
+returns-then-total-eq1 c = let a = c.args in notify-one a.nodes.now a.handles.now (rings_of a.ends.now a.entries.now a.carried.now a.numbers.now) a.s a.n c.is_live.ensures c.if-not-is_live.false c.total.ensures c.if-total-eq1.true c.notice-e.ensures c.enter.ensures
+
+pub returns-else-total-eq1 : goal.returns-else-total-eq1
+returns-else-total-eq1 c = let a = c.args in notify-more a.nodes.now a.handles.now (rings_of a.ends.now a.entries.now a.carried.now a.numbers.now) a.s a.n c.is_live.ensures c.if-not-is_live.false c.total.ensures c.if-total-eq1.false

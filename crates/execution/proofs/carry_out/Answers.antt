@@ -1,0 +1,52 @@
+-- `execution::carry_out` meets its contract: a receive and 0c write their answers themselves, every other order is answered plainly. Assumes nothing.
+use Prim.Native.Nat.{ℕ}
+use mathlib.Core.Path.{◌≡◌, refl}
+use mathlib.Core.List.{List, [], ◌∷◌}
+use types.Run.{OneOf, miss}
+use denote.Enum.Declared as declared
+use Rattle.judges.specs.contracts.Order as the
+use Rattle.judges.specs.declared.Order.{Order}
+use Rattle.judges.specs.declared.Order.TheVariants as order
+use Rattle.judges.specs.declared.Places.{Places}
+use Rattle.view.specs.View.{Bus}
+use Rattle.bus_model.specs.Command.{answered, carried, reply_to, altered, changed}
+use Rattle.execution.specs.Code.{fair-as, did-receive, did-show, did-change}
+use borrow.Author.Rules.{rules}
+use Rattle.execution.proofs.carry_out.Goals as goal
+
+-- The orders other than a receive and 0c.
+abbrev rest : List ℕ
+rest = 0 ∷ 1 ∷ 2 ∷ 3 ∷ 4 ∷ 5 ∷ 6 ∷ 7 ∷ 10 ∷ 11 ∷ []
+
+others : (b : Bus) (f out : List ℕ) (x : Order) (w : Places) → OneOf rest (declared.tag_of the.the_type x) → answered (changed b f x w).answer (changed b f x w).bus out ≡ carried b f out x w
+unfolding reply_to altered changed
+others b f out (order.Refuse n) w k = refl
+others b f out (order.Open p u) w k = refl
+others b f out (order.Disconnect p) w k = refl
+others b f out (order.Create p i s) w k = refl
+others b f out (order.Destroy p s) w k = refl
+others b f out (order.Release p s) w k = refl
+others b f out (order.Transfer q s) w k = refl
+others b f out (order.Send p z) w k = refl
+others b f out (order.Receive p) w k = absurd (miss rest 8 tt k)
+others b f out (order.ShowSeed p) w k = absurd (miss rest 9 tt k)
+others b f out (order.Quota p u) w k = refl
+others b f out (order.Holders s) w k = refl
+
+pub receive-requires : goal.receive-requires
+receive-requires c = let z = c.requires.0 in let h = fair-as c.in-Receive.is c.requires.2 in (z.peers, z.nodes, z.handles, z.charges, record { ends = z.ends; rows = z.rows }, z.pool, h, c.requires.1 _ h)
+
+pub show_seed-requires : goal.show_seed-requires
+show_seed-requires c = let z = c.requires.0 in let h = fair-as c.in-ShowSeed.is c.requires.2 in (z.peers, z.nodes, z.handles, record { ends = z.ends; rows = z.rows }, z.seeds, h)
+
+pub change-a-requires : goal.change-a-requires
+change-a-requires c = (c.requires.0, c.requires.2)
+
+pub returns-in-Receive : goal.returns-in-Receive
+returns-in-Receive c = did-receive _ _ _ _ _ _ _ _ _ _ _ _ _ c.in-Receive.is c.receive.ensures
+
+pub returns-in-ShowSeed : goal.returns-in-ShowSeed
+returns-in-ShowSeed c = did-show _ _ _ _ _ _ _ _ _ _ _ _ _ c.in-ShowSeed.is c.show_seed.ensures
+
+pub returns-in_default : goal.returns-in_default
+returns-in_default c = did-change _ _ _ _ c.change-a.ensures c.write_plain.ensures (others _ _ _ c.args.r.order _ c.in_default.in_default-own.keys3)

@@ -1,0 +1,19 @@
+-- `notices::least_id` meets its contract: the loop's invariant is the place with the least ID among the places passed. Assumes nothing.
+use mathlib.Core.Logic.{⊎_elim}
+use mathlib.Core.Path.{◌≡◌}
+use Prim.Native.Nat.{◌-◌, ◌≤◌}
+use Rattle.notices.specs.Notices.{least_at}
+use Rattle.notices.specs.Code.{least-none, least-in, least-out, least-all}
+use native.Mathlib.Omega.{arith}
+use borrow.Author.Rules.{rules}
+use Rattle.ids.specs.Sizes.{slots}
+use Rattle.notices.proofs.least_id.Goals as goal
+
+pub loop-k-init : goal.loop-k-init
+loop-k-init c = (omega arith, least-none _ _ _)
+
+pub loop-k-preserved : goal.loop-k-preserved
+loop-k-preserved c = (omega arith, ⊎_elim (λ w. least-in _ _ _ c.loop-k.k c.loop-k.invariant.1 c.wide.ensures.0 c.bit.ensures w.0.taken w.1.ensures w.2) (λ w. least-out _ _ _ c.loop-k.k c.loop-k.invariant.1 c.wide.ensures.0 c.bit.ensures w.0.left w.1) c.if-bit.branch)
+
+pub returns : goal.returns
+returns c = least-all _ _ _ c.loop-k.k c.loop-k.invariant.1 (omega (arith, c.loop-k.invariant.0, c.loop-k-test.false))

@@ -1,0 +1,21 @@
+-- `notices::tell_owners` meets its contract: the loop's invariant is the rings after the owners passed are told. Assumes nothing.
+use Prim.Native.Nat.{◌-◌}
+use Rattle.rings.specs.Rings.{rings_of}
+use Rattle.notices.specs.Code.{Owning, owning-start, owning-next, owning-all}
+use Rattle.ids.specs.Sizes.{peers}
+use native.Mathlib.Omega.{arith}
+use borrow.Author.Rules.{rules}
+use Rattle.notices.proofs.tell_owners.Reads as reads
+use Rattle.notices.proofs.tell_owners.Lts as lts
+use Rattle.notices.proofs.set_of.Reads as set-of-reads
+use Rattle.notices.proofs.tell.Reads as tell-reads
+use Rattle.notices.proofs.tell_owners.Goals as goal
+
+pub loop-q-init : goal.loop-q-init
+loop-q-init c = let a = c.args in owning-start _ _ _ _ (rings_of a.ends.now a.entries.now a.carried.now a.numbers.now) c.requires.2.ends c.requires.2.rows
+
+pub loop-q-preserved : goal.loop-q-preserved
+loop-q-preserved c = let a = c.args in owning-next a.nodes.now a.handles.now a.p.0 a.n (rings_of a.ends.now a.entries.now a.carried.now a.numbers.now) c.loop-q.invariant c.loop-q-test.true c.set_of-set.ensures c.tell.ensures
+
+pub returns : goal.returns
+returns c = let a = c.args in owning-all a.nodes.now a.handles.now a.p.0 a.n (rings_of a.ends.now a.entries.now a.carried.now a.numbers.now) c.loop-q.invariant c.loop-q-test.false

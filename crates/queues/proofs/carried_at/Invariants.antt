@@ -1,0 +1,12 @@
+-- `queues::carried_at` meets its contract: after each turn what is left of the queue answers as the whole; the measure is what is left to read. Assumes nothing.
+use Prim.Native.Nat.{◌-◌}
+use Rattle.rings.specs.Rings.{rings_of}
+use Rattle.queues.specs.Code.{Bringing, bringing-start, bringing-end, bringing-found, bringing-next}
+use borrow.Author.Rules.{rules}
+use Rattle.queues.proofs.carried_at.Given as goal
+
+abbrev pub invariant-loop-i : goal.invariant-loop-i
+invariant-loop-i l = Bringing (rings_of l.ends l.entries l.carried l.numbers) l.p.0 l.s l.n l.i
+
+abbrev pub decreases-loop-i : goal.decreases-loop-i
+decreases-loop-i l = l.len - l.i

@@ -1,0 +1,15 @@
+-- `queues::lessen_all` meets its contract: after each turn the charges so far, lessened by what is left of the queue, are those of the whole; the measure is what is left to read. Assumes nothing.
+use Prim.Native.Nat.{◌-◌}
+use Rattle.rings.specs.Rings.{rings_of}
+use Rattle.queues.specs.Code.{Lessening, lessening-start, lessening-next, lessening-done}
+use borrow.Author.Rules.{rules}
+use Rattle.queues.proofs.lessen_all.Goals as goal
+
+pub loop-i-init : goal.loop-i-init
+loop-i-init c = lessening-start _ _ _ _
+
+pub loop-i-preserved : goal.loop-i-preserved
+loop-i-preserved c = lessening-next c.loop-i.invariant c.len_of-len.ensures.0 c.loop-i-test.true c.head_of-head.ensures.0 c.row_of-row.ensures.0 c.get_entry-e.ensures c.lessen-rest.ensures
+
+pub returns : goal.returns
+returns c = lessening-done c.loop-i.invariant c.len_of-len.ensures.0 c.loop-i-test.false

@@ -1,0 +1,7 @@
+-- `rings::clear` meets its contract: one store, that of the definition. Assumes nothing.
+use Rattle.rings.specs.Code.{clear-made}
+use borrow.Author.Rules.{rules}
+use Rattle.rings.proofs.clear.Goals as goal
+
+pub returns : goal.returns
+returns c = clear-made _ _

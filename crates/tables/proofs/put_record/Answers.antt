@@ -1,0 +1,14 @@
+-- `tables::put_record` meets its contract: two stores, which are the definition's. Assumes nothing.
+use Rattle.tables.specs.Handles.{put_handle}
+use mathlib.Core.Path.{refl}
+use lib.ListN.{length-set}
+use native.Mathlib.Omega.{arith}
+use borrow.Author.Rules.{rules}
+use Rattle.tables.proofs.put_record.Goals as goal
+
+pub bounds-handles-at-2 : goal.bounds-handles-at-2
+bounds-handles-at-2 c = simp length-set (omega arith)
+
+pub returns : goal.returns
+unfolding put_handle
+returns c = refl

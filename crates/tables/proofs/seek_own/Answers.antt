@@ -1,0 +1,23 @@
+-- `tables::seek_own` meets its contract: the loop's invariant is that no slot passed has the ID and that each was one read. Assumes nothing.
+use Rattle.tables.specs.Handles.{has_at}
+use Rattle.tables.specs.CodeLaws.{own_row, own_at, own-nothing}
+use borrow.Author.Count.{below_more}
+use mathlib.Core.Bool.{false}
+use mathlib.Core.Path.{◌≡◌, sym, ◌∙◌}
+use Prim.Native.Nat.{ℕ, ◌+◌, ◌*◌, ◌≤◌, ◌-◌, ◌<◌}
+use native.Mathlib.Omega.{arith}
+use borrow.Author.Rules.{rules}
+use Rattle.ids.specs.Sizes.{slots}
+use Rattle.tables.proofs.seek_own.Goals as goal
+
+pub loop-k-init : goal.loop-k-init
+loop-k-init c = (omega arith, omega arith, λ k h. absurd (omega arith))
+
+pub returns-then-e : goal.returns-then-e
+returns-then-e c = (own_at c.args.handles.now c.args.p.0 c.args.id.0 c.loop-k.k c.loop-k-test.true c.loop-k.invariant.2 (sym (own_row c.args.handles.now c.args.p.0 c.args.id.0 c.loop-k.k) ∙ sym c.holds-e.ensures.0 ∙ c.if-e.true), omega (arith, c.holds-e.ensures.1, c.loop-k.invariant.1, c.loop-k-test.true))
+
+pub loop-k-preserved : goal.loop-k-preserved
+loop-k-preserved c = (omega (arith, c.loop-k-test.true), omega (arith, c.holds-e.ensures.1, c.loop-k.invariant.1), below_more _ _ c.loop-k.invariant.2 (sym (own_row c.args.handles.now c.args.p.0 c.args.id.0 c.loop-k.k) ∙ sym c.holds-e.ensures.0 ∙ c.if-e.false))
+
+pub returns : goal.returns
+returns c = (own-nothing c.args.handles.now c.args.p.0 c.args.id.0 (λ j l. c.loop-k.invariant.2 j (omega (arith, c.loop-k-test.false))), omega (arith, c.loop-k.invariant.1, c.loop-k.invariant.0))

@@ -1,0 +1,15 @@
+-- `tables::shift` meets its contract: the loop's invariant is the definition so far. Assumes nothing.
+use Rattle.tables.specs.Handles.{shifted}
+use Rattle.tables.specs.CodeLaws.{shift_none, shift-more, shift-all}
+use lib.ListN.{length}
+use mathlib.Core.Path.{◌≡◌, refl}
+use Prim.Native.Nat.{◌≤◌, ◌<◌, ◌+◌, ◌-◌}
+use native.Mathlib.Omega.{arith}
+use borrow.Author.Rules.{rules}
+use Rattle.tables.proofs.shift.Given as goal
+
+abbrev pub invariant-loop-m : goal.invariant-loop-m
+invariant-loop-m l = (l.k + l.m < l.n) × (length l.handles ≡ length l.initial.handles) × (l.handles ≡ shifted l.initial.handles l.p.0 l.k l.m)
+
+abbrev pub decreases-loop-m : goal.decreases-loop-m
+decreases-loop-m l = l.n - l.m

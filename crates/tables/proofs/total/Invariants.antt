@@ -1,0 +1,16 @@
+-- `tables::total` meets its contract: the loop's invariant is the sum of the counts of the peers passed, which fits because each is below 2^60. Assumes nothing.
+use Rattle.tables.specs.Peers.{modulus}
+use Rattle.tables.specs.Handles.{total_below}
+use Rattle.tables.specs.CodeLaws.{total-none, total-more, total-all}
+use mathlib.Core.Path.{◌≡◌}
+use Prim.Native.Nat.{◌≤◌, ◌*◌, ◌-◌}
+use native.Mathlib.Omega.{arith}
+use borrow.Author.Rules.{rules}
+use Rattle.ids.specs.Sizes.{peers}
+use Rattle.tables.proofs.total.Given as goal
+
+abbrev pub invariant-loop-q : goal.invariant-loop-q
+invariant-loop-q l = (l.q ≤ peers) × (l.sum ≤ l.q * modulus) × (l.sum ≡ total_below l.handles l.s l.q)
+
+abbrev pub decreases-loop-q : goal.decreases-loop-q
+decreases-loop-q l = peers - l.q
