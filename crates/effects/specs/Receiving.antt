@@ -2,7 +2,7 @@
 -- Assumes nothing.
 use Rattle.std.specs.Prelude.{ℕ, zero, suc, ◌+◌, ◌*◌, ◌/◌, ◌%◌, min, ◌≤◌, ◌<◌, ◌≡◌, Bool, true, false, List, [], ◌∷◌, length, get_or, drop, ltb}
 use Rattle.std.proofs.Math.Path.{refl, sym, ap, ap₂}
-use Rattle.std.proofs.Common.{◌∙◌, arith, length-take, get_or-take, length-take-le, eq-eqb, ltb-true}
+use Rattle.std.proofs.Common.{subst, ◌∙◌, arith, length-take, get_or-take, length-take-le, eq-eqb, ltb-true}
 use Rattle.std.proofs.Math.ListN.{take}
 use Rattle.laws.specs.Tests.{Seen, Seen.is_true, Seen.is_false, look}
 use Rattle.laws.specs.Tables.{upd, upd_same, upd-self, upd-all}
@@ -388,7 +388,9 @@ module _ (b : Bus) (p : ℕ) (out : List ℕ) (h : Shape b) (g : Good (state_of 
         (rw taken-queue (all_both (Dated (state_of b).life) (λ e. stays ((state_of b).handle p) first e ≡ true) rest dated.1 founded.1)))
       where
         founded : All (λ e. stays ((state_of b).handle p) first e ≡ true) first
-        founded = rw (whole, f) at (g.founded p)
+        founded =
+            let so : List Entry → Type 0 = λ q. All (λ e. stays ((state_of b).handle p) q e ≡ true) q in
+            subst so (whole ∙ ap (λ (x : Entry). x ∷ rest) f) (g.founded p)
 
         dated : All (Dated (state_of b).life) first
         dated =

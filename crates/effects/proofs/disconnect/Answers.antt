@@ -6,10 +6,10 @@ use borrow.Author.Rules.{rules}
 use Rattle.effects.proofs.disconnect.Goals as goal
 
 pub empty-requires : goal.empty-requires
-empty-requires c = let z = c.requires in (z.3, omega (arith, z.4.ends, c.destroy_set.auto.carried), z.5)
+empty-requires c = let z = c.requires in (z.3, omega (arith, z.4.ends, c.destroy_set.auto.ends), z.5)
 
 pub tell_owners-requires : goal.tell_owners-requires
-tell_owners-requires c = let z = c.requires in let d = c.destroy_set.auto in (omega (arith, z.1, d.nodes), z.2, record { ends = omega (arith, z.4.ends, d.carried, c.empty.auto.ends); rows = record { entries = omega (arith, z.4.rows.entries, d.numbers); carried = omega (arith, z.4.rows.carried, d.1.1.1.1.1.0); numbers = omega (arith, z.4.rows.numbers, d.1.1.1.1.1.1.0) } }, z.5)
+tell_owners-requires c = let z = c.requires in let d = c.destroy_set.auto in (omega (arith, z.1, d.nodes), z.2, record { ends = omega (arith, z.4.ends, d.ends, c.empty.auto.ends); rows = record { entries = omega (arith, z.4.rows.entries, d.entries); carried = omega (arith, z.4.rows.carried, d.carried); numbers = omega (arith, z.4.rows.numbers, d.numbers) } }, z.5)
 
 pub clear_peer-requires : goal.clear_peer-requires
 clear_peer-requires c = let z = c.requires in (z.2, z.5)

@@ -7,7 +7,7 @@ use borrow.Author.Rules.{rules}
 use Rattle.effects.proofs.write_seed.Goals as goal
 
 pub slice_bounds-write_seed-end : goal.slice_bounds-write_seed-end
-slice_bounds-write_seed-end c = sym (length-take-le _ c.args.ids (omega (arith, c.requires.2, c.before.before.before.before.before.well-formed.1.1.1.1.1.0.1.0.1)))
+slice_bounds-write_seed-end c = sym (length-take-le _ c.args.ids (omega (arith, c.requires.2)))
 
 pub returns : goal.returns
 returns c = write-seed-done c.args.seeds.now c.args.p.0 c.args.user.0 c.args.nh c.args.ids c.args.out.now c.nb_of-nb.ensures.0 refl c.piece.ensures c.write_seed.ensures

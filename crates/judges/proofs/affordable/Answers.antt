@@ -13,10 +13,10 @@ pub allowed_at-requires : goal.allowed_at-requires
 allowed_at-requires c = (c.requires.0, c.requires.1, c.requires.2, c.requires.3, omega arith)
 
 pub returns-then-not-allowed_at : goal.returns-then-not-allowed_at
-returns-then-not-allowed_at c = affordable-over _ _ _ _ _ _ _ c.loop-k.invariant c.loop-k-test.true (omega (arith, c.requires.1, c.before.before.before.before.before.before.well-formed.0)) c.allowed_at.ensures c.if-not-allowed_at.true
+returns-then-not-allowed_at c = affordable-over _ _ _ _ _ _ _ c.loop-k.invariant c.loop-k-test.true (omega (arith, c.requires.1)) c.allowed_at.ensures c.if-not-allowed_at.true
 
 pub loop-k-preserved : goal.loop-k-preserved
-loop-k-preserved c = affordable-more _ _ _ _ _ _ _ c.loop-k.invariant c.loop-k-test.true (omega (arith, c.requires.1, c.before.before.before.before.before.before.well-formed.0)) c.allowed_at.ensures c.if-not-allowed_at.false
+loop-k-preserved c = affordable-more _ _ _ _ _ _ _ c.loop-k.invariant c.loop-k-test.true (omega (arith, c.requires.1)) c.allowed_at.ensures c.if-not-allowed_at.false
 
 pub returns : goal.returns
 returns c = affordable-end _ _ _ _ _ _ _ c.loop-k.invariant c.loop-k-test.false

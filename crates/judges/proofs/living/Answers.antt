@@ -10,10 +10,10 @@ pub loop-k-init : goal.loop-k-init
 loop-k-init c = living-start _ _ _
 
 pub returns-then-not-is_live : goal.returns-then-not-is_live
-returns-then-not-is_live c = living-dead _ _ _ _ c.loop-k.invariant c.loop-k-test.true (omega (arith, c.requires.1, c.before.before.before.before.before.well-formed.0)) c.is_live.ensures c.if-not-is_live.true
+returns-then-not-is_live c = living-dead _ _ _ _ c.loop-k.invariant c.loop-k-test.true (omega (arith, c.requires.1)) c.is_live.ensures c.if-not-is_live.true
 
 pub loop-k-preserved : goal.loop-k-preserved
-loop-k-preserved c = living-more _ _ _ _ c.loop-k.invariant c.loop-k-test.true (omega (arith, c.requires.1, c.before.before.before.before.before.well-formed.0)) c.is_live.ensures c.if-not-is_live.false
+loop-k-preserved c = living-more _ _ _ _ c.loop-k.invariant c.loop-k-test.true (omega (arith, c.requires.1)) c.is_live.ensures c.if-not-is_live.false
 
 pub returns : goal.returns
 returns c = living-end _ _ _ _ c.loop-k.invariant c.loop-k-test.false

@@ -1,6 +1,5 @@
 -- `notices::expire_shown` meets its contract: the loop's invariant is the rings after the places passed. Assumes nothing.
-use Prim.Native.Nat.{◌-◌, ◌%◌}
-use mathlib.Core.Logic.{⊎_elim}
+use Prim.Native.Nat.{ℕ, ◌-◌, ◌%◌}
 use mathlib.Core.Path.{◌∙◌}
 use lib.ListN.{get_or}
 use Rattle.rings.specs.Rings.{rings_of}
@@ -9,12 +8,33 @@ use Rattle.notices.specs.Code.{Expiring, expiring-start, expiring-in, expiring-o
 use Rattle.model.specs.Numbers.{nodes as node_count}
 use borrow.Author.Rules.{rules}
 use Rattle.notices.proofs.expire_shown.Goals as goal
+use Rattle.notices.proofs.expire_shown.Goals.{then-ids-k+then-s-p, then-ids-k+else-s-p, else-ids-k}
 
 pub loop-k-init : goal.loop-k-init
 loop-k-init c = expiring-start c.args.nodes.now c.args.handles.now c.args.charges.now c.args.p.0 (own_invalid c.args.p.0 c.args.slots c.args.ids) (λ k. get_or c.args.slots k 0 % node_count) (rings_of c.args.ends.now c.args.entries.now c.args.carried.now c.args.numbers.now) c.args.nh c.requires.3.ends c.requires.3.rows
 
 pub loop-k-preserved : goal.loop-k-preserved
-loop-k-preserved c = let v = c.loop-k.invariant in let l = c.loop-k-test.true in ⊎_elim (λ w. expiring-in c.args.nodes.now c.args.handles.now c.args.charges.now c.args.p.0 (own_invalid c.args.p.0 c.args.slots c.args.ids) (λ k. get_or c.args.slots k 0 % node_count) (rings_of c.args.ends.now c.args.entries.now c.args.carried.now c.args.numbers.now) c.args.nh v l (shown-own c.args.p.0 c.args.slots c.args.ids c.loop-k.k w.0.taken w.2.taken) (rings-same w.16 w.17 w.18 w.19 ∙ w.7.ensures)) (λ u. ⊎_elim (λ w. expiring-out c.args.nodes.now c.args.handles.now c.args.charges.now c.args.p.0 (own_invalid c.args.p.0 c.args.slots c.args.ids) (λ k. get_or c.args.slots k 0 % node_count) (rings_of c.args.ends.now c.args.entries.now c.args.carried.now c.args.numbers.now) c.args.nh v l (shown-other c.args.p.0 c.args.slots c.args.ids c.loop-k.k w.0.taken w.2.left) (rings-same w.3 w.4 w.5 w.6)) (λ w. expiring-out c.args.nodes.now c.args.handles.now c.args.charges.now c.args.p.0 (own_invalid c.args.p.0 c.args.slots c.args.ids) (λ k. get_or c.args.slots k 0 % node_count) (rings_of c.args.ends.now c.args.entries.now c.args.carried.now c.args.numbers.now) c.args.nh v l (shown-valid c.args.p.0 c.args.slots c.args.ids c.loop-k.k w.0.left) (rings-same w.1 w.2 w.3 w.4)) u) c.if-ids-k.branch
+loop-k-preserved c =
+    let a = c.args in
+    let before = rings_of a.ends.now a.entries.now a.carried.now a.numbers.now in
+    let here = own_invalid a.p.0 a.slots a.ids in
+    let slot_at : ℕ → ℕ = λ k. get_or a.slots k 0 % node_count in
+    let v = c.loop-k.invariant in
+    let l = c.loop-k-test.true in
+    elim c.if-ids-k.branch [
+      then-ids-k+then-s-p w ↦
+        expiring-in a.nodes.now a.handles.now a.charges.now a.p.0 here slot_at before a.nh v l
+        (shown-own a.p.0 a.slots a.ids c.loop-k.k w.if-ids-k.true w.if-s-p.true)
+        (rings-same w.ends-is w.entries-is w.carried-is w.numbers-is ∙ w.expire.ensures)
+      | then-ids-k+else-s-p w ↦
+        expiring-out a.nodes.now a.handles.now a.charges.now a.p.0 here slot_at before a.nh v l
+        (shown-other a.p.0 a.slots a.ids c.loop-k.k w.if-ids-k.true w.if-s-p.false)
+        (rings-same w.ends-is w.entries-is w.carried-is w.numbers-is)
+      | else-ids-k w ↦
+        expiring-out a.nodes.now a.handles.now a.charges.now a.p.0 here slot_at before a.nh v l
+        (shown-valid a.p.0 a.slots a.ids c.loop-k.k w.if-ids-k.false)
+        (rings-same w.ends-is w.entries-is w.carried-is w.numbers-is)
+    ]
 
 pub returns : goal.returns
 returns c = expiring-all c.args.nodes.now c.args.handles.now c.args.charges.now c.args.p.0 (own_invalid c.args.p.0 c.args.slots c.args.ids) (λ k. get_or c.args.slots k 0 % node_count) (rings_of c.args.ends.now c.args.entries.now c.args.carried.now c.args.numbers.now) c.args.nh c.loop-k.invariant c.loop-k-test.false

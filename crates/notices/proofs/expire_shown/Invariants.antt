@@ -12,7 +12,7 @@ use Rattle.notices.proofs.expire_shown.Given as goal
 
 abbrev pub invariant-loop-k : goal.invariant-loop-k
 invariant-loop-k l =
-    Expiring l.nodes l.handles l.charges l.p.0 (own_invalid l.p.0 l.slots l.ids) (λ l.k. get_or l.slots l.k 0 % node_count) (rings_of l.initial.ends l.initial.entries l.initial.carried l.initial.numbers) (rings_of l.ends l.entries l.carried l.numbers) l.k l.nh
+    Expiring l.nodes l.handles l.charges l.p.0 (own_invalid l.p.0 l.slots l.ids) (λ j. get_or l.slots j 0 % node_count) (rings_of l.initial.ends l.initial.entries l.initial.carried l.initial.numbers) (rings_of l.ends l.entries l.carried l.numbers) l.k l.nh
 
 abbrev pub decreases-loop-k : goal.decreases-loop-k
 decreases-loop-k l = l.nh - l.k

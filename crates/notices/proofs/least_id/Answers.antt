@@ -1,5 +1,4 @@
 -- `notices::least_id` meets its contract: the loop's invariant is the place with the least ID among the places passed. Assumes nothing.
-use mathlib.Core.Logic.{⊎_elim}
 use mathlib.Core.Path.{◌≡◌}
 use Prim.Native.Nat.{◌-◌, ◌≤◌}
 use Rattle.notices.specs.Notices.{least_at}
@@ -8,12 +7,16 @@ use native.Mathlib.Omega.{arith}
 use borrow.Author.Rules.{rules}
 use Rattle.ids.specs.Sizes.{slots}
 use Rattle.notices.proofs.least_id.Goals as goal
+use Rattle.notices.proofs.least_id.Goals.{then-bit, else-bit}
 
 pub loop-k-init : goal.loop-k-init
 loop-k-init c = (omega arith, least-none _ _ _)
 
 pub loop-k-preserved : goal.loop-k-preserved
-loop-k-preserved c = (omega arith, ⊎_elim (λ w. least-in _ _ _ c.loop-k.k c.loop-k.invariant.1 c.wide.ensures.0 c.bit.ensures w.0.taken w.1.ensures w.2) (λ w. least-out _ _ _ c.loop-k.k c.loop-k.invariant.1 c.wide.ensures.0 c.bit.ensures w.0.left w.1) c.if-bit.branch)
+loop-k-preserved c = (omega arith, elim c.if-bit.branch [
+      then-bit w ↦ least-in _ _ _ c.loop-k.k c.loop-k.invariant.1 c.wide.ensures.0 c.bit.ensures w.if-bit.true w.lower-found.ensures w.found-is
+      | else-bit w ↦ least-out _ _ _ c.loop-k.k c.loop-k.invariant.1 c.wide.ensures.0 c.bit.ensures w.if-bit.false w.found-is
+    ])
 
 pub returns : goal.returns
 returns c = least-all _ _ _ c.loop-k.k c.loop-k.invariant.1 (omega (arith, c.loop-k.invariant.0, c.loop-k-test.false))

@@ -62,7 +62,7 @@ pub shape_of-seeds-in_default : goal.shape_of-seeds-in_default
 shape_of-seeds-in_default c = omega (arith, c.replay_line-step.auto.seeds, c.loop-n.invariant.10)
 
 pub shape_of-out-in_default : goal.shape_of-out-in_default
-shape_of-out-in_default c = omega (arith, c.replay_line-step.auto.1.1.1.1.1.1.1.1.1.1.1.1.0, c.loop-n.invariant.11)
+shape_of-out-in_default c = omega (arith, c.replay_line-step.auto.out, c.loop-n.invariant.11)
 
 pub returns-in_default : goal.returns-in_default
 returns-in_default c = invariant-halts c.loop-n.invariant.0 c.loop-n-test.true c.replay_line-step.ensures (others c.replay_line-step.result c.in_default.in_default-own.keys2) c.halted.ensures
@@ -74,7 +74,7 @@ pub overflow_add-n : goal.overflow_add-n
 overflow_add-n c = omega (arith, c.loop-n-test.true, c.ranges)
 
 pub loop-n-preserved : goal.loop-n-preserved
-loop-n-preserved c = (invariant-next c.loop-n.invariant.0 c.loop-n-test.true c.replay_line-step.ensures c.in-Next.is c.replay_line-step.auto.1.1.1.1.1.1.1.1.1.1.1.1.0, omega (arith, c.replay_line-step.auto.ps, c.loop-n.invariant.1), omega (arith, c.replay_line-step.auto.ns, c.loop-n.invariant.2), omega (arith, c.replay_line-step.auto.hs, c.loop-n.invariant.3), omega (arith, c.replay_line-step.auto.cs, c.loop-n.invariant.4), omega (arith, c.replay_line-step.auto.ends, c.loop-n.invariant.5), omega (arith, c.replay_line-step.auto.es, c.loop-n.invariant.6), omega (arith, c.replay_line-step.auto.carried, c.loop-n.invariant.7), omega (arith, c.replay_line-step.auto.numbers, c.loop-n.invariant.8), omega (arith, c.replay_line-step.auto.pool, c.loop-n.invariant.9), omega (arith, c.replay_line-step.auto.seeds, c.loop-n.invariant.10), omega (arith, c.replay_line-step.auto.1.1.1.1.1.1.1.1.1.1.1.1.0, c.loop-n.invariant.11))
+loop-n-preserved c = (invariant-next c.loop-n.invariant.0 c.loop-n-test.true c.replay_line-step.ensures c.in-Next.is c.replay_line-step.auto.out, omega (arith, c.replay_line-step.auto.ps, c.loop-n.invariant.1), omega (arith, c.replay_line-step.auto.ns, c.loop-n.invariant.2), omega (arith, c.replay_line-step.auto.hs, c.loop-n.invariant.3), omega (arith, c.replay_line-step.auto.cs, c.loop-n.invariant.4), omega (arith, c.replay_line-step.auto.ends, c.loop-n.invariant.5), omega (arith, c.replay_line-step.auto.es, c.loop-n.invariant.6), omega (arith, c.replay_line-step.auto.carried, c.loop-n.invariant.7), omega (arith, c.replay_line-step.auto.numbers, c.loop-n.invariant.8), omega (arith, c.replay_line-step.auto.pool, c.loop-n.invariant.9), omega (arith, c.replay_line-step.auto.seeds, c.loop-n.invariant.10), omega (arith, c.replay_line-step.auto.out, c.loop-n.invariant.11))
 
 pub returns : goal.returns
 returns c = invariant-done c.loop-n.invariant.0 c.loop-n-test.false
