@@ -13,11 +13,24 @@ import sys
 
 # A lemma whose name is its definition's once both are in snake case: file, old word, new word.
 LEMMAS = [
-    ("any_below", "any_below_lem", ("crates/model/",)),
+    (
+        "any_below",
+        "any_below_lem",
+        ("crates/model/", "crates/bus_model/specs/Seen.antt", "crates/effects/specs/Listing.antt", "crates/seeds/specs/Code.antt"),
+    ),
     ("open_row", "open_row_lem", ("crates/tables/",)),
     ("slots_at", "slots_at_lem", ("crates/seeds/specs/",)),
 ]
-FACTS = {"dueTo": "DueTo"}
+FACTS = {
+    "dueTo": "DueTo",
+    "Goes-on": "GoesOn",
+    "Goes_on": "GoesOn",
+    "Left-as": "LeftAs",
+    "Read-whole": "ReadWhole",
+    "Same-as": "SameAs",
+    "Seen-as": "SeenAs",
+    "Text-of": "TextOf",
+}
 WORD = re.compile(r"(?<![\w'-])[A-Za-z][\w'-]*")
 QUOTED = re.compile(r'("(?:[^"\\\n]|\\.)*")')
 

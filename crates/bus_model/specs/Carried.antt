@@ -49,7 +49,7 @@ use Rattle.bus_model.specs.Command.{Done, answered, carried}
 use Rattle.ids.specs.Sizes.{peers}
 
 -- What comes of a command is, seen, the state st with the reply rep.
-pub record Seen-as (out : List ℕ) (d : Done) (st : State) (rep : Reply) : Type 0 where
+pub record SeenAs (out : List ℕ) (d : Done) (st : State) (rep : Reply) : Type 0 where
   pub shape : Shape d.bus
   pub raw : Raw d.bus
   pub listed : AllListed d.bus.handles
@@ -59,7 +59,7 @@ pub record Seen-as (out : List ℕ) (d : Done) (st : State) (rep : Reply) : Type
 
 -- An answer that shows no message.
 plain-seen : (out : List ℕ) (a : Answer) (b : Bus) (st : State) → Shape b → Raw b → AllListed b.handles → state_of b ≡ st →
-    Seen-as out (answered a b out) st (record { answer = a; ids = []; payload = [] })
+    SeenAs out (answered a b out) st (record { answer = a; ids = []; payload = [] })
 plain-seen out a b st s r w e = record { shape = s; raw = r; listed = w; state = e; outcome = refl; buffer = refl }
 
 -- The handle that an ID names.
@@ -104,7 +104,7 @@ module _ (b : Bus) (shape : Shape b) (raw : Raw b) (g : Good (state_of b)) (list
       some_of [] t n = absurd (omega arith)
       some_of (x ∷ q) t n = omega arith
 
-  pub carried-seen : (c : Command) → Legal f c → refusal st f c ≡ 0 → Seen-as out (carried b f out (resolved (plain_sight st) c) (places_in (plain_sight st) f c)) (effect st f c) (reply st f c)
+  pub carried-seen : (c : Command) → Legal f c → refusal st f c ≡ 0 → SeenAs out (carried b f out (resolved (plain_sight st) c) (places_in (plain_sight st) f c)) (effect st f c) (reply st f c)
   unfolding effect reply refusal
   carried-seen (Open p u) l e = plain-seen out _ (after_open b p.0 u.0) _ (shape-open b p.0 u.0 shape) (raw-open b raw g p.0 u.0 l.1) lists (open-view b shape g p.0 u.0 (omega (arith, l.0)))
   carried-seen (Disconnect p) l e =

@@ -37,7 +37,7 @@ use Rattle.effects.specs.Effects.{message_answer, received_message, notice_answe
 use Rattle.effects.specs.After.{queues_in}
 use Rattle.effects.specs.Good.{Good, good}
 use Rattle.bus_model.specs.Command.{sound_ok, Done, refused_by, carried, carried_out, obeyed, command_of}
-use Rattle.bus_model.specs.Tie.{Same-as, step_same}
+use Rattle.bus_model.specs.Tie.{SameAs, step_same}
 use Rattle.bus_model.specs.Ran.{Exchange, fed_of, calls_of, exchange_of, Ran, Ran.begins, Ran.goes, As-model, AsModel, state_after, ran-modelled}
 
 -- In a run no command is answered 5.
@@ -64,7 +64,7 @@ exchange-as {xs = xs} {b = b} r c =
     let m = ran-modelled r in
     let e : state_of b ≡ state_after xs = m.tied.view in
     let g : Good (state_of b) = rw e (good (calls_of xs)) in
-    let s : Same-as (command_of b c.frame c.buffer) (step (state_after xs) c) = rw e at (step_same b m.tied.shape m.tied.raw g m.tied.listed c) in
+    let s : SameAs (command_of b c.frame c.buffer) (step (state_after xs) c) = rw e at (step_same b m.tied.shape m.tied.raw g m.tied.listed c) in
     record { tied = m.tied; outcome = s.outcome; buffer = s.buffer }
 
 -- Never 5: each row of the table, each cascade, each frame.

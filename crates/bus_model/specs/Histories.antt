@@ -21,7 +21,7 @@ use Rattle.model.specs.NoticesLife.{slot-stays}
 use Rattle.view.specs.View.{Bus, state_of}
 use Rattle.bus_model.specs.Ran.{Exchange, answer_in, fed_of, calls_of, exchange_of, Ran, As-model, state_after, ran-modelled}
 use Rattle.bus_model.specs.Demands.{exchange-as, fed-all}
-use Rattle.bus_model.specs.Orderly.{bus_after, Goes_on, Goes_on.next, ran-cut, ran-step}
+use Rattle.bus_model.specs.Orderly.{bus_after, GoesOn, GoesOn.next, ran-cut, ran-step}
 
 -- The frames, numbers and answers of some exchanges.
 abbrev pub history_of : List Exchange → List Fed
@@ -62,7 +62,7 @@ next-answered {xs = xs} {b = b} r c =
           subst (λ (a : List ℕ). DueTo (ledger_after (calls_of xs)) k a) (sym (answer-as (state_after xs) (exchange_of b c) m)) (answers-due (calls_of xs) c k read (sym number ∙ zero));
     })
 
-first_on : {b d : Bus} {x : Exchange} {ys : List Exchange} → Goes_on b (x ∷ ys) d → x ≡ exchange_of b x.call
+first_on : {b d : Bus} {x : Exchange} {ys : List Exchange} → GoesOn b (x ∷ ys) d → x ≡ exchange_of b x.call
 first_on (next c g) = refl
 
 pub ran-answered : (xs ys : List Exchange) (x : Exchange) {d : Bus} → Ran (xs ++ (x ∷ ys)) d → Answered (history_of xs) x

@@ -6,7 +6,7 @@ use Rattle.model.specs.Step.{Call, step}
 use Rattle.view.specs.View.{Bus, state_of}
 use Rattle.effects.specs.Good.{good}
 use Rattle.bus_model.specs.Command.{command_of, fresh_bus}
-use Rattle.bus_model.specs.Tie.{Same-as, step_same}
+use Rattle.bus_model.specs.Tie.{SameAs, step_same}
 use Rattle.bus_model.specs.Ran.{Exchange, calls_of, exchange_of, Ran, Ran.begins, Ran.goes, ran-modelled}
 
 -- The bus that a call leaves.
@@ -14,38 +14,38 @@ abbrev pub bus_after : Bus → Call → Bus
 bus_after b c = (command_of b c.frame c.buffer).bus
 
 -- On a bus of a run, a call does what the model's step does.
-pub ran-step : {xs : List Exchange} {b : Bus} → Ran xs b → (c : Call) → Same-as (command_of b c.frame c.buffer) (step (state_of b) c)
+pub ran-step : {xs : List Exchange} {b : Bus} → Ran xs b → (c : Call) → SameAs (command_of b c.frame c.buffer) (step (state_of b) c)
 ran-step {xs = xs} {b = b} r c =
     let m = ran-modelled r in
     step_same b m.tied.shape m.tied.raw (rw m.tied.view (good (calls_of xs))) m.tied.listed c
 
 -- More exchanges from a bus on, each on the bus that the one before left, and the bus that they leave.
-pub data Goes_on : Bus → List Exchange → Bus → Type 0 where
-  rests : {b : Bus} → Goes_on b [] b
-  next : {b d : Bus} {ys : List Exchange} (c : Call) → Goes_on (bus_after b c) ys d → Goes_on b (exchange_of b c ∷ ys) d
+pub data GoesOn : Bus → List Exchange → Bus → Type 0 where
+  rests : {b : Bus} → GoesOn b [] b
+  next : {b d : Bus} {ys : List Exchange} (c : Call) → GoesOn (bus_after b c) ys d → GoesOn b (exchange_of b c ∷ ys) d
 
 -- They make a run longer, and every run is made so, wherever it is cut.
-pub ran_on : {xs ys : List Exchange} {b d : Bus} → Ran xs b → Goes_on b ys d → Ran (xs ++ ys) d
+pub ran_on : {xs ys : List Exchange} {b d : Bus} → Ran xs b → GoesOn b ys d → Ran (xs ++ ys) d
 ran_on {xs = xs} r rests = rw (append-nil xs) r
-ran_on {xs = xs} {b = b} r (next {ys = ys} c g) = rw (sym (append_assoc xs (exchange_of b c ∷ []) ys)) (ran_on (goes c r) g)
+ran_on {xs = xs} {b = b} r (next {ys = ys} c g) = rw (sym (append_assoc xs (exchange_of b c ∷ []) ys)) (ran_on {xs = xs ++ (exchange_of b c ∷ [])} (goes c r) g)
 
-one_more : {b d : Bus} {xs : List Exchange} (c : Call) → Goes_on b xs d → Goes_on b (xs ++ (exchange_of d c ∷ [])) (bus_after d c)
+one_more : {b d : Bus} {xs : List Exchange} (c : Call) → GoesOn b xs d → GoesOn b (xs ++ (exchange_of d c ∷ [])) (bus_after d c)
 one_more c rests = next c rests
 one_more c (next a g) = next a (one_more c g)
 
-pub ran-from : {xs : List Exchange} {b : Bus} → Ran xs b → Goes_on fresh_bus xs b
+pub ran-from : {xs : List Exchange} {b : Bus} → Ran xs b → GoesOn fresh_bus xs b
 ran-from begins = rests
 ran-from (goes c r) = one_more c (ran-from r)
 
-cut : (xs ys : List Exchange) {b d : Bus} → Goes_on b (xs ++ ys) d → (a : Bus) × Goes_on b xs a × Goes_on a ys d
+cut : (xs ys : List Exchange) {b d : Bus} → GoesOn b (xs ++ ys) d → (a : Bus) × GoesOn b xs a × GoesOn a ys d
 cut [] ys {b = b} g = (b, rests, g)
 cut (x ∷ xs) ys (next c g) = let z = cut xs ys g in (z.0, next c z.1, z.2)
 
-pub ran-cut : (xs ys : List Exchange) {d : Bus} → Ran (xs ++ ys) d → (b : Bus) × Ran xs b × Goes_on b ys d
+pub ran-cut : (xs ys : List Exchange) {d : Bus} → Ran (xs ++ ys) d → (b : Bus) × Ran xs b × GoesOn b ys d
 ran-cut xs ys r = let z = cut xs ys (ran-from r) in (z.0, ran_on begins z.1, z.2)
 
 -- Any calls can be made on any bus: there is a run for every list of calls.
-pub calls-on : (cs : List Call) (b : Bus) → (ys : List Exchange) × (d : Bus) × Goes_on b ys d × (calls_of ys ≡ cs)
+pub calls-on : (cs : List Call) (b : Bus) → (ys : List Exchange) × (d : Bus) × GoesOn b ys d × (calls_of ys ≡ cs)
 calls-on [] b = ([], b, rests, refl)
 calls-on (c ∷ cs) b = let z = calls-on cs (bus_after b c) in (exchange_of b c ∷ z.0, z.1, next c z.2, ap (◌∷◌ c) z.3)
 

@@ -10,7 +10,7 @@ use Rattle.model.specs.Book.{Fed}
 use Rattle.view.specs.View.{Bus, state_of}
 use Rattle.effects.specs.Good.{Good, good}
 use Rattle.bus_model.specs.Command.{Done, command_of, fresh_bus}
-use Rattle.bus_model.specs.Tie.{Tied, Same-as, step_same, fresh-tied}
+use Rattle.bus_model.specs.Tie.{Tied, SameAs, step_same, fresh-tied}
 
 -- One command of a run: the bus before it, the frame and the answer buffer that were lent, what came back, and the answer buffer afterwards.
 pub record Exchange : Type 0 where
@@ -81,6 +81,6 @@ ran-modelled (goes {xs = xs} {b = b} c r) = go (ran-modelled r)
     go m =
         let e : state_of b ≡ state_after xs = m.tied.view in
         let g : Good (state_of b) = rw e (good (calls_of xs)) in
-        let s : Same-as (command_of b c.frame c.buffer) (step (state_after xs) c) = rw e at (step_same b m.tied.shape m.tied.raw g m.tied.listed c) in
+        let s : SameAs (command_of b c.frame c.buffer) (step (state_after xs) c) = rw e at (step_same b m.tied.shape m.tied.raw g m.tied.listed c) in
         let last : state_after (xs ++ (exchange_of b c ∷ [])) ≡ (step (state_after xs) c).state = ap run (calls-append xs (exchange_of b c ∷ [])) ∙ run-snoc (calls_of xs) c in
         record { tied = rw last s.tied; each = as-append start xs (exchange_of b c) m.each (record { tied = m.tied; outcome = s.outcome; buffer = s.buffer }) }

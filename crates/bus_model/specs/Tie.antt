@@ -32,7 +32,7 @@ use Rattle.effects.specs.Good.{Good, good}
 use Rattle.effects.specs.Ranges.{Raw, InRange, ranges-ok, ranges-accepted, raw-fresh}
 use Rattle.bus_model.specs.Command.{sized_ok, peer_ok, peers_ok, ranges_ok, sound_ok, Done, refused_by, carried_out, obeyed, command_of, fresh_bus}
 use Rattle.bus_model.specs.Seen.{ruled, ruling-same}
-use Rattle.bus_model.specs.Carried.{Seen-as, carried-seen}
+use Rattle.bus_model.specs.Carried.{SeenAs, carried-seen}
 use Rattle.ids.specs.Sizes.{peers, end_fields}
 use Rattle.ids.specs.Sizes.{peers_size, nodes_size, handles_size, ends_size, entries_size, carried_size, numbers_size, pool_size, seeds_size}
 use Rattle.tables.specs.Charges.{charges_size}
@@ -45,7 +45,7 @@ pub record Tied (b : Bus) (st : State) : Type 0 where
   pub view : state_of b ≡ st
 
 -- What comes of a command is what comes of the model's step.
-pub record Same-as (d : Done) (r : Result) : Type 0 where
+pub record SameAs (d : Done) (r : Result) : Type 0 where
   pub tied : Tied d.bus r.state
   pub outcome : d.outcome ≡ r.outcome
   pub buffer : d.out ≡ r.buffer
@@ -82,13 +82,13 @@ sound-true b s r g = rw (sized-true b s, peers-true b (ranges-ok b r g) peers (o
 
 module _ (b : Bus) (shape : Shape b) (raw : Raw b) (g : Good (state_of b)) (lists : AllListed b.handles) where
   -- A refusal.
-  refused-same : (n : ℕ) (f out : List ℕ) → ltb (length out) answer_size ≡ false → Same-as (refused_by n b out) (finish (state_of b) out (record { reply = record { answer = is_refused n; ids = []; payload = [] }; state = state_of b }))
+  refused-same : (n : ℕ) (f out : List ℕ) → ltb (length out) answer_size ≡ false → SameAs (refused_by n b out) (finish (state_of b) out (record { reply = record { answer = is_refused n; ids = []; payload = [] }; state = state_of b }))
   unfolding finish
   refused-same n f out e = record { tied = record { shape = shape; raw = raw; listed = lists; view = rw e }; outcome = refl; buffer = refl }
 
   -- A command that was read.
   read_same : (f out : List ℕ) (k : Command) → Legal f k → ltb (length out) answer_size ≡ false → Seen (eqb (refusal (state_of b) f k) 0) →
-      Same-as (carried_out b f out (ruled (state_of b) f k)) (finish (state_of b) out (carry_out (state_of b) f k (refusal (state_of b) f k)))
+      SameAs (carried_out b f out (ruled (state_of b) f k)) (finish (state_of b) out (carry_out (state_of b) f k (refusal (state_of b) f k)))
   unfolding carried_out carry_out finish
   read_same f out k l e (is_true z) =
       let x = carried-seen b shape raw g lists f out k l (eqb-true (refusal (state_of b) f k) 0 z) in
@@ -96,21 +96,21 @@ module _ (b : Bus) (shape : Shape b) (raw : Raw b) (g : Good (state_of b)) (list
   read_same f out k l e (is_false z) = rw z (refused-same (refusal (state_of b) f k) f out e)
 
   parsed-same : (f out : List ℕ) (x : Parsed) → parse f ≡ x → ltb (length out) answer_size ≡ false →
-      Same-as (obeyed b f out x) (finish (state_of b) out (judge (state_of b) f x))
+      SameAs (obeyed b f out x) (finish (state_of b) out (judge (state_of b) f x))
   parsed-same f out (Refused n) p e = refused-same n f out e
   parsed-same f out (Read k) p e =
       rw (ruling-same b shape g lists f k (legal-command f k p)) (read_same f out k (legal-command f k p) e (look (eqb (refusal (state_of b) f k) 0)))
 
   -- A short answer buffer.
-  short-same : (out : List ℕ) (v : Verdict) → ltb (length out) answer_size ≡ true → Same-as (record { outcome = record { number = 22; len = 0 }; bus = b; out = out }) (finish (state_of b) out v)
+  short-same : (out : List ℕ) (v : Verdict) → ltb (length out) answer_size ≡ true → SameAs (record { outcome = record { number = 22; len = 0 }; bus = b; out = out }) (finish (state_of b) out v)
   unfolding finish outcome_of answer_after
   short-same out v e = record { tied = record { shape = shape; raw = raw; listed = lists; view = rw e }; outcome = rw e; buffer = rw e }
 
-  pub step_same : (c : Call) → Same-as (command_of b c.frame c.buffer) (step (state_of b) c)
+  pub step_same : (c : Call) → SameAs (command_of b c.frame c.buffer) (step (state_of b) c)
   unfolding command_of step
   step_same c = go (look (ltb (length c.buffer) answer_size))
     where
-      go : Seen (ltb (length c.buffer) answer_size) → Same-as (command_of b c.frame c.buffer) (step (state_of b) c)
+      go : Seen (ltb (length c.buffer) answer_size) → SameAs (command_of b c.frame c.buffer) (step (state_of b) c)
       go (is_true e) = rw e (short-same c.buffer (judge (state_of b) c.frame (parse c.frame)) e)
       go (is_false e) = rw (e, sound-true b shape raw g) (parsed-same c.frame c.buffer (parse c.frame) refl e)
 

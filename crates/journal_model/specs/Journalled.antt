@@ -122,13 +122,13 @@ replay-frames (frame f ∷ ls) m n b d e = go (look (counted b f spare)) (λ h. 
     go (is_false k) ih = clash (sym (ap is_whole (rw k at e)))
     go (is_true k) ih = let h = ih (rw k at e) in (f ∷ h.0, ap (◌∷◌ (frame f)) h.1)
 
-record Text-of (s : List ℕ) (fs : List (List ℕ)) : Type 0 where
+record TextOf (s : List ℕ) (fs : List (List ℕ)) : Type 0 where
   lines : lines_in s ≡ map frame fs
   used : used_of s ≡ length (text_of fs)
   text : take (used_of s) s ≡ text_of fs
   one-line-long : All OneLineLong fs
 
-text-of : (s : List ℕ) (fs : List (List ℕ)) → lines_in s ≡ map frame fs → Text-of s fs
+text-of : (s : List ℕ) (fs : List (List ℕ)) → lines_in s ≡ map frame fs → TextOf s fs
 unfolding used_of
 text-of s fs e =
     let x = frames-text (split s).whole fs e in

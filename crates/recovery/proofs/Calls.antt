@@ -121,14 +121,14 @@ pub data Calls : List Exchange → Bus → List ℕ → ℕ → Type 0 where
       Calls (xs ++ (exchanged κs a r s ∷ [])) (bus_out κs s) (journal_out κs s) r.used
 
 -- What a call leaves is what the definition says.
-pub record Left-as (κs : Lifetimes.Lfts 13) (a : Arguments κs) (r : Returned κs) (s : Left κs) (b : Bus) (j : List ℕ) (u : ℕ) : Type 0 where
+pub record LeftAs (κs : Lifetimes.Lfts 13) (a : Arguments κs) (r : Returned κs) (s : Left κs) (b : Bus) (j : List ℕ) (u : ℕ) : Type 0 where
   pub exchange : exchanged κs a r s ≡ exchange_with b j u (call_in κs a)
   pub bus : bus_out κs s ≡ (command_with b (call_in κs a).frame (call_in κs a).buffer j u).done.bus
   pub journal : journal_out κs s ≡ (command_with b (call_in κs a).frame (call_in κs a).buffer j u).journal
   pub used : r.used ≡ (command_with b (call_in κs a).frame (call_in κs a).buffer j u).used
 
 pub left_is : (κs : Lifetimes.Lfts 13) (a : Arguments κs) (r : Returned κs) (s : Left κs) (b : Bus) (j : List ℕ) (u : ℕ) → bus_in κs a ≡ b → journal_in κs a ≡ j → used_in κs a ≡ u →
-    command-reads.Learnt κs a r s → Left-as κs a r s b j u
+    command-reads.Learnt κs a r s → LeftAs κs a r s b j u
 left_is κs a r s b j u e f g l =
     let c = call_in κs a in
     let d : returned_with r (bus_out κs s) s.1.1.1.1.1.1.1.1.1.1.1.0.now (journal_out κs s) ≡ command_with b c.frame c.buffer j u =
@@ -141,7 +141,7 @@ left_is κs a r s b j u e f g l =
     }
 
 -- A whole recovery read whole lines.
-record Read-whole (s : List ℕ) (n u : ℕ) (b : Bus) : Type 0 where
+record ReadWhole (s : List ℕ) (n u : ℕ) (b : Bus) : Type 0 where
   lines : replay 0 fresh_bus (lines_in s) ≡ whole b n
   used : used_of s ≡ u
 
@@ -157,11 +157,11 @@ used_by (found.Stopped n) = 0
 used_by (found.Unread n p) = 0
 used_by found.WrongLength = 0
 
-read_whole : (old : Bus) (s : List ℕ) (n u : ℕ) (b : Bus) → sized_ok old ≡ true → recovery_from (found.Whole n u) b ≡ recovered old s → Read-whole s n u b
+read_whole : (old : Bus) (s : List ℕ) (n u : ℕ) (b : Bus) → sized_ok old ≡ true → recovery_from (found.Whole n u) b ≡ recovered old s → ReadWhole s n u b
 unfolding recovered
 read_whole old s n u b z h = go (replay 0 fresh_bus (lines_in s)) refl
   where
-    go : (x : Replayed) → replay 0 fresh_bus (lines_in s) ≡ x → Read-whole s n u b
+    go : (x : Replayed) → replay 0 fresh_bus (lines_in s) ≡ x → ReadWhole s n u b
     go (whole d m) e =
         let q : recovery_from (found.Whole n u) b ≡ recovery_from (found.Whole m (used_of s)) d = rw (z, e) at h in
         let x : d ≡ b = ap (λ (y : Recovery). y.bus) (sym q) in
@@ -215,7 +215,7 @@ demand-three-of-calls xs b j u t =
     d : DemandThree xs b j u
     d = journal-demand xs b j u (calls-journalled t)
 
-    go : (κs : Lifetimes.Lfts 13) (a : Arguments κs) (r : Returned κs) (s : Left κs) → Left-as κs a r s b j u →
+    go : (κs : Lifetimes.Lfts 13) (a : Arguments κs) (r : Returned κs) (s : Left κs) → LeftAs κs a r s b j u →
         ((command_with b (call_in κs a).frame (call_in κs a).buffer j u).done ≡ refused_by EFBIG b (call_in κs a).buffer) ⊎ Next (fitting xs) (exchange_with b j u (call_in κs a)) →
         (done_of (exchanged κs a r s).outcome (bus_out κs s) (exchanged κs a r s).after ≡ refused_by EFBIG b (call_in κs a).buffer) ⊎ Next (fitting xs) (exchanged κs a r s)
     go κs a r s x (inl e) = inl (ap₂ (λ (y : Exchange) (w : Bus). done_of y.outcome w y.after) x.exchange x.bus ∙ e)
