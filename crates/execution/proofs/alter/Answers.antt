@@ -1,10 +1,10 @@
 -- `execution::alter` meets its contract: one law for each arm, and the orders of no arm leave the bus alone. Assumes nothing.
 use Prim.Native.Nat.{ℕ}
 use mathlib.Core.Path.{◌≡◌, refl}
-use mathlib.Core.List.{List, [], ◌∷◌}
-use types.Run.{OneOf, miss}
-use denote.Enum.Declared as declared
-use Rattle.judges.specs.contracts.Order as the
+use mathlib.Core.List.{List}
+use Rattle.ids.specs.declared.Peer.{Peer}
+use Rattle.ids.specs.declared.User.{User}
+use Rattle.ids.specs.declared.HandleId.{HandleId}
 use Rattle.judges.specs.declared.Order.{Order}
 use Rattle.judges.specs.declared.Order.TheVariants as order
 use Rattle.view.specs.View.{Bus}
@@ -14,23 +14,20 @@ use borrow.Author.Rules.{rules}
 use Rattle.execution.proofs.alter.Goals as goal
 
 -- The orders of no arm leave the bus alone.
-abbrev rest : List ℕ
-rest = 0 ∷ 6 ∷ 7 ∷ 8 ∷ 9 ∷ 10 ∷ 11 ∷ []
-
-others : (b : Bus) (x : Order) → OneOf rest (declared.tag_of the.the_type x) → b ≡ altered b x
+others : (b : Bus) (x : Order) → ((p : Peer) (u : User) → x ≡ order.Open p u → ⊥) → ((p : Peer) → x ≡ order.Disconnect p → ⊥) → ((p : Peer) (i : HandleId) (s : ℕ) → x ≡ order.Create p i s → ⊥) → ((p : Peer) (s : ℕ) → x ≡ order.Destroy p s → ⊥) → ((p : Peer) (s : ℕ) → x ≡ order.Release p s → ⊥) → b ≡ altered b x
 unfolding altered
-others b (order.Refuse n) k = refl
-others b (order.Open p u) k = absurd (miss rest 1 tt k)
-others b (order.Disconnect p) k = absurd (miss rest 2 tt k)
-others b (order.Create p i s) k = absurd (miss rest 3 tt k)
-others b (order.Destroy p s) k = absurd (miss rest 4 tt k)
-others b (order.Release p s) k = absurd (miss rest 5 tt k)
-others b (order.Transfer q s) k = refl
-others b (order.Send p z) k = refl
-others b (order.Receive p) k = refl
-others b (order.ShowSeed p) k = refl
-others b (order.Quota p u) k = refl
-others b (order.Holders s) k = refl
+others b (order.Refuse n) _ _ _ _ _ = refl
+others b (order.Open p u) not_open _ _ _ _ = absurd (not_open p u refl)
+others b (order.Disconnect p) _ not_disconnect _ _ _ = absurd (not_disconnect p refl)
+others b (order.Create p i s) _ _ not_create _ _ = absurd (not_create p i s refl)
+others b (order.Destroy p s) _ _ _ not_destroy _ = absurd (not_destroy p s refl)
+others b (order.Release p s) _ _ _ _ not_release = absurd (not_release p s refl)
+others b (order.Transfer q s) _ _ _ _ _ = refl
+others b (order.Send p z) _ _ _ _ _ = refl
+others b (order.Receive p) _ _ _ _ _ = refl
+others b (order.ShowSeed p) _ _ _ _ _ = refl
+others b (order.Quota p u) _ _ _ _ _ = refl
+others b (order.Holders s) _ _ _ _ _ = refl
 
 pub open_peer-requires : goal.open_peer-requires
 open_peer-requires c = let z = c.requires.0 in let h = fair-as c.in-Open.is c.requires.1 in (z.peers, h)
@@ -66,4 +63,4 @@ pub returns-in-Release : goal.returns-in-Release
 returns-in-Release c = alters-release _ _ _ _ _ _ _ _ _ _ c.in-Release.is c.release.ensures
 
 pub returns-in_default : goal.returns-in_default
-returns-in_default c = others _ c.args.order c.in_default.in_default-own.keys6
+returns-in_default c = others _ c.args.order c.in_default.not-Open c.in_default.not-Disconnect c.in_default.not-Create c.in_default.not-Destroy c.in_default.not-Release

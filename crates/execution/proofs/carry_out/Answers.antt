@@ -1,10 +1,8 @@
 -- `execution::carry_out` meets its contract: a receive and 0c write their answers themselves, every other order is answered plainly. Assumes nothing.
 use Prim.Native.Nat.{ℕ}
 use mathlib.Core.Path.{◌≡◌, refl}
-use mathlib.Core.List.{List, [], ◌∷◌}
-use types.Run.{OneOf, miss}
-use denote.Enum.Declared as declared
-use Rattle.judges.specs.contracts.Order as the
+use mathlib.Core.List.{List}
+use Rattle.ids.specs.declared.Peer.{Peer}
 use Rattle.judges.specs.declared.Order.{Order}
 use Rattle.judges.specs.declared.Order.TheVariants as order
 use Rattle.judges.specs.declared.Places.{Places}
@@ -15,23 +13,20 @@ use borrow.Author.Rules.{rules}
 use Rattle.execution.proofs.carry_out.Goals as goal
 
 -- The orders other than a receive and 0c.
-abbrev rest : List ℕ
-rest = 0 ∷ 1 ∷ 2 ∷ 3 ∷ 4 ∷ 5 ∷ 6 ∷ 7 ∷ 10 ∷ 11 ∷ []
-
-others : (b : Bus) (f out : List ℕ) (x : Order) (w : Places) → OneOf rest (declared.tag_of the.the_type x) → answered (changed b f x w).answer (changed b f x w).bus out ≡ carried b f out x w
+others : (b : Bus) (f out : List ℕ) (x : Order) (w : Places) → ((p : Peer) → x ≡ order.Receive p → ⊥) → ((p : Peer) → x ≡ order.ShowSeed p → ⊥) → answered (changed b f x w).answer (changed b f x w).bus out ≡ carried b f out x w
 unfolding reply_to altered changed
-others b f out (order.Refuse n) w k = refl
-others b f out (order.Open p u) w k = refl
-others b f out (order.Disconnect p) w k = refl
-others b f out (order.Create p i s) w k = refl
-others b f out (order.Destroy p s) w k = refl
-others b f out (order.Release p s) w k = refl
-others b f out (order.Transfer q s) w k = refl
-others b f out (order.Send p z) w k = refl
-others b f out (order.Receive p) w k = absurd (miss rest 8 tt k)
-others b f out (order.ShowSeed p) w k = absurd (miss rest 9 tt k)
-others b f out (order.Quota p u) w k = refl
-others b f out (order.Holders s) w k = refl
+others b f out (order.Refuse n) w _ _ = refl
+others b f out (order.Open p u) w _ _ = refl
+others b f out (order.Disconnect p) w _ _ = refl
+others b f out (order.Create p i s) w _ _ = refl
+others b f out (order.Destroy p s) w _ _ = refl
+others b f out (order.Release p s) w _ _ = refl
+others b f out (order.Transfer q s) w _ _ = refl
+others b f out (order.Send p z) w _ _ = refl
+others b f out (order.Receive p) w not_receive _ = absurd (not_receive p refl)
+others b f out (order.ShowSeed p) w _ not_show_seed = absurd (not_show_seed p refl)
+others b f out (order.Quota p u) w _ _ = refl
+others b f out (order.Holders s) w _ _ = refl
 
 pub receive-requires : goal.receive-requires
 receive-requires c = let z = c.requires.0 in let h = fair-as c.in-Receive.is c.requires.2 in (z.peers, z.nodes, z.handles, z.charges, record { ends = z.ends; rows = z.rows }, z.pool, h, c.requires.1 _ h)
@@ -49,4 +44,4 @@ pub returns-in-ShowSeed : goal.returns-in-ShowSeed
 returns-in-ShowSeed c = did-show _ _ _ _ _ _ _ _ _ _ _ _ _ c.in-ShowSeed.is c.show_seed.ensures
 
 pub returns-in_default : goal.returns-in_default
-returns-in_default c = did-change _ _ _ _ c.change-a.ensures c.write_plain.ensures (others _ _ _ c.args.r.order _ c.in_default.in_default-own.keys3)
+returns-in_default c = did-change _ _ _ _ c.change-a.ensures c.write_plain.ensures (others _ _ _ c.args.r.order _ c.in_default.not-Receive c.in_default.not-ShowSeed)

@@ -1,10 +1,9 @@
 -- `execution::change` meets its contract: one law for each arm, and the orders of no arm are settled by what they are answered and what they alter. Assumes nothing.
 use Prim.Native.Nat.{ℕ}
 use mathlib.Core.Path.{◌≡◌, refl}
-use mathlib.Core.List.{List, [], ◌∷◌}
-use types.Run.{OneOf, miss}
-use denote.Enum.Declared as declared
-use Rattle.judges.specs.contracts.Order as the
+use mathlib.Core.List.{List}
+use Rattle.ids.specs.declared.Peer.{Peer}
+use Rattle.frames.specs.declared.Sizes.{Sizes}
 use Rattle.judges.specs.declared.Order.{Order}
 use Rattle.judges.specs.declared.Order.TheVariants as order
 use Rattle.judges.specs.declared.Places.{Places}
@@ -15,23 +14,20 @@ use borrow.Author.Rules.{rules}
 use Rattle.execution.proofs.change.Goals as goal
 
 -- The orders of no arm, neither a transfer nor a send.
-abbrev rest : List ℕ
-rest = 0 ∷ 1 ∷ 2 ∷ 3 ∷ 4 ∷ 5 ∷ 8 ∷ 9 ∷ 10 ∷ 11 ∷ []
-
-others : (b : Bus) (f : List ℕ) (x : Order) (w : Places) → OneOf rest (declared.tag_of the.the_type x) → settled b x ≡ changed b f x w
+others : (b : Bus) (f : List ℕ) (x : Order) (w : Places) → ((q : Peer) (s : ℕ) → x ≡ order.Transfer q s → ⊥) → ((p : Peer) (z : Sizes) → x ≡ order.Send p z → ⊥) → settled b x ≡ changed b f x w
 unfolding changed
-others b f (order.Refuse n) w k = refl
-others b f (order.Open p u) w k = refl
-others b f (order.Disconnect p) w k = refl
-others b f (order.Create p i s) w k = refl
-others b f (order.Destroy p s) w k = refl
-others b f (order.Release p s) w k = refl
-others b f (order.Transfer q s) w k = absurd (miss rest 6 tt k)
-others b f (order.Send p z) w k = absurd (miss rest 7 tt k)
-others b f (order.Receive p) w k = refl
-others b f (order.ShowSeed p) w k = refl
-others b f (order.Quota p u) w k = refl
-others b f (order.Holders s) w k = refl
+others b f (order.Refuse n) w _ _ = refl
+others b f (order.Open p u) w _ _ = refl
+others b f (order.Disconnect p) w _ _ = refl
+others b f (order.Create p i s) w _ _ = refl
+others b f (order.Destroy p s) w _ _ = refl
+others b f (order.Release p s) w _ _ = refl
+others b f (order.Transfer q s) w not_transfer _ = absurd (not_transfer q s refl)
+others b f (order.Send p z) w _ not_send = absurd (not_send p z refl)
+others b f (order.Receive p) w _ _ = refl
+others b f (order.ShowSeed p) w _ _ = refl
+others b f (order.Quota p u) w _ _ = refl
+others b f (order.Holders s) w _ _ = refl
 
 pub transfer-id-requires : goal.transfer-id-requires
 transfer-id-requires c = let z = c.requires.0 in let h = fair-as c.in-Transfer.is c.requires.1 in (z.peers, z.nodes, z.handles, record { ends = z.ends; rows = z.rows }, h.0, h.1)
@@ -55,4 +51,4 @@ pub returns-in-Send : goal.returns-in-Send
 returns-in-Send c = did-send _ _ _ _ _ _ _ _ _ _ _ _ c.in-Send.is c.payload-data.ensures c.send.ensures c.replace_seed.ensures
 
 pub returns-in_default : goal.returns-in_default
-returns-in_default c = did-settle _ _ _ _ c.reply-a.ensures c.alter.ensures (others _ _ c.args.r.order _ c.in_default.in_default-own.keys3)
+returns-in_default c = did-settle _ _ _ _ c.reply-a.ensures c.alter.ensures (others _ _ c.args.r.order _ c.in_default.not-Transfer c.in_default.not-Send)
