@@ -5,6 +5,7 @@ use Prim.Native.Nat.{ℕ, ◌≤◌, ◌<◌}
 use mathlib.Core.Path.{◌≡◌, refl, sym, ap, ap₂, ◌∙◌}
 use mathlib.Core.Bool.{Bool, true}
 use mathlib.Core.List.{List, [], ◌∷◌, ◌++◌, map, append_assoc, append-nil}
+use denote.Bor.{Bor}
 use denote.Ref.{MutBor, at_last}
 use contract.Lifetimes
 use borrow.Fn.World
@@ -109,13 +110,16 @@ pub call-exists : {xs : List Exchange} {b : Bus} (κs : Lifetimes.Lfts 12) (x : 
     Calls (xs ++ (exchange_of b c ∷ [])) (command_of b c.frame c.buffer).bus
 call-exists {b = b} κs x y t c =
     let d = command_of b c.frame c.buffer in
-    call κs (at_last x.0 b.peers, (at_last x.1.0 b.nodes, (at_last x.1.1.0 b.handles, (at_last x.1.1.1.0 b.charges, (at_last x.1.1.1.1.0 b.rings.ends, (at_last x.1.1.1.1.1.0 b.rings.rows.entries, (at_last x.1.1.1.1.1.1.0 b.rings.rows.carried, (at_last x.1.1.1.1.1.1.1.0 b.rings.rows.numbers, (at_last x.1.1.1.1.1.1.1.1.0 b.pool, (at_last x.1.1.1.1.1.1.1.1.1.0 b.seeds, (at_last x.1.1.1.1.1.1.1.1.1.1.0 c.frame, (at_last x.1.1.1.1.1.1.1.1.1.1.1.0 c.buffer, tt)))))))))))) d.outcome
+    call κs (at_last x.0 b.peers, (at_last x.1.0 b.nodes, (at_last x.1.1.0 b.handles, (at_last x.1.1.1.0 b.charges, (at_last x.1.1.1.1.0 b.rings.ends, (at_last x.1.1.1.1.1.0 b.rings.rows.entries, (at_last x.1.1.1.1.1.1.0 b.rings.rows.carried, (at_last x.1.1.1.1.1.1.1.0 b.rings.rows.numbers, (at_last x.1.1.1.1.1.1.1.1.0 b.pool, (at_last x.1.1.1.1.1.1.1.1.1.0 b.seeds, (record { ref_ptr = x.1.1.1.1.1.1.1.1.1.1.0.ref_ptr; now = c.frame }, (at_last x.1.1.1.1.1.1.1.1.1.1.1.0 c.buffer, tt)))))))))))) d.outcome
     (at_last y.0 d.bus.peers, (at_last y.1.0 d.bus.nodes, (at_last y.1.1.0 d.bus.handles, (at_last y.1.1.1.0 d.bus.charges, (at_last y.1.1.1.1.0 d.bus.rings.ends, (at_last y.1.1.1.1.1.0 d.bus.rings.rows.entries, (at_last y.1.1.1.1.1.1.0 d.bus.rings.rows.carried, (at_last y.1.1.1.1.1.1.1.0 d.bus.rings.rows.numbers, (at_last y.1.1.1.1.1.1.1.1.0 d.bus.pool, (at_last y.1.1.1.1.1.1.1.1.1.0 d.bus.seeds, (y.1.1.1.1.1.1.1.1.1.1.0, (at_last y.1.1.1.1.1.1.1.1.1.1.1.0 d.out, tt)))))))))))) t refl refl
 
 -- There is such a run for every list of calls and any old contents of exact length, with no condition. A reference is where it lies, a name, and its value; no contract says
 -- anything of the first two.
 lent : {X : Type 0} → X → MutBor X
 lent v = record { ref_ptr = (0, 0); ghost_name = 0; now = v }
+
+shown : {X : Type 0} → X → Bor X
+shown v = record { ref_ptr = (0, 0); now = v }
 
 ten : Lifetimes.Lfts 10
 ten = ([], ([], ([], ([], ([], ([], ([], ([], ([], ([], tt))))))))))
@@ -130,15 +134,15 @@ left_bus : Bus → FreshLeft ten
 left_bus b = (lent b.peers, (lent b.nodes, (lent b.handles, (lent b.charges, (lent b.rings.ends, (lent b.rings.rows.entries, (lent b.rings.rows.carried, (lent b.rings.rows.numbers, (lent b.pool, (lent b.seeds, tt))))))))))
 
 lent_call : Bus → Call → Arguments twelve
-lent_call b c = (lent b.peers, (lent b.nodes, (lent b.handles, (lent b.charges, (lent b.rings.ends, (lent b.rings.rows.entries, (lent b.rings.rows.carried, (lent b.rings.rows.numbers, (lent b.pool, (lent b.seeds, (lent c.frame, (lent c.buffer, tt))))))))))))
+lent_call b c = (lent b.peers, (lent b.nodes, (lent b.handles, (lent b.charges, (lent b.rings.ends, (lent b.rings.rows.entries, (lent b.rings.rows.carried, (lent b.rings.rows.numbers, (lent b.pool, (lent b.seeds, (shown c.frame, (lent c.buffer, tt))))))))))))
 
 left_call : Bus → Call → Left twelve
-left_call b c = (lent b.peers, (lent b.nodes, (lent b.handles, (lent b.charges, (lent b.rings.ends, (lent b.rings.rows.entries, (lent b.rings.rows.carried, (lent b.rings.rows.numbers, (lent b.pool, (lent b.seeds, (lent c.frame, (lent c.buffer, tt))))))))))))
+left_call b c = (lent b.peers, (lent b.nodes, (lent b.handles, (lent b.charges, (lent b.rings.ends, (lent b.rings.rows.entries, (lent b.rings.rows.carried, (lent b.rings.rows.numbers, (lent b.pool, (lent b.seeds, (shown c.frame, (lent c.buffer, tt))))))))))))
 
 calls-go-on : {xs : List Exchange} {b : Bus} → Calls xs b → (cs : List Call) → (ys : List Exchange) × (d : Bus) × Calls (xs ++ ys) d × (map (λ x. x.call) ys ≡ cs)
 calls-go-on {xs = xs} {b = b} t [] = ([], b, rw (append-nil xs) t, refl)
 calls-go-on {xs = xs} {b = b} t (c ∷ cs) =
-    let z = calls-go-on (call-exists twelve (lent_call b c) (left_call b c) t c) cs in
+    let z = calls-go-on {xs = xs ++ (exchange_of b c ∷ [])} (call-exists twelve (lent_call b c) (left_call b c) t c) cs in
     (exchange_of b c ∷ z.0, z.1, rw (sym (append_assoc xs (exchange_of b c ∷ []) z.0)) z.2, ap (◌∷◌ c) z.3)
 
 pub calls-exist : (old : Bus) → sized_ok old ≡ true → (cs : List Call) → (xs : List Exchange) × (b : Bus) × Calls xs b × (map (λ x. x.call) xs ≡ cs)
