@@ -2,10 +2,7 @@
 use mathlib.Core.Path.{◌≡◌, refl}
 use Prim.Native.Nat.{ℕ}
 use mathlib.Core.Bool.{true, false}
-use mathlib.Core.List.{List, [], ◌∷◌}
-use types.Run.{OneOf, miss}
-use denote.Enum.Declared as declared
-use Rattle.judges.specs.contracts.Order as the
+use mathlib.Core.List.{List}
 use Rattle.judges.specs.declared.Order.{Order}
 use Rattle.judges.specs.declared.Order.TheVariants as order
 use Rattle.ids.specs.declared.Peer.{Peer}
@@ -14,23 +11,20 @@ use Rattle.journal_model.specs.Counted.{changing}
 use borrow.Author.Rules.{rules}
 use Rattle.journal.proofs.is_change.Goals as goal
 
-abbrev rest : List ℕ
-rest = 1 ∷ 2 ∷ 3 ∷ 4 ∷ 5 ∷ 6 ∷ 7 ∷ 8 ∷ 9 ∷ []
-
-others : (x : Order) → OneOf rest (declared.tag_of the.the_type x) → true ≡ changing x
+others : (x : Order) → ((n : ℕ) → x ≡ order.Refuse n → ⊥) → ((p : Peer) (u : User) → x ≡ order.Quota p u → ⊥) → ((s : ℕ) → x ≡ order.Holders s → ⊥) → true ≡ changing x
 unfolding changing
-others (order.Refuse n) k = absurd (miss rest 0 tt k)
-others (order.Open p u) k = refl
-others (order.Disconnect p) k = refl
-others (order.Create p i s) k = refl
-others (order.Destroy p s) k = refl
-others (order.Release p s) k = refl
-others (order.Transfer q s) k = refl
-others (order.Send p z) k = refl
-others (order.Receive p) k = refl
-others (order.ShowSeed p) k = refl
-others (order.Quota p u) k = absurd (miss rest 10 tt k)
-others (order.Holders s) k = absurd (miss rest 11 tt k)
+others (order.Refuse n) not_refuse _ _ = absurd (not_refuse n refl)
+others (order.Open p u) _ _ _ = refl
+others (order.Disconnect p) _ _ _ = refl
+others (order.Create p i s) _ _ _ = refl
+others (order.Destroy p s) _ _ _ = refl
+others (order.Release p s) _ _ _ = refl
+others (order.Transfer q s) _ _ _ = refl
+others (order.Send p z) _ _ _ = refl
+others (order.Receive p) _ _ _ = refl
+others (order.ShowSeed p) _ _ _ = refl
+others (order.Quota p u) _ not_quota _ = absurd (not_quota p u refl)
+others (order.Holders s) _ _ not_holders = absurd (not_holders s refl)
 
 refuses : {x : Order} {n : ℕ} → x ≡ order.Refuse n → false ≡ changing x
 unfolding changing
@@ -54,4 +48,4 @@ pub returns-in-Holders : goal.returns-in-Holders
 returns-in-Holders c = asks-holders c.in-Holders.is
 
 pub returns-in_default : goal.returns-in_default
-returns-in_default c = others _ c.in_default.in_default-own.keys4
+returns-in_default c = others _ c.in_default.not-Refuse c.in_default.not-Quota c.in_default.not-Holders

@@ -2,10 +2,7 @@
 use mathlib.Core.Path.{◌≡◌, refl}
 use Prim.Native.Nat.{ℕ}
 use mathlib.Core.Bool.{true, false}
-use mathlib.Core.List.{List, [], ◌∷◌}
-use types.Run.{OneOf, miss}
-use denote.Enum.Declared as declared
-use Rattle.frames.specs.contracts.Command as the
+use mathlib.Core.List.{List}
 use Rattle.frames.specs.declared.Command.{Command}
 use Rattle.frames.specs.declared.Command.TheVariants.{Open, Disconnect, Create, Destroy, Release, Transfer, Send, Receive, Quota, Holders, ShowSeed}
 use Rattle.frames.specs.declared.Parsed.{Parsed}
@@ -18,28 +15,26 @@ use Rattle.journal_model.specs.Journal.{is_question}
 use borrow.Author.Rules.{rules}
 use Rattle.recovery.proofs.is_question.Goals as goal
 
-abbrev rest : List ℕ
-rest = 0 ∷ 1 ∷ 2 ∷ 3 ∷ 4 ∷ 5 ∷ 6 ∷ 7 ∷ 10 ∷ []
+plain : (k : Command) → ((p : Peer) (u : User) → k ≡ Quota p u → ⊥) → ((p : Peer) (i : HandleId) → k ≡ Holders p i → ⊥) → false ≡ is_question (Read k)
+plain (Open p u) _ _ = refl
+plain (Disconnect p) _ _ = refl
+plain (Create p i) _ _ = refl
+plain (Destroy p i) _ _ = refl
+plain (Release p i) _ _ = refl
+plain (Transfer p i q) _ _ = refl
+plain (Send p z) _ _ = refl
+plain (Receive p room) _ _ = refl
+plain (Quota p u) not_quota _ = absurd (not_quota p u refl)
+plain (Holders p i) _ not_holders = absurd (not_holders p i refl)
+plain (ShowSeed p room) _ _ = refl
 
-plain : (k : Command) → OneOf rest (declared.tag_of the.the_type k) → false ≡ is_question (Read k)
-plain (Open p u) k = refl
-plain (Disconnect p) k = refl
-plain (Create p i) k = refl
-plain (Destroy p i) k = refl
-plain (Release p i) k = refl
-plain (Transfer p i q) k = refl
-plain (Send p z) k = refl
-plain (Receive p room) k = refl
-plain (Quota p u) k = absurd (miss rest 8 tt k)
-plain (Holders p i) k = absurd (miss rest 9 tt k)
-plain (ShowSeed p room) k = refl
 module _ (f : List ℕ) {x : Parsed} (e : x ≡ parse f) where
   not-read : {n : ℕ} → x ≡ Refused n → false ≡ is_question (parse f)
   not-read q = rw (← e, q) refl
 
   module _ {k : Command} (q : x ≡ Read k) where
-    no-question : OneOf rest (declared.tag_of the.the_type k) → false ≡ is_question (parse f)
-    no-question h = rw (← e, q) (plain k h)
+    no-question : ((p : Peer) (u : User) → k ≡ Quota p u → ⊥) → ((p : Peer) (i : HandleId) → k ≡ Holders p i → ⊥) → false ≡ is_question (parse f)
+    no-question not_quota not_holders = rw (← e, q) (plain k not_quota not_holders)
 
     asks-quota : {p : Peer} {u : User} → k ≡ Quota p u → true ≡ is_question (parse f)
     asks-quota r = rw (← e, q, r) refl
@@ -57,4 +52,4 @@ pub returns-in-Holders : goal.returns-in-Holders
 returns-in-Holders c = asks-holders _ c.parse.ensures c.in-Read.is c.in-Holders.is
 
 pub returns-in_default-c : goal.returns-in_default-c
-returns-in_default-c c = no-question _ c.parse.ensures c.in-Read.is c.in_default-c.in_default-c-own.keys3
+returns-in_default-c c = no-question _ c.parse.ensures c.in-Read.is c.in_default-c.not-Quota c.in_default-c.not-Holders

@@ -1,9 +1,5 @@
 -- `recovery::replay_lines` meets its contract: each turn is one step of the replay. Assumes nothing.
 use Prim.Native.Nat.{ℕ}
-use mathlib.Core.List.{List, [], ◌∷◌}
-use types.Run.{OneOf, miss}
-use denote.Enum.Declared as declared
-use Rattle.recovery.specs.contracts.Step as the
 use Rattle.recovery.specs.declared.Step.{Step}
 use Rattle.recovery.specs.declared.Step.TheVariants as step
 use Rattle.recovery.specs.Steps.{on_next}
@@ -16,14 +12,11 @@ use native.Mathlib.Omega.{arith}
 use borrow.Author.Rules.{rules}
 use Rattle.recovery.proofs.replay_lines.Goals as goal
 
-abbrev rest : List ℕ
-rest = 1 ∷ 2 ∷ 3 ∷ []
-
-others : (x : Step) → OneOf rest (declared.tag_of the.the_type x) → (A : Type 0) (f : ℕ → A) (a : A) → on_next x f a ≡ a
-others (step.Next j) k A f a = absurd (miss rest 0 tt k)
-others step.End k A f a = refl
-others step.Refused k A f a = refl
-others (step.Unread place) k A f a = refl
+others : (x : Step) → ((j : ℕ) → x ≡ step.Next j → ⊥) → (A : Type 0) (f : ℕ → A) (a : A) → on_next x f a ≡ a
+others (step.Next j) not_next A f a = absurd (not_next j refl)
+others step.End _ A f a = refl
+others step.Refused _ A f a = refl
+others (step.Unread place) _ A f a = refl
 
 pub loop-n-init : goal.loop-n-init
 loop-n-init c = (invariant-first _ _ _ _ c.requires, refl, refl, refl, refl, refl, refl, refl, refl, refl, refl, refl)
@@ -65,7 +58,7 @@ pub shape_of-out-in_default : goal.shape_of-out-in_default
 shape_of-out-in_default c = omega (arith, c.replay_line-step.auto.out, c.loop-n.invariant.11)
 
 pub returns-in_default : goal.returns-in_default
-returns-in_default c = invariant-halts c.loop-n.invariant.0 c.loop-n-test.true c.replay_line-step.ensures (others c.replay_line-step.result c.in_default.in_default-own.keys2) c.halted.ensures
+returns-in_default c = invariant-halts c.loop-n.invariant.0 c.loop-n-test.true c.replay_line-step.ensures (others c.replay_line-step.result c.in_default.not-Next) c.halted.ensures
 
 pub overflow_add-at : goal.overflow_add-at
 overflow_add-at c = omega (arith, c.before.before.before.before.before.before.before.before.before.before.before.before.before.before.before.before.before.before.before.before.before.before.before.before.before.before.before.before.before.before.before.before.before.before.before.before.before.before.before.before.before.before.before.before.before.before.before.before.before.before.before.before.before.well-formed.1.1.1.1.1.1.1.1.1.1.0, invariant-in c.loop-n.invariant.0 c.loop-n-test.true c.replay_line-step.ensures c.in-Next.is)
