@@ -8,7 +8,8 @@ use mathlib.Core.Logic.{◌⊎◌}
 use mathlib.Core.Logic.◌⊎◌.{inl, inr}
 use mathlib.Core.List.{List, [], ◌∷◌, ◌++◌, map, append_assoc, append-nil}
 use lib.ListN.{length, take}
-use denote.Ref.{Bor}
+use denote.Bor.{Bor}
+use denote.Ref.{MutBor}
 use contract.Lifetimes
 use borrow.Fn.World
 use borrow.Fn.Kinds as Kinds'
@@ -271,8 +272,11 @@ nothing-written-of-calls κs a r s z l =
 
 -- SUCH CALLS EXIST: of `fresh` and `recover` over any buffers of exact length, and of `command_with_journal` with any frame and any answer buffer on what a run left. A reference is where
 -- it lies, a name, and its value; no contract says anything of the first two.
-abbrev lent : {X : Type 0} → X → Bor X
-lent v = record { ref_ptr = (0, 0); now = v }
+abbrev lent : {X : Type 0} → X → MutBor X
+lent v = record { ref_ptr = (0, 0); ghost_name = 0; now = v }
+
+abbrev shown : {X : Type 0} → X → Bor X
+shown v = record { ref_ptr = (0, 0); now = v }
 
 abbrev ten : Lifetimes.Lfts 10
 ten = ([], ([], ([], ([], ([], ([], ([], ([], ([], ([], tt))))))))))
@@ -290,22 +294,22 @@ pub resumed-exists : (old : Bus) → sized_ok old ≡ true → (s : List ℕ) (n
     Calls (replay_history fresh_bus (lines_in s)) (recovered old s).bus j u
 resumed-exists old z s n u e j h t =
     let d = (recovered old s).bus in
-    resumed eleven (lent old.peers, (lent old.nodes, (lent old.handles, (lent old.charges, (lent old.rings.ends, (lent old.rings.rows.entries, (lent old.rings.rows.carried, (lent old.rings.rows.numbers, (lent old.pool, (lent old.seeds, (lent s, tt))))))))))) (recovered old s).result
-    (lent d.peers, (lent d.nodes, (lent d.handles, (lent d.charges, (lent d.rings.ends, (lent d.rings.rows.entries, (lent d.rings.rows.carried, (lent d.rings.rows.numbers, (lent d.pool, (lent d.seeds, (lent s, tt))))))))))) z refl n u e j h t
+    resumed eleven (lent old.peers, (lent old.nodes, (lent old.handles, (lent old.charges, (lent old.rings.ends, (lent old.rings.rows.entries, (lent old.rings.rows.carried, (lent old.rings.rows.numbers, (lent old.pool, (lent old.seeds, (shown s, tt))))))))))) (recovered old s).result
+    (lent d.peers, (lent d.nodes, (lent d.handles, (lent d.charges, (lent d.rings.ends, (lent d.rings.rows.entries, (lent d.rings.rows.carried, (lent d.rings.rows.numbers, (lent d.pool, (lent d.seeds, (shown s, tt))))))))))) z refl n u e j h t
 
 pub call-exists : {xs : List Exchange} {b : Bus} {j : List ℕ} {u : ℕ} → Calls xs b j u → (c : Call) → let k = command_with b c.frame c.buffer j u in
     Calls (xs ++ (exchange_with b j u c ∷ [])) k.done.bus k.journal k.used
 call-exists {b = b} {j = j} {u = u} t c =
     let k = command_with b c.frame c.buffer j u in
     let d = k.done.bus in
-    call thirteen (lent b.peers, (lent b.nodes, (lent b.handles, (lent b.charges, (lent b.rings.ends, (lent b.rings.rows.entries, (lent b.rings.rows.carried, (lent b.rings.rows.numbers, (lent b.pool, (lent b.seeds, (lent c.frame, (lent c.buffer, (lent j, (u, tt))))))))))))))
+    call thirteen (lent b.peers, (lent b.nodes, (lent b.handles, (lent b.charges, (lent b.rings.ends, (lent b.rings.rows.entries, (lent b.rings.rows.carried, (lent b.rings.rows.numbers, (lent b.pool, (lent b.seeds, (shown c.frame, (lent c.buffer, (lent j, (u, tt))))))))))))))
     (record { number = k.done.outcome.number; len = k.done.outcome.len; used = k.used })
-    (lent d.peers, (lent d.nodes, (lent d.handles, (lent d.charges, (lent d.rings.ends, (lent d.rings.rows.entries, (lent d.rings.rows.carried, (lent d.rings.rows.numbers, (lent d.pool, (lent d.seeds, (lent c.frame, (lent k.done.out, (lent k.journal, (u, tt)))))))))))))) t refl refl refl refl
+    (lent d.peers, (lent d.nodes, (lent d.handles, (lent d.charges, (lent d.rings.ends, (lent d.rings.rows.entries, (lent d.rings.rows.carried, (lent d.rings.rows.numbers, (lent d.pool, (lent d.seeds, (shown c.frame, (lent k.done.out, (lent k.journal, (u, tt)))))))))))))) t refl refl refl refl
 
 -- A run goes on with any calls. So there is one for every list of calls from a fresh bus with any journal, and from every recovery that was whole.
 pub calls-go-on : {xs : List Exchange} {b : Bus} {j : List ℕ} {u : ℕ} → Calls xs b j u → (cs : List Call) →
     (ys : List Exchange) × (d : Bus) × (i : List ℕ) × (v : ℕ) × Calls (xs ++ ys) d i v × (map (λ x. x.call) ys ≡ cs)
 calls-go-on {xs = xs} {b = b} {j = j} {u = u} t [] = ([], b, j, u, rw (append-nil xs) t, refl)
 calls-go-on {xs = xs} {b = b} {j = j} {u = u} t (c ∷ cs) =
-    let z = calls-go-on (call-exists t c) cs in
+    let z = calls-go-on {xs = xs ++ (exchange_with b j u c ∷ [])} (call-exists t c) cs in
     (exchange_with b j u c ∷ z.0, z.1, z.2, z.3, rw (sym (append_assoc xs (exchange_with b j u c ∷ []) z.0)) z.4, ap (◌∷◌ c) z.5)

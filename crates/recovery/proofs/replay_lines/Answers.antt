@@ -61,7 +61,7 @@ pub returns-in_default : goal.returns-in_default
 returns-in_default c = invariant-halts c.loop-n.invariant.0 c.loop-n-test.true c.replay_line-step.ensures (others c.replay_line-step.result c.in_default.not-Next) c.halted.ensures
 
 pub overflow_add-at : goal.overflow_add-at
-overflow_add-at c = omega (arith, c.before.before.before.before.before.before.before.before.before.before.before.before.before.before.before.before.before.before.before.before.before.before.before.before.before.before.before.before.before.before.before.before.before.before.before.before.before.before.before.before.before.before.before.before.before.before.before.before.before.before.before.before.before.well-formed.1.1.1.1.1.1.1.1.1.1.0, invariant-in c.loop-n.invariant.0 c.loop-n-test.true c.replay_line-step.ensures c.in-Next.is)
+overflow_add-at c = omega (arith, invariant-in c.loop-n.invariant.0 c.loop-n-test.true c.replay_line-step.ensures c.in-Next.is)
 
 pub overflow_add-n : goal.overflow_add-n
 overflow_add-n c = omega (arith, c.loop-n-test.true, c.ranges)
