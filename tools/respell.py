@@ -18,6 +18,7 @@ LEMMAS = [
         "any_below_lem",
         ("crates/model/", "crates/bus_model/specs/Seen.antt", "crates/effects/specs/Listing.antt", "crates/seeds/specs/Code.antt"),
     ),
+    ("goes_on", "goes_on_lem", ("crates/session/specs/Laws.antt",)),
     ("open_row", "open_row_lem", ("crates/tables/",)),
     ("slots_at", "slots_at_lem", ("crates/seeds/specs/",)),
 ]

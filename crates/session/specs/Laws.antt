@@ -179,8 +179,8 @@ unfolding answered
 no_text b [] h = absurd (omega (arith, h))
 no_text b (l ∷ ls) h = omega arith
 
-pub goes_on : GoesOn
-goes_on b c s t u from next at h k l =
+pub goes_on_lem : GoesOn
+goes_on_lem b c s t u from next at h k l =
     let n = no_text b h.lines (omega (arith, k.full refl, h.size)) in
     omega (arith, h.between.takes, n)
 
@@ -369,7 +369,7 @@ chunk-all k h = record { written = k.written; serves = k.serves; piece = λ z. h
 -- each call for a chunk comes nearer to its end, or is the last
 pub call-less : (b c : Bus) (s t u : List ℕ) (from next at : ℕ) (x y : Bool) → Served b s from 0 t c u next at → Stopped s t next at y → longest ≤ length t → x ≡ true →
     2 * (length s - next) + bit y < 2 * (length s - from) + bit x
-call-less b c s t u from next at x true h k l e = rw e (omega (arith, goes_on b c s t u from next at h k l, h.between.within))
+call-less b c s t u from next at x true h k l e = rw e (omega (arith, goes_on_lem b c s t u from next at h k l, h.between.within))
 call-less b c s t u from next at x false h k l e = rw e (omega (arith, h.between.takes, h.between.within))
 
 -- the fresh bus, and nothing read

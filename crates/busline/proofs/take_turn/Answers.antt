@@ -25,10 +25,10 @@ pub returns-then-got-eq0 : goal.returns-then-got-eq0
 returns-then-got-eq0 c = (omega (arith, c.ended.ensures.0), λ z. clash (sym z ∙ c.ended.ensures.1))
 
 pub slice_bounds-answer_chunk-end-2 : goal.slice_bounds-answer_chunk-end-2
-slice_bounds-answer_chunk-end-2 c = sym (length-take-le _ c.next_chunk-got.new.0 (omega (arith, c.next_chunk-got.ensures.0, c.next_chunk-got.auto.buf)))
+slice_bounds-answer_chunk-end-2 c = sym (length-take-le _ c.next_chunk-got.new.buf (omega (arith, c.next_chunk-got.ensures.0, c.next_chunk-got.auto.buf)))
 
 pub shape_of-buf : goal.shape_of-buf
 shape_of-buf c = omega (arith, c.next_chunk-got.auto.buf, c.carry.auto.buf)
 
 pub returns : goal.returns
-returns c = (c.carry.ensures.0, λ z. let k = c.carry.ensures.1 z in goes_on _ _ c.args.buf.now c.next_chunk-got.new.0 c.carry.new.0 c.args.held c.next_chunk-got.result c.answer_chunk-sent.result.from c.carry.result.held _ c.requires.3 c.next_chunk-got.ensures.1 c.answer_chunk-sent.ensures k.0 k.1 k.2)
+returns c = (c.carry.ensures.0, λ z. let k = c.carry.ensures.1 z in goes_on _ _ c.args.buf.now c.next_chunk-got.new.buf c.carry.new.buf c.args.held c.next_chunk-got.result c.answer_chunk-sent.result.from c.carry.result.held _ c.requires.3 c.next_chunk-got.ensures.1 c.answer_chunk-sent.ensures k.0 k.1 k.2)
