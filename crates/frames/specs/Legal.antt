@@ -1,7 +1,7 @@
 -- What holds of every command that the frame reader hands on, and that it refuses with no other number than 22, 25 and 90.
 -- Callers use this law and never the text of `parse`.
 -- Assumes nothing.
-use Rattle.std.specs.Prelude.{ℕ, ◌%◌, ◌≤◌, ◌<◌, ◌≡◌, refl, Bool, true, false, ◌⊎◌, List, length, get_or, eqb, ltb}
+use Rattle.std.specs.Prelude.{ℕ, ◌%◌, ◌≤◌, ◌≡◌, refl, Bool, true, false, ◌⊎◌, List, length, get_or, eqb, ltb}
 use Rattle.std.proofs.Math.Logic.◌⊎◌.{inl, inr}
 use Rattle.std.proofs.Common.{arith, length-drop, ltb-false, eqb-true}
 use Rattle.ids.specs.Refusals.{EINVAL, EMSGSIZE, ENOTTY}

@@ -1,7 +1,7 @@
 -- Halving: the first place at which a rising test holds, found by asking it at few places.
 -- Assumes nothing.
 use Rattle.std.specs.Prelude.{ℕ, zero, suc, ◌+◌, ◌*◌, ◌-◌, ◌/◌, ◌^◌, ◌≤◌, ◌<◌, ◌≡◌, refl, Bool, true, false, List, [], ◌∷◌, length, ltb, leb}
-use Rattle.std.proofs.Common.{sym, ap, ◌∙◌, arith, pow_pos, ltb-true, ltb-false, leb-true, le-leb, lt-ltb, le-ltb}
+use Rattle.std.proofs.Common.{sym, ap, ◌∙◌, arith, ltb-true, ltb-false, leb-true, le-leb, lt-ltb, le-ltb}
 use Rattle.laws.specs.Tests.{pick, Seen, Seen.is_true, Seen.is_false, look, clash}
 use Rattle.laws.specs.Weights.{All}
 use Rattle.laws.specs.Search.{first, first-is}

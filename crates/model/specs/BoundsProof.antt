@@ -1,7 +1,7 @@
 -- Bounds of the counts and of the given IDs in every run.
 -- Assumes nothing.
 use Rattle.model.specs.Founded.{Founded}
-use Rattle.std.specs.Prelude.{ℕ, suc, ◌+◌, ◌-◌, ◌*◌, ◌≤◌, ◌<◌, ◌≡◌, false, List, [], ◌∷◌, map, length, eqb}
+use Rattle.std.specs.Prelude.{ℕ, suc, ◌+◌, ◌-◌, ◌*◌, ◌≤◌, ◌<◌, ◌≡◌, false, List, [], ◌∷◌, length, eqb}
 use Rattle.std.proofs.Math.Path.{refl}
 use Rattle.std.proofs.Common.{◌∙◌, arith}
 use Rattle.laws.specs.Tests.{pick, Seen, Seen.is_true, Seen.is_false, look, clash, pick_all}
@@ -9,11 +9,10 @@ use Rattle.laws.specs.Tables.{upd, upd_same, upd_other, upd-all}
 use Rattle.laws.specs.Weights.{All}
 use Rattle.frames.specs.declared.Command.{Command}
 use Rattle.frames.specs.declared.Command.TheVariants.{Open, Disconnect, Create, Destroy, Release, Transfer, Send, Receive, Quota, Holders, ShowSeed}
-use Rattle.frames.specs.Frame.{most_ids, payload_of}
+use Rattle.frames.specs.Frame.{most_ids}
 use Rattle.frames.specs.Legal.{Legal}
 use Rattle.model.specs.Numbers.{peers, slots, most_commands, invalid, next_id}
-use Rattle.model.specs.State.{is_live, Handle, Handle.none, Handle.some, handle_of, held, count, Entry, Entry.message, Entry.destroyed, Entry.released, State, start, slot, total, free_place, seed_carries, Seed, Seed.unset}
-use Rattle.model.specs.Requests.{destinations, attached}
+use Rattle.model.specs.State.{Handle, Handle.none, Handle.some, handle_of, held, count, Entry, Entry.message, Entry.destroyed, Entry.released, State, start, slot, total, free_place, seed_carries, Seed, Seed.unset}
 use Rattle.model.specs.Refusals.{refusal}
 use Rattle.model.specs.Tables.{accept, with_status, with_user, with_handles, with_handle, with_given, with_queues, with_charges, with_lives, with_seed}
 use Rattle.model.specs.Changes.{push, push_all, take_out, withdraw, shown, given_after, give, give_all, forget, fell, notify, notify_all, destroy_all, deliver, valid, settled}
@@ -25,7 +24,7 @@ use Rattle.model.specs.Notices.{Stands, Noted}
 use Rattle.model.specs.Occurs.{sum-zero, sum_more}
 use Rattle.model.specs.Counts.{put, total-one, total-more, count-handle}
 use Rattle.model.specs.NoticesFree.{holder-peer}
-use Rattle.model.specs.NoticesProof.{noted-start, noted-kept, noted, sound-start, sound-kept}
+use Rattle.model.specs.NoticesProof.{noted, sound-start, sound-kept}
 use Rattle.model.specs.Bounds.{Bounded}
 
 -- Numbers that a change raises by at most d.

@@ -1,7 +1,7 @@
 -- 02 No. 2, invalid handles by order, of histories alone: frames, numbers and answers, with their book and ledger, and no word of the state. S is the accepted send of a message (`Sent` in
 -- Delivered.antt), D the accepted destroy whose ID names the node, or the accepted disconnect of the peer that created it (`ends` in Lives.antt).
 -- Assumes nothing.
-use Rattle.std.specs.Prelude.{ℕ, suc, ◌+◌, ◌≤◌, ◌<◌, ◌≡◌, true, false, ◌⊎◌, List, [], ◌∷◌, ◌++◌}
+use Rattle.std.specs.Prelude.{ℕ, suc, ◌+◌, ◌≤◌, ◌<◌, ◌≡◌, true, false, ◌⊎◌, List, ◌∷◌, ◌++◌}
 use Rattle.model.specs.Numbers.{peers, invalid, next_id}
 use Rattle.model.specs.State.{Handle.none}
 use Rattle.model.specs.Book.{Node, Noted.noted, Fed, shown_ids, acting_peer}

@@ -1,35 +1,32 @@
 -- Invalid handles by order: the proofs of (a), (b) and (d).
 -- Assumes nothing.
-use Rattle.std.specs.Prelude.{ℕ, suc, ◌+◌, ◌≤◌, ◌<◌, ◌≡◌, Bool, true, not, ◌⊎◌, eqb, ltb}
+use Rattle.std.specs.Prelude.{ℕ, suc, ◌≤◌, ◌<◌, ◌≡◌, Bool, true, not, ◌⊎◌, eqb, ltb}
 use Rattle.std.proofs.Math.Path.{refl, sym, ap₂, subst}
 use Rattle.std.proofs.Common.{ap, ◌∙◌, arith}
 use Rattle.std.proofs.Math.Bool.{false}
 use Rattle.std.proofs.Math.Logic.◌⊎◌.{inl, inr}
 use mathlib.Core.List.{List, [], ◌∷◌, ◌++◌, append_assoc}
-use borrow.Author.Tests.{eqb-true, eqb-false, eq-eqb, ne_eqb, ltb-true, lt-ltb, le-ltb}
-use Rattle.laws.specs.Tests.{pick, Seen, Seen.is_true, Seen.is_false, look, clash, Same, Same.same, Same.other, same?}
+use borrow.Author.Tests.{eqb-true, eq-eqb, ne_eqb, lt-ltb, le-ltb}
+use Rattle.laws.specs.Tests.{pick, Seen, Seen.is_true, Seen.is_false, look, clash}
 use Rattle.laws.specs.Weights.{load, load-append, All}
 use Rattle.frames.specs.Frame.{opcode}
 use Rattle.model.specs.Numbers.{invalid}
 use Rattle.model.specs.Lists.{both, either}
 use Rattle.model.specs.State.{Handle, Handle.none, Handle.some, held}
 use Rattle.model.specs.Requests.{attached}
-use Rattle.model.specs.Book.{Node, Noted.noted, nodes_of, Fed, shown_ids, is_send, acting_peer, sizes_of}
-use Rattle.model.specs.Step.{Call}
-use Rattle.model.specs.Claim.{book_after}
+use Rattle.model.specs.Book.{Node, Fed, shown_ids, acting_peer, sizes_of}
 use Rattle.model.specs.Tally.{is_counted, tally}
-use Rattle.model.specs.Ledger.{Letter, Item, Item.message, Item.destroyed, Item.released, Ledger, valid_at, ledger_after, item_number}
+use Rattle.model.specs.Ledger.{Item, Item.destroyed, valid_at, ledger_after, item_number}
 use Rattle.model.specs.Rows.{book_of, ledger_of}
 use Rattle.model.specs.Happened.{Happened, happened-front, of_cut}
 use Rattle.model.specs.Shows.{Takes, AtOnePlace}
 use Rattle.model.specs.Lives.{ended_in, made-lives}
 use Rattle.model.specs.Delivered.{Sent, Delivered}
 use Rattle.model.specs.Exchanges.{ledger-tally, tally-append}
-use Rattle.model.specs.HandlesIn.{nodes-in, order-in}
+use Rattle.model.specs.HandlesIn.{nodes-in}
 use Rattle.model.specs.RowsRun.{entered-grows}
 use Rattle.model.specs.Occurs.{either-false}
 use Rattle.model.specs.LedgerGone.{dead-for-good, maker-for-good, died-before, died-for-good, died-since}
-use Rattle.model.specs.LedgerLaws.{Does}
 use Rattle.model.specs.LedgerLawsProof.{send-in}
 use Rattle.model.specs.SeedsProof.{at_all, NotedAs, nodes-noted}
 use Rattle.model.specs.Queues.{front, Later, Later.behind, Later.stays, Later.leaves}
@@ -38,7 +35,7 @@ use Rattle.model.specs.WaitsProof.{followed-in}
 use Rattle.model.specs.Waiting.{StandsIn, notice_of, notices_of, waiting-in}
 use Rattle.model.specs.Noticed.{notices-tell}
 use Rattle.model.specs.OneOrderIn.{FirstFrom, took-in-order}
-use Rattle.model.specs.ByOrder.{Destruction, ShowsByOrder, Told, Got, NoticeFollows, ToldOnce}
+use Rattle.model.specs.ByOrder.{Destruction, ShowsByOrder, Told, NoticeFollows, ToldOnce}
 use Rattle.model.specs.ByOrderTold.{died-by, same-notice}
 
 -- The ledger of a history and of one that goes on: the number under which a node died.

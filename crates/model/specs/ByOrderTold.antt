@@ -1,8 +1,8 @@
 -- Invalid handles by order: the proof of (c), and the command that destroyed a node.
 -- Assumes nothing.
-use Rattle.std.specs.Prelude.{ℕ, suc, ◌+◌, ◌≤◌, ◌<◌, ◌≡◌, Bool, false, not, ◌⊎◌, get_or, eqb, ltb}
+use Rattle.std.specs.Prelude.{ℕ, suc, ◌+◌, ◌≤◌, ◌<◌, ◌≡◌, Bool, false, ◌⊎◌, get_or, eqb, ltb}
 use Rattle.std.proofs.Math.Path.{refl, ap, subst}
-use Rattle.std.proofs.Common.{sym, ap₂, ◌∙◌, arith, eqb-true, eq-eqb, ne_eqb, ltb-true, ltb-false}
+use Rattle.std.proofs.Common.{sym, ap₂, ◌∙◌, arith, eqb-true, eq-eqb, ltb-true, ltb-false}
 use Rattle.std.proofs.Math.Bool.{true}
 use Rattle.std.proofs.Math.Logic.◌⊎◌.{inl, inr}
 use mathlib.Core.List.{List, [], ◌∷◌, ◌++◌, map, append_assoc, append-nil}
@@ -16,17 +16,17 @@ use Rattle.frames.specs.declared.Parsed.TheVariants.{Read}
 use Rattle.frames.specs.Frame.{opcode, parse}
 use Rattle.frames.specs.Legal.{Legal}
 use Rattle.model.specs.Numbers.{peers}
-use Rattle.model.specs.Lists.{both, either, any}
+use Rattle.model.specs.Lists.{either, any}
 use Rattle.model.specs.State.{Handle, Handle.none, Handle.some, held, start}
 use Rattle.model.specs.Step.{Call, step, run}
 use Rattle.model.specs.Book.{Node, Noted.noted, Book, Fed, note, empty, feed, feed_all, acting_peer}
-use Rattle.model.specs.Claim.{fed, history_from, book_after}
+use Rattle.model.specs.Claim.{fed, history_from}
 use Rattle.model.specs.Occurs.{either-false}
 use Rattle.model.specs.Coded.{coded}
 use Rattle.model.specs.Tally.{tally}
 use Rattle.model.specs.History.{history-append, ledger-left, fed-enters}
 use Rattle.model.specs.Queues.{front, Later, Later.behind, Later.stays, Later.leaves}
-use Rattle.model.specs.Ledger.{Item, Item.message, Item.destroyed, Item.released, Ledger, no_release, brings, is_told, ledger_create, ledger_counted, enter, with_book, feed_ledger, due_item, ledger_after}
+use Rattle.model.specs.Ledger.{Item, Item.message, Item.destroyed, Item.released, Ledger, no_release, brings, is_told, ledger_create, ledger_counted, enter, with_book, due_item}
 use Rattle.model.specs.LedgerStep.{entered_after, note-enters}
 use Rattle.model.specs.LedgerPassed.{Passed}
 use Rattle.model.specs.LedgerMoves.{taken_of, moved_by}

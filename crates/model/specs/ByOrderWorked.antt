@@ -1,7 +1,7 @@
 -- The statements about the order, met by a history: peer 0 sends its node 8 to peer 1, which has no handle to it, and destroys it. Peer 1 is told: it takes out the message, which installs the
 -- handle, and then the notice with the ID that the message showed.
 -- Assumes nothing.
-use Rattle.std.specs.Prelude.{ℕ, ◌≡◌, refl, ◌⊎◌, List, [], ◌∷◌, ◌++◌, map}
+use Rattle.std.specs.Prelude.{◌≡◌, refl, ◌⊎◌, List, [], ◌∷◌, ◌++◌, map}
 use Rattle.std.proofs.Common.{arith}
 use Rattle.laws.specs.Tables.{upd}
 use Rattle.laws.specs.Sums.{sum_to}

@@ -9,7 +9,6 @@ use Rattle.laws.specs.Weights.{All, all-imp}
 use Rattle.model.specs.Numbers.{owner}
 use Rattle.model.specs.Lists.{both, any, rising}
 use Rattle.model.specs.State.{is_live, id_or, State, owner_id, by_owner_id}
-use Rattle.model.specs.Step.{run}
 use Rattle.model.specs.Sim.{called}
 use Rattle.model.specs.Occurs.{both_true}
 use Rattle.model.specs.Rising.{Sorted, rising-pass, rising-sorted, sorted-map, sorted-same, ascending-same, owner-pass, owner-sorted}

@@ -20,7 +20,7 @@ use Rattle.frames.specs.Legal.{Legal, Outcome, legal, payload-length, legal-comm
 use Rattle.frames.specs.Fields.{Fields, fields-command}
 use Rattle.quota.specs.Charges.{users, own}
 use Rattle.answers.specs.Answer.{answer_size, number_of, outcome_of}
-use Rattle.model.specs.Resources.{Resource, Resource.messages, Resource.bytes, Resource.handles, weigh, amount, most, share}
+use Rattle.model.specs.Resources.{Resource, weigh, amount, most, share}
 use Rattle.model.specs.Requests.{destinations, attached}
 use Rattle.model.specs.State.{messages_in, State, slot}
 use Rattle.model.specs.Refusals.{refuses_send, refusal}

@@ -6,13 +6,13 @@ use Rattle.std.specs.Prelude.{◌≡◌, refl, true, false, eqb, ltb}
 use Rattle.std.proofs.Common.{sym, ap, ◌∙◌, arith, ne_eqb}
 use Rattle.std.proofs.Math.Bool.{Bool}
 use mathlib.Core.List.{List, [], ◌∷◌, ◌++◌, map}
-use Rattle.laws.specs.Tests.{pick, Seen, Seen.is_true, Seen.is_false, look, Same, Same.same, Same.other, same?, clash, pick_all, pick-cases}
-use Rattle.laws.specs.Tables.{upd, upd_same, upd_other, upd-all, upd-rel}
+use Rattle.laws.specs.Tests.{pick, Seen, Seen.is_true, Seen.is_false, look, Same, Same.same, Same.other, same?, clash, pick_all}
+use Rattle.laws.specs.Tables.{upd, upd_same, upd_other, upd-all}
 use Rattle.laws.specs.Weights.{keep, All, all_append, all-imp, all_keep}
 use Rattle.model.specs.Numbers.{peers, slots, owner}
 use Rattle.model.specs.Lists.{both, either, any}
 use Rattle.model.specs.State.{Status.disconnected, Life, is_live, Handle, Handle.none, handle_of, held, count, Message, messages_in, Seed, free_place, Entry, Entry.message, Entry.destroyed, Entry.released, State, earlier, concerned, by_owner_id}
-use Rattle.model.specs.Tables.{accept, with_status, with_given, with_handle, with_handles, with_queue, with_queues, with_charges, with_seed, with_lives}
+use Rattle.model.specs.Tables.{accept, with_status, with_given, with_handle, with_handles, with_queues, with_charges, with_seed, with_lives}
 use Rattle.model.specs.Occurs.{both_true}
 use Rattle.model.specs.Rising.{owner-pass}
 use Rattle.model.specs.Changes.{push_all, at_peers, take_out, not_released, withdraw, valid, shown, given_after, give, give_all, stays, settle, settled, destroy_notices, destroy_all, remains, forget, fell, notify, release_notices, notify_all, arriving, deliver}

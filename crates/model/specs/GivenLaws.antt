@@ -9,7 +9,7 @@ use Rattle.laws.specs.Weights.{All}
 use Rattle.laws.specs.Build.{build, build-snoc}
 use Rattle.model.specs.Numbers.{nodes, owner, invalid, next_id}
 use Rattle.model.specs.Lists.{either}
-use Rattle.model.specs.State.{is_live, Handle, Handle.none, Handle.some, handle_of, count, has_id, State, slot_of, slot}
+use Rattle.model.specs.State.{Handle, Handle.none, Handle.some, handle_of, count, has_id, State, slot_of, slot}
 use Rattle.model.specs.Tables.{with_given, with_handles, with_queues}
 use Rattle.model.specs.Changes.{withdraw, shown, shown_all, given_after, give, give_all, valid}
 use Rattle.model.specs.IdsLaws.{Holding, holding-give, next-free, Changed, Changed.here, Changed.there, changed}

@@ -15,7 +15,7 @@ use Rattle.frames.specs.declared.Command.TheVariants.{Open, Disconnect, Create, 
 use Rattle.frames.specs.Frame.{most_ids, opcode, payload_of}
 use Rattle.model.specs.Numbers.{nodes, invalid, next_id}
 use Rattle.model.specs.Lists.{both}
-use Rattle.model.specs.State.{is_live, Handle, Handle.none, Handle.some, handle_of, Entry, Entry.message, Entry.destroyed, Entry.released, State, start, slot_of, slot, Seed, Seed.kept, seed_carries}
+use Rattle.model.specs.State.{Handle, Handle.none, Handle.some, handle_of, Entry, Entry.message, Entry.destroyed, Entry.released, State, start, slot_of, slot, Seed, Seed.kept, seed_carries}
 use Rattle.model.specs.Tables.{accept, with_status, with_user, with_given, with_handles, with_handle, with_queues, with_charges, with_lives, with_seed}
 use Rattle.model.specs.Refusals.{takeable, refusal}
 use Rattle.model.specs.Changes.{push_all, take_out, withdraw, shown, shown_all, give, give_all, forget, notify_all, destroy_all, deliver, given_after, reseed, valid, settled}

@@ -21,7 +21,7 @@ use Rattle.model.specs.Tested.{TestedCreate, tested}
 use Rattle.model.specs.Accepted.{Kept, induction}
 use Rattle.model.specs.Unchanged.{notify-apart}
 use Rattle.model.specs.Notices.{Stands, Noted}
-use Rattle.model.specs.NoticesProof.{noted-start, noted-kept, noted, sound-start, sound-kept}
+use Rattle.model.specs.NoticesProof.{noted, sound-start, sound-kept}
 use Rattle.model.specs.Ids.{Handles, Ids, SoundIds}
 use Rattle.model.specs.IdsLaws.{Holding, handles-set, fit_of, holding-give, holding-gives}
 use Rattle.model.specs.SimHandles.{some-none}

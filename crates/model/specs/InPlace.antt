@@ -1,11 +1,10 @@
 -- Document 01, "Rules of order and quota": "Counting accepted receives of its peer only, and k entries being ahead of it, an entry comes out at or before receive k + 1,
 -- or has been dropped or withdrawn." Of the entry at its place, also where another one in the queue is the same to the byte: two messages of one send to one node are.
 -- Assumes nothing.
-use Rattle.std.specs.Prelude.{◌+◌, ◌≤◌, ◌<◌, ◌≡◌, refl, ◌⊎◌, List, [], ◌∷◌, ◌++◌, length, get_or, drop}
+use Rattle.std.specs.Prelude.{◌≤◌, ◌<◌, ◌≡◌, refl, ◌⊎◌, List, [], ◌∷◌, ◌++◌, length, get_or, drop}
 use Rattle.std.proofs.Common.{ap, ap₂, arith}
 use Rattle.std.proofs.Math.Logic.◌⊎◌.{inl, inr}
 use Rattle.model.specs.Queues.{Later, Later.behind, Later.stays, Later.leaves}
-use Rattle.model.specs.ProgressProof.{followed}
 
 -- No entry.
 abbrev pub Never : {A : Type 0} → A → Type 0

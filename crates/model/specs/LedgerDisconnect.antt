@@ -5,7 +5,7 @@ use Rattle.std.proofs.Math.Path.{refl, ap}
 use Rattle.std.proofs.Common.{sym, ◌∙◌}
 use mathlib.Core.List.{List, [], ◌++◌, map, map-map, map-append, append_assoc}
 use borrow.Author.Tests.{eqb-true, eqb-false, eq-eqb}
-use Rattle.laws.specs.Tests.{pick, Seen, Seen.is_true, Seen.is_false, look, clash, Same.same}
+use Rattle.laws.specs.Tests.{pick, Seen, Seen.is_true, Seen.is_false, look, clash}
 use Rattle.laws.specs.Tables.{upd, upd_same, upd_other, upd-rel}
 use Rattle.laws.specs.Weights.{all-imp}
 use Rattle.model.specs.Numbers.{peers, owner}

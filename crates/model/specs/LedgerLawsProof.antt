@@ -4,7 +4,7 @@ use Rattle.std.specs.Prelude.{ℕ, suc, ◌-◌, ◌<◌, ◌≡◌, refl, Bool,
 use Rattle.std.proofs.Common.{sym, ap, ap₂, subst, ◌∙◌}
 use mathlib.Core.List.{List, [], ◌∷◌, ◌++◌, map, append-nil}
 use borrow.Author.Tests.{eqb-true, eq-eqb, ne_eqb, ltb-true, lt-ltb}
-use Rattle.laws.specs.Tests.{pick, clash, Same.same}
+use Rattle.laws.specs.Tests.{pick, clash}
 use Rattle.laws.specs.Tables.{upd, upd_same, upd_other}
 use Rattle.laws.specs.Weights.{All, all-imp, keep}
 use Rattle.ids.specs.declared.HandleId.{HandleId}

@@ -12,7 +12,7 @@ use Rattle.frames.specs.declared.Command.{Command}
 use Rattle.frames.specs.declared.Command.TheVariants.{Open, Disconnect, Create, Destroy, Release, Transfer, Send, Receive, Quota, Holders, ShowSeed}
 use Rattle.model.specs.Numbers.{nodes, owner}
 use Rattle.model.specs.Requests.{destinations}
-use Rattle.model.specs.State.{is_live, Handle.some, held, count, State, slot}
+use Rattle.model.specs.State.{is_live, Handle.some, held, State, slot}
 use Rattle.model.specs.Step.{Call, step, run}
 use Rattle.model.specs.Book.{Node, Noted.noted, nodes_of}
 use Rattle.model.specs.Claim.{fed}

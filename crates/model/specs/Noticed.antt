@@ -14,9 +14,9 @@ use Rattle.frames.specs.declared.Command.TheVariants.{Open, Disconnect, Create, 
 use Rattle.frames.specs.Frame.{opcode}
 use Rattle.answers.specs.Answer.{notice_bytes, received_bytes, contents_of, answer_bytes}
 use Rattle.answers.specs.AnswerLaws.{message-kind, destroyed-kind, released-kind}
-use Rattle.model.specs.Numbers.{owner, invalid}
+use Rattle.model.specs.Numbers.{invalid}
 use Rattle.model.specs.State.{is_live, Handle, held, id_or, Entry, Entry.message, Entry.destroyed, Entry.released, State, total}
-use Rattle.model.specs.Replies.{shows_message, shows}
+use Rattle.model.specs.Replies.{shows_message}
 use Rattle.model.specs.Step.{Call, step, run, answer_of}
 use Rattle.model.specs.Book.{Node, Noted.noted, Book, acting_peer, Fed}
 use Rattle.model.specs.Claim.{book_after}

@@ -24,7 +24,7 @@ use Rattle.model.specs.State.{Status.opened, Status.disconnected, Life, is_live,
 use Rattle.model.specs.Requests.{destinations, attached}
 use Rattle.model.specs.Refusals.{pinned, refusal}
 use Rattle.model.specs.Tables.{accept, with_status, with_handles, with_handle, with_given, with_queues, with_charges, with_seed, with_lives, with_user}
-use Rattle.model.specs.Changes.{take_out, withdraw, give, give_all, forget, notify, push_all, destroy_all, valid, dropped, remains, settle, settled, deliver}
+use Rattle.model.specs.Changes.{take_out, withdraw, give, give_all, forget, notify, push_all, destroy_all, valid, dropped, remains, settle}
 use Rattle.model.specs.Effects.{opens, creates, destroys, releases, releases_handle, disconnects, receives, effect}
 use Rattle.model.specs.Step.{Call, run}
 use Rattle.model.specs.Tested.{tested}
@@ -32,7 +32,7 @@ use Rattle.model.specs.Accepted.{Kept, induction}
 use Rattle.model.specs.Notices.{notice_for, Carried, Stands, Noted, mentions, Unnamed}
 use Rattle.model.specs.Occurs.{no}
 use Rattle.model.specs.Counts.{put, total-one, total-two}
-use Rattle.model.specs.NoticesQueues.{noted-accept, noted-out, noted-first, noted-forget, Lone, lone, noted-notify, noted-notify_all, noted-deliver, noted-left, noted-settled}
+use Rattle.model.specs.NoticesQueues.{noted-accept, noted-out, noted-first, Lone, lone, noted-notify, noted-notify_all, noted-deliver, noted-left, noted-settled}
 use Rattle.model.specs.NoticesTables.{noted-put, unreleased, noted-give, forget-needless, noted-drop, noted-born}
 use Rattle.model.specs.NoticesEnds.{lives-dead, noted-destroy_all, noted-leave, noted-open}
 use Rattle.model.specs.NoticesFree.{holder-peer, created-unnamed}

@@ -4,12 +4,12 @@ use Rattle.std.specs.Prelude.{ℕ, suc, ◌<◌, ◌≡◌, refl, true, false, e
 use Rattle.std.proofs.Common.{sym, ap, ◌∙◌, arith, eq-eqb}
 use Rattle.std.proofs.lemmas.Bool.{eqb-false, not-true}
 use Rattle.laws.specs.Tests.{Seen, Seen.is_true, Seen.is_false, look, Same, Same.same, Same.other, same?, clash}
-use Rattle.laws.specs.Tables.{upd, upd_same, upd_other, upd-all}
+use Rattle.laws.specs.Tables.{upd, upd_other, upd-all}
 use Rattle.laws.specs.Weights.{All, all-imp, all_keep, keep}
 use Rattle.model.specs.Numbers.{nodes, owner}
 use Rattle.model.specs.State.{Status.opened, Life.live, is_live, Handle, Handle.none, handle_of, held, count, Entry, Entry.message, Entry.destroyed, Entry.released, State, total}
-use Rattle.model.specs.Tables.{with_given, with_handles, with_handle, with_queues, with_charges, with_lives}
-use Rattle.model.specs.Changes.{take_out, withdraw, shown, give, dropped, remains, forget, valid, stays, settle}
+use Rattle.model.specs.Tables.{with_given, with_handles, with_handle, with_queues, with_lives}
+use Rattle.model.specs.Changes.{withdraw, shown, give, dropped, remains, valid, stays, settle}
 use Rattle.model.specs.Notices.{notice_for, Stands, Noted}
 use Rattle.model.specs.Occurs.{no, keep-imp, all_both}
 use Rattle.model.specs.Counts.{put, put_all, put_other, total-other}

@@ -8,7 +8,7 @@ use Rattle.laws.specs.Weights.{keep}
 use Rattle.laws.specs.Loads.{keep-every}
 use Rattle.model.specs.Numbers.{peers, owner}
 use Rattle.model.specs.Lists.{both}
-use Rattle.model.specs.State.{Life, is_live, Handle, held, Message, Entry, Entry.message, Entry.destroyed, Entry.released, messages_in, State, by_owner_id, concerned}
+use Rattle.model.specs.State.{Life, Handle, Message, Entry, Entry.message, Entry.destroyed, Entry.released, messages_in, State, by_owner_id, concerned}
 use Rattle.model.specs.Tables.{accept, with_given, with_handles, with_queues, with_queue, with_lives}
 use Rattle.model.specs.Changes.{push_all, at_peers, not_released, withdraw, give, give_all, fell, notify, release_notices, notify_all, destroy_notices, destroy_all, valid, stays, settle, settled}
 

@@ -6,7 +6,7 @@ use Rattle.std.proofs.Math.Path.{ap}
 use Rattle.std.proofs.Math.Bool.{not}
 use Rattle.std.proofs.Math.Logic.◌⊎◌.{inl, inr}
 use Rattle.laws.specs.Tests.{clash}
-use Rattle.model.specs.Numbers.{peers, slots, nodes, owner}
+use Rattle.model.specs.Numbers.{peers, slots, owner}
 use Rattle.model.specs.Lists.{both, either, any, any_below}
 use Rattle.model.specs.State.{is_live, held, Entry, Entry.message, Entry.destroyed, Entry.released, messages_in, State, held_by_any, names, named, counts, free_place, seed_carries, seeded}
 use Rattle.model.specs.Occurs.{both_true}

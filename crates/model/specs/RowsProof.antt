@@ -17,13 +17,11 @@ use Rattle.frames.specs.declared.Command.{Command}
 use Rattle.frames.specs.declared.Command.TheVariants.{Open, Disconnect, Create, Destroy, Release, Transfer, Send, Receive, Quota, Holders, ShowSeed}
 use Rattle.frames.specs.Frame.{send_id, payload_of}
 use Rattle.frames.specs.Legal.{Legal, payload-length}
-use Rattle.quota.specs.Charges.{users}
 use Rattle.model.specs.Numbers.{slots, nodes, owner, most_commands}
 use Rattle.model.specs.Lists.{every}
-use Rattle.model.specs.State.{Status, Status.unopened, Status.opened, Status.disconnected, is_live, Handle.none, has_id, Entry, Entry.message, Entry.destroyed, Entry.released, State, slot, slot_of, free_place, Seed, Seed.unset, Seed.kept}
+use Rattle.model.specs.State.{Status, Status.unopened, Status.opened, Status.disconnected, is_live, has_id, Entry, Entry.message, Entry.destroyed, Entry.released, State, slot, slot_of, free_place, Seed, Seed.unset, Seed.kept}
 use Rattle.model.specs.Requests.{destinations, attached}
 use Rattle.model.specs.Refusals.{present, openable, holding, owning, pinned, living, fits, takeable, refuses_open, refuses_disconnect, refuses_create, refuses_destroy, refuses_release, refuses_transfer, refuses_send, refuses_receive, refuses_quota, refuses_holders, refusal, showable, refuses_seed}
-use Rattle.model.specs.Step.{run}
 use Rattle.model.specs.Book.{Node, Noted, Noted.blank, Noted.noted, Book, nodes_of, Fed}
 use Rattle.model.specs.Tested.{every-all}
 use Rattle.model.specs.Charged.{Charged}

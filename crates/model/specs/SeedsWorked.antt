@@ -1,7 +1,7 @@
 -- The statement about the seed, met by a history: peer 0 sets a seed with its nodes 8 and 12, destroys the first, releases its handle, creates another node under 8, and reads its seed. At the
 -- first place stand all ones, and 8 stands nowhere.
 -- Assumes nothing.
-use Rattle.std.specs.Prelude.{ℕ, ◌≡◌, List, [], ◌∷◌, ◌++◌, map}
+use Rattle.std.specs.Prelude.{List, [], ◌∷◌, ◌++◌, map}
 use Rattle.std.proofs.Math.Path.{refl}
 use Rattle.laws.specs.Tables.{upd}
 use Rattle.laws.specs.Sums.{sum_to}

@@ -15,7 +15,7 @@ use Rattle.frames.specs.Frame.{send_id, payload_of}
 use Rattle.frames.specs.Legal.{Legal, payload-length}
 use Rattle.model.specs.Numbers.{slots, invalid, peers}
 use Rattle.model.specs.Requests.{destinations, attached}
-use Rattle.model.specs.State.{is_live, Message, Entry, Entry.message, Entry.destroyed, Entry.released, messages_in, State, slot, free_place, counts, Seed, Seed.unset, Seed.kept, seed_carries}
+use Rattle.model.specs.State.{Message, Entry, Entry.message, Entry.destroyed, Entry.released, messages_in, State, slot, free_place, counts, Seed, Seed.unset, Seed.kept, seed_carries}
 use Rattle.model.specs.Tables.{accept, with_given, with_handles, with_queues, with_charges, with_seed}
 use Rattle.model.specs.Changes.{take_out, withdraw, shown, shown_all, give, give_all, deliver, reseed, valid, settled}
 use Rattle.model.specs.Effects.{receives, effect}

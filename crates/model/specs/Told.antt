@@ -1,17 +1,16 @@
 -- Document 01, "Destroy queues a notice at every holder, owner included", 02 No. 2, "a destruction also queues a notice at each peer with an earlier queued message that carries the node", and "When the sum of counts over all peers falls to 1 from above on a live node, a release notice is
 -- queued at the owner": what an accepted destroy and an accepted release do to each queue, wholly.
 -- Assumes nothing.
-use Rattle.std.specs.Prelude.{ℕ, suc, ◌+◌, ◌-◌, ◌<◌, ◌≡◌, Bool, true, false, List, [], ◌∷◌, ◌++◌, map, eqb, ltb}
+use Rattle.std.specs.Prelude.{ℕ, suc, ◌-◌, ◌<◌, ◌≡◌, Bool, true, false, List, [], ◌∷◌, ◌++◌, map, eqb, ltb}
 use Rattle.std.proofs.Math.Path.{refl}
 use Rattle.std.proofs.Common.{sym, ap, ◌∙◌, append-nil, arith}
 use borrow.Author.Tests.{eqb-true, eq-eqb, ne_eqb}
 use Rattle.laws.specs.Tests.{pick, pick_all, Seen, Seen.is_true, Seen.is_false, look, clash, Same, Same.same, Same.other, same?}
 use Rattle.laws.specs.Tables.{upd, upd_same, upd_other}
 use Rattle.laws.specs.Weights.{keep, All, all-imp}
-use Rattle.frames.specs.declared.Command.TheVariants.{Destroy, Release}
 use Rattle.model.specs.Numbers.{peers, owner}
 use Rattle.model.specs.Lists.{both, any}
-use Rattle.model.specs.State.{Handle, Handle.none, Handle.some, handle_of, count, Entry, Entry.destroyed, Entry.released, State, concerned, owner_id, by_owner_id}
+use Rattle.model.specs.State.{Handle, Handle.some, handle_of, count, Entry, Entry.destroyed, Entry.released, State, concerned, owner_id, by_owner_id}
 use Rattle.model.specs.Tables.{accept, with_lives, with_queues, with_handle, with_handles, with_charges}
 use Rattle.model.specs.Changes.{push, push_all, take_out, not_released, withdraw, settle, remains, forget, fell, notify, destroy_notices, destroy_all}
 use Rattle.model.specs.Effects.{destroys, releases, releases_handle}

@@ -8,7 +8,7 @@ use Rattle.laws.specs.Tests.{pick, pick_all, Seen, Seen.is_true, Seen.is_false, 
 use Rattle.frames.specs.declared.Command.{Command}
 use Rattle.frames.specs.declared.Command.TheVariants.{Open, Disconnect, Create, Destroy, Release, Transfer, Send, Receive, Quota, Holders, ShowSeed}
 use Rattle.model.specs.Numbers.{owner}
-use Rattle.model.specs.State.{is_live, Handle, Handle.none, Handle.some, handle_of, Entry, Entry.message, Entry.destroyed, Entry.released, State, slot, seed_carries, Seed.kept}
+use Rattle.model.specs.State.{Handle, Handle.none, Handle.some, handle_of, Entry, Entry.message, Entry.destroyed, Entry.released, State, slot, seed_carries, Seed.kept}
 use Rattle.model.specs.Tables.{accept, with_status, with_user, with_given, with_handles, with_handle, with_queues, with_charges, with_lives, with_seed}
 use Rattle.model.specs.Changes.{push, push_all, take_out, withdraw, give, give_all, forget, fell, notify, notify_all, destroy_all, deliver, valid, settled}
 use Rattle.model.specs.Effects.{opens, creates, destroys, releases, releases_handle, disconnects, receives, effect}

@@ -1,15 +1,14 @@
 -- What waits in a queue, of histories alone: messages for nodes that their peer owns and holds, notices that still tell the truth, and at most one notice of a node.
 -- So what lapses by an exchange is gone after it: the reasons for which an item leaves unreceived are exact.
 -- Assumes nothing.
-use Rattle.std.specs.Prelude.{ℕ, ◌+◌, ◌≤◌, ◌≡◌, refl, Bool, true, false, ◌⊎◌, List, [], ◌∷◌, ◌++◌, map, length, eqb}
+use Rattle.std.specs.Prelude.{ℕ, ◌≤◌, ◌≡◌, refl, Bool, true, false, ◌⊎◌, List, [], ◌∷◌, ◌++◌, map, length, eqb}
 use Rattle.std.proofs.Common.{sym, ap, subst, ◌∙◌, arith, eqb-true}
 use Rattle.std.proofs.Math.Logic.◌⊎◌.{inl, inr}
 use Rattle.std.proofs.lemmas.List.{length-map}
 use Rattle.laws.specs.Tests.{Seen, Seen.is_true, Seen.is_false, look, clash}
-use Rattle.laws.specs.Weights.{All, all-imp, load}
+use Rattle.laws.specs.Weights.{All, load}
 use Rattle.laws.specs.Loads.{all_map}
 use Rattle.frames.specs.Frame.{most_ids}
-use Rattle.model.specs.Numbers.{owner}
 use Rattle.model.specs.State.{is_live, held, Entry, Entry.message as message_entry, Entry.destroyed as destroyed_entry, Entry.released as released_entry, total}
 use Rattle.model.specs.Step.{Call, run}
 use Rattle.model.specs.Book.{Fed}

@@ -1,6 +1,6 @@
 -- An item with k ahead of it comes out at or before receive k + 1, or is lost: the proof, of histories.
 -- Assumes nothing.
-use Rattle.std.specs.Prelude.{ℕ, ◌+◌, ◌≤◌, ◌≡◌, refl, Bool, true, false, List, [], ◌∷◌, ◌++◌, map, length, get_or, eqb}
+use Rattle.std.specs.Prelude.{ℕ, ◌≤◌, ◌≡◌, refl, Bool, true, false, List, [], ◌∷◌, ◌++◌, map, length, get_or, eqb}
 use Rattle.std.proofs.Common.{subst, ap, ◌∙◌, append_assoc, append-nil, arith, length-append, ne_eqb}
 use Rattle.std.proofs.Math.Logic.◌⊎◌.{inl, inr}
 use Rattle.laws.specs.Tests.{pick}

@@ -8,7 +8,7 @@ use Rattle.frames.specs.declared.Sizes.{Sizes}
 use Rattle.frames.specs.declared.Command.TheVariants.{Disconnect, Send}
 use Rattle.model.specs.Numbers.{peers, owner}
 use Rattle.model.specs.Lists.{any}
-use Rattle.model.specs.State.{Handle, held, Entry, Entry.message, Entry.destroyed, Entry.released, State, owner_id, total, concerned}
+use Rattle.model.specs.State.{Handle, Entry, Entry.message, Entry.destroyed, Entry.released, State, owner_id, total, concerned}
 use Rattle.model.specs.Step.{Call, step, run}
 use Rattle.model.specs.Tested.{Lives}
 use Rattle.model.specs.Accepted.{Accepted}

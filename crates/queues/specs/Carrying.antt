@@ -1,6 +1,6 @@
 -- What the questions about earlier messages answer, in the model's words: whether a message that was queued before a command carries a slot.
 -- Assumes nothing.
-use Rattle.std.specs.Prelude.{ℕ, zero, suc, ◌+◌, ◌≤◌, ◌<◌, ◌≡◌, refl, Bool, true, List, [], ◌∷◌, map, length, get_or, take, drop, eqb, ltb, leb}
+use Rattle.std.specs.Prelude.{ℕ, zero, suc, ◌+◌, ◌≤◌, ◌<◌, ◌≡◌, refl, Bool, true, List, [], ◌∷◌, map, length, get_or, take, drop, eqb, ltb}
 use Rattle.std.proofs.Common.{sym, ap, ◌∙◌, arith, eqb-true, eq-eqb, le-leb}
 use Rattle.std.proofs.Math.Bool.{false}
 use Rattle.laws.specs.Tests.{pick, Seen, Seen.is_true, Seen.is_false, look}
@@ -19,7 +19,7 @@ use Rattle.model.specs.State.{Message, Entry, Entry.message, Entry.destroyed, En
 use Rattle.model.specs.Charged.{queued_by, Fine, Sound}
 use Rattle.view.specs.View.{entry_v, area_of, rows_v, queue_v}
 use Rattle.view.specs.Rows.{queue-own}
-use Rattle.queues.specs.Queues.{is_message, attached_of, brings_in, carried_before}
+use Rattle.queues.specs.Queues.{attached_of, brings_in, carried_before}
 use Rattle.queues.specs.Asking.{Kind, Kind.is-message, Kind.is-destroyed, Kind.is-released, kind}
 
 -- A slot that an earlier queued message carries.

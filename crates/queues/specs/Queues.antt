@@ -1,6 +1,6 @@
 -- What the functions of the queues do to the rings, the pool and the table of charges.
 -- Assumes nothing.
-use Rattle.std.specs.Prelude.{ℕ, suc, ◌+◌, min, ◌≤◌, ◌<◌, ◌≡◌, Bool, true, false, not, List, [], ◌∷◌, length, get_or, take, drop, eqb, ltb, leb}
+use Rattle.std.specs.Prelude.{ℕ, min, ◌≤◌, ◌<◌, ◌≡◌, Bool, false, not, List, [], ◌∷◌, length, get_or, take, drop, eqb, ltb, leb}
 use Rattle.laws.specs.Tests.{pick}
 use Rattle.laws.specs.Sums.{sum_to}
 use Rattle.ids.specs.declared.User.{User}

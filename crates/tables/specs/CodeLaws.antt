@@ -24,7 +24,7 @@ use Rattle.laws.specs.Bits.{bits}
 use Rattle.ids.specs.Refusals.{EBADF, ESHUTDOWN}
 use Rattle.tables.specs.Peers.{peer_row, modulus, status_at, standing_at}
 use Rattle.model.specs.Numbers.{nodes}
-use Rattle.tables.specs.Handles.{own_step, handle_row, list_block, length_block, most_reads, halvings, list_reads, id_at, count_at, has_in, has_at, found_by, found_own, list_length, listed_id, word_at, listed_slot, guess, at_least, place_in, spot, found_among, found_listed, lookup, total_below, total_at, bit_at, holders_below, holders_at, put_handle, clear_below, clear_peer, enlisted, shifted, taken_out, unlisted, raised, reduced}
+use Rattle.tables.specs.Handles.{own_step, handle_row, list_block, length_block, most_reads, halvings, list_reads, id_at, count_at, has_in, has_at, found_by, found_own, list_length, listed_id, word_at, guess, at_least, place_in, spot, found_among, found_listed, lookup, total_below, total_at, bit_at, holders_below, holders_at, put_handle, clear_below, clear_peer, enlisted, shifted, taken_out, unlisted, raised, reduced}
 use Rattle.tables.specs.Charges.{charge_at, charges_at, put_charge, put_below, put_charges}
 use Rattle.ids.specs.Sizes.{peers, slots, handle_fields}
 

@@ -2,7 +2,7 @@
 -- slot's node. Blocks 8 to 15: for each peer the list of the handles that the bus gave it, ascending by ID, each with its slot. Behind them for each peer the length of its list
 -- and the ID of its last entry.
 -- Assumes nothing.
-use Rattle.std.specs.Prelude.{ℕ, zero, suc, ◌+◌, ◌-◌, ◌*◌, ◌/◌, ◌%◌, min, ◌≡◌, refl, Bool, true, false, not, List, get_or, set, eqb, ltb, leb}
+use Rattle.std.specs.Prelude.{ℕ, zero, suc, ◌+◌, ◌-◌, ◌*◌, ◌/◌, ◌%◌, min, ◌≡◌, refl, Bool, false, not, List, get_or, set, eqb, ltb, leb}
 use Rattle.laws.specs.Tests.{pick}
 use Rattle.laws.specs.Sums.{sum_to}
 use Rattle.laws.specs.Search.{first}

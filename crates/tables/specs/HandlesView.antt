@@ -1,33 +1,30 @@
 -- The table of handles seen as the model's handles: at count 0 there is none.
 -- Assumes nothing.
-use Prim.Native.Nat.{ℕ, zero, suc, ◌+◌, ◌-◌, ◌*◌, ◌/◌, ◌%◌, ◌^◌, ◌≤◌, ◌<◌}
+use Prim.Native.Nat.{ℕ, zero, suc, ◌+◌, ◌-◌, ◌*◌, ◌%◌, ◌^◌, ◌≤◌, ◌<◌}
 use Rattle.std.specs.Prelude.{◌≡◌, true, false, not, get_or, eqb, ltb}
 use Rattle.std.proofs.Math.Path.{refl, sym, ap, fun_ext}
-use Rattle.std.proofs.Common.{◌∙◌, zero-add, pow_pos, ltb-true, ltb-false, eqb-true, ne_eqb, lt-ltb, le-ltb}
+use Rattle.std.proofs.Common.{◌∙◌, zero-add, pow_pos, ltb-true, ltb-false, ne_eqb, lt-ltb, le-ltb}
 use Rattle.std.proofs.Math.Bool.{Bool}
 use mathlib.Core.List.{List}
 use native.Mathlib.Omega.{arith}
 use Rattle.std.proofs.Math.ListN.{length, set, length-set}
 use Rattle.std.proofs.Math.Seq.{get_or-set_same, get_or-set_other}
 use Rattle.std.specs.Int.Count.{count_trailing_zeros}
-use Rattle.std.proofs.lemmas.Bool.{eqb-false}
-use Rattle.laws.specs.Tests.{pick, Seen, Seen.is_true, Seen.is_false, look, Same, Same.same, Same.other, same?, clash, pick_all}
+use Rattle.laws.specs.Tests.{pick, Seen, Seen.is_true, Seen.is_false, look, Same, Same.same, Same.other, same?, pick_all}
 use Rattle.laws.specs.Tables.{upd, upd_same, upd_other, upd-self, upd-twice}
 use Rattle.laws.specs.Sums.{sum_to, sum-ext}
-use Rattle.laws.specs.Search.{first, first_found, first-before, first-is}
+use Rattle.laws.specs.Search.{first, first_found, first-before}
 use Rattle.model.specs.Numbers.{peers, nodes}
 use Rattle.model.specs.Lists.{any_below}
-use Rattle.model.specs.State.{Handle, handle_of, held, count, id_or, has_id, State, slot_of, total, held_by_any}
+use Rattle.model.specs.State.{Handle, handle_of, held, count, id_or, has_id, State, total, held_by_any}
 use Rattle.model.specs.State.Handle.{none, some}
 use Rattle.model.specs.Changes.{given_after}
-use Rattle.model.specs.Ids.{Handles}
 use Rattle.model.specs.Replies.{holders_of}
-use Rattle.tables.specs.declared.Found.{Found}
 use Rattle.tables.specs.declared.Found.TheVariants.{At, Nothing}
 use Rattle.laws.specs.Bits.{bit, bits, bits-ext, bits-first}
 use Rattle.laws.specs.Guards.{upto, upto-at, upto-ext, upto-upd}
 use Rattle.tables.specs.Peers.{modulus}
-use Rattle.tables.specs.Handles.{handle_row, list_block, length_block, handles_size, id_at, count_at, has_in, has_at, found_by, found_own, list_length, listed_id, word_at, guessed, place_in, spot, found_among, found_listed, lookup, slot_found, find_at, total_below, total_at, held_at, holders_below, holders_at, put_handle, clear_below, clear_peer, enlisted, shifted, taken_out, unlisted, raised, reduced}
+use Rattle.tables.specs.Handles.{handle_row, list_block, length_block, handles_size, id_at, count_at, has_at, found_by, found_own, list_length, listed_id, word_at, guessed, place_in, spot, found_among, found_listed, lookup, find_at, total_below, total_at, held_at, holders_below, holders_at, put_handle, clear_below, clear_peer, enlisted, shifted, taken_out, unlisted, raised, reduced}
 use Rattle.ids.specs.Sizes.{slots}
 
 abbrev pub handle_in : List ℕ → ℕ → ℕ → Handle

@@ -1,28 +1,28 @@
 -- The list of a peer's given handles on a bus of a run: what it is, that every change keeps it, and that a search by it finds the model's slot.
 -- Assumes nothing.
-use Prim.Native.Nat.{ℕ, zero, suc, ◌+◌, ◌-◌, ◌*◌, ◌/◌, ◌%◌, ◌^◌, ◌≤◌, ◌<◌, min}
-use Rattle.std.specs.Prelude.{◌≡◌, Bool, true, not, length, get_or, replicate, eqb, ltb, leb}
-use Rattle.std.proofs.Math.Path.{refl, ap, fun_ext}
-use Rattle.std.proofs.Common.{sym, ap₂, ◌∙◌, arith}
+use Prim.Native.Nat.{ℕ, zero, suc, ◌+◌, ◌-◌, ◌*◌, ◌/◌, ◌%◌, ◌≤◌, ◌<◌}
+use Rattle.std.specs.Prelude.{◌≡◌, true, length, get_or, replicate, eqb, ltb}
+use Rattle.std.proofs.Math.Path.{refl, ap}
+use Rattle.std.proofs.Common.{sym, ◌∙◌, arith}
 use Rattle.std.proofs.Math.Bool.{false}
 use mathlib.Core.List.{List}
 use Rattle.std.proofs.Math.ListN.{set, length-set}
 use Rattle.std.proofs.Math.Seq.{get_or-set_same, get_or-set_other}
-use borrow.Author.Tests.{ltb-true, ltb-false, leb-true, leb-false, eqb-true, eqb-false, ne_eqb, eq-eqb, lt-ltb, le-ltb, le-leb, lt-leb}
+use borrow.Author.Tests.{ltb-true, ltb-false, eqb-true, eqb-false, ne_eqb, eq-eqb, lt-ltb, le-leb, lt-leb}
 use Rattle.laws.specs.Tests.{pick, Seen, Seen.is_true, Seen.is_false, look, Same, Same.same, Same.other, same?, clash, pick_all}
 use Rattle.laws.specs.Tables.{upd, upd_same, upd_other, upd-map, zeros-at}
-use Rattle.laws.specs.Sums.{sum_to, sum-ext, sum-upd}
-use Rattle.laws.specs.Search.{first, first_found, first-before, first-is}
-use Rattle.laws.specs.Halving.{halve, halve-first, keys-rise}
+use Rattle.laws.specs.Sums.{sum_to, sum-upd}
+use Rattle.laws.specs.Search.{first-is}
+use Rattle.laws.specs.Halving.{halve-first, keys-rise}
 use Rattle.model.specs.Numbers.{peers, nodes}
-use Rattle.model.specs.State.{Handle, handle_of, held, count, id_or, has_id, slot_of, start}
+use Rattle.model.specs.State.{Handle, handle_of, has_id, slot_of, start}
 use Rattle.model.specs.State.Handle.{none, some}
 use Rattle.model.specs.Ids.{Handles}
 use Rattle.tables.specs.declared.Found.{Found}
 use Rattle.tables.specs.declared.Found.TheVariants.{At, Nothing}
 use Rattle.tables.specs.Peers.{modulus}
 use Rattle.tables.specs.Handles.{list_block, length_block, handles_size, halvings, handle_row, id_at, count_at, has_in, has_at, found_own, list_length, listed_id, word_at, listed_slot, guess, guessed, at_least, place_in, spot, found_among, found_listed, lookup, slot_found, find_at, put_handle, clear_below, clear_peer, enlisted, shifted, taken_out, unlisted, raised, reduced}
-use Rattle.tables.specs.HandlesView.{handle_v, handle-is, handle-put, handle-far, of-has, own-some, own-none, put-else, place, odd, put-length, enlist-handles, unlist-handles, shift-handles, shift-length, not-nothing, not_at, of_some, handle-clear, clear-below-length}
+use Rattle.tables.specs.HandlesView.{handle_v, handle-is, handle-put, handle-far, of-has, own-some, own-none, place, odd, put-length, enlist-handles, shift-handles, shift-length, not-nothing, not_at, of_some, handle-clear, clear-below-length}
 use Rattle.tables.specs.Fresh.{handle-fresh}
 use Rattle.ids.specs.Sizes.{slots}
 

@@ -1,6 +1,6 @@
 -- The table of peers seen as the model's columns: status, user, given IDs and accepted commands.
 -- Assumes nothing.
-use Prim.Native.Nat.{ℕ, suc, ◌+◌, ◌*◌, ◌%◌, ◌<◌}
+use Prim.Native.Nat.{ℕ, suc, ◌+◌, ◌%◌, ◌<◌}
 use Rattle.std.specs.Prelude.{◌≡◌, length, get_or, eqb}
 use Rattle.std.proofs.Math.Path.{refl, ap, fun_ext}
 use Rattle.std.proofs.Common.{◌∙◌}

@@ -1,16 +1,14 @@
 -- The records that a search reads: a list of at most 16 places, on which alone its answer depends. A place is that of a record's first number.
 -- Assumes nothing.
-use Rattle.std.specs.Prelude.{ℕ, suc, ◌+◌, ◌-◌, ◌*◌, ◌%◌, ◌≤◌, ◌<◌, min, ◌≡◌, refl, Bool, true, false, List, [], ◌∷◌, map, length, get_or, eqb, ltb, leb}
-use Rattle.std.proofs.Common.{sym, ap₂, ◌∙◌, arith}
+use Rattle.std.specs.Prelude.{ℕ, suc, ◌+◌, ◌*◌, ◌%◌, ◌≤◌, ◌<◌, ◌≡◌, refl, List, [], ◌∷◌, map, length, get_or, eqb, leb}
+use Rattle.std.proofs.Common.{arith}
 use Rattle.std.proofs.Math.Path.{ap}
 use Rattle.laws.specs.Tests.{pick, Seen, Seen.is_true, Seen.is_false, look}
 use Rattle.laws.specs.Weights.{All, all-imp, all-at}
 use Rattle.laws.specs.Build.{build, build-length, build-at}
-use Rattle.laws.specs.Search.{first, first-ext}
+use Rattle.laws.specs.Search.{first-ext}
 use Rattle.laws.specs.Halving.{halve, asked, asked-few, halve-same}
-use Rattle.tables.specs.declared.Found.{Found}
-use Rattle.tables.specs.declared.Found.TheVariants.{At, Nothing}
-use Rattle.tables.specs.Handles.{list_block, length_block, most_reads, halvings, handle_row, id_at, has_in, has_at, found_by, found_own, list_length, listed_id, word_at, listed_slot, guessed, at_least, place_in, found_among, found_listed, lookup}
+use Rattle.tables.specs.Handles.{list_block, length_block, most_reads, halvings, handle_row, has_in, has_at, found_by, found_own, list_length, guessed, at_least, place_in, found_among, found_listed, lookup}
 use Rattle.ids.specs.Sizes.{slots}
 
 -- of a chosen ID the own slots; of any other the length of the list, the entry at the guessed place, the entries that the halving asks and the one that it comes to

@@ -1,16 +1,15 @@
 -- Laws of the accessor of the queues: what it reads of one peer, and how a change of one peer's rows is seen.
 -- Assumes nothing.
-use Rattle.std.specs.Prelude.{ℕ, suc, ◌+◌, ◌*◌, ◌≤◌, ◌<◌, ◌≡◌, refl, Bool, true, false, List, [], ◌∷◌, map, length, get_or, take, drop, ltb}
-use Rattle.std.proofs.Common.{sym, ap, ◌∙◌, arith, length-take, length-drop, ext_get_or, get_or-take, get_or-drop}
-use Rattle.std.proofs.Math.Path.{fun_ext}
-use Rattle.laws.specs.Tests.{pick, Seen, Seen.is_true, Seen.is_false, look, Same, Same.same, Same.other, same?}
+use Rattle.std.specs.Prelude.{ℕ, suc, ◌+◌, ◌*◌, ◌≤◌, ◌<◌, ◌≡◌, refl, List, [], ◌∷◌, map, length, get_or, take, drop}
+use Rattle.std.proofs.Common.{sym, ap, ◌∙◌, arith, ext_get_or, get_or-take, get_or-drop}
+use Rattle.laws.specs.Tests.{Same, Same.same, Same.other, same?}
 use Rattle.laws.specs.Tables.{upd, upd_same, upd_other}
 use Rattle.laws.specs.Build.{build, build-length, build-at}
-use Rattle.laws.specs.Guards.{upto, upto-at, upto-upd, upto-ext}
+use Rattle.laws.specs.Guards.{upto-at, upto-upd, upto-ext}
 use Rattle.rings.specs.declared.Entry.{Entry as Row}
 use Rattle.rings.specs.Rings.{Rings, length_of, queue_of}
 use Rattle.rings.specs.Laws.{queue-length}
-use Rattle.pool.specs.Pool.{area_size, pool_size, bytes_of, Pair, paired, sum_of, bytes_in}
+use Rattle.pool.specs.Pool.{area_size, bytes_of, Pair, paired, sum_of, bytes_in}
 use Rattle.pool.specs.Laws.{part_length}
 use Rattle.model.specs.State.{Entry}
 use Rattle.view.specs.View.{entry_v, area_of, rows_v, queue_v}

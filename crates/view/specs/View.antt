@@ -1,10 +1,9 @@
 -- The lent buffers of a bus as one record, and the state of the model that they stand for. Any contents stand for a state.
 -- Assumes nothing.
-use Rattle.std.specs.Prelude.{ℕ, ◌+◌, ◌*◌, ◌<◌, ◌≡◌, List, [], map, length, get_or, take, eqb}
+use Rattle.std.specs.Prelude.{ℕ, ◌+◌, ◌*◌, ◌≡◌, List, [], map, length, get_or, take, eqb}
 use Rattle.laws.specs.Tests.{pick}
 use Rattle.laws.specs.Build.{build}
 use Rattle.laws.specs.Guards.{upto}
-use Rattle.rings.specs.declared.Entry.{Entry as Row}
 use Rattle.ids.specs.Sizes.{peers, peers_size, nodes_size, seeds_size}
 use Rattle.rings.specs.Rings.{kind_destroyed, kind_released, Rings, rings_of, ends_size, Sized, queue_of}
 use Rattle.pool.specs.Pool.{area_size, pool_size, Pair, paired, sum_of}

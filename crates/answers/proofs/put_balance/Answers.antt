@@ -1,7 +1,6 @@
 -- `answers::put_balance` meets its contract: two charges, one behind the other. Assumes nothing.
 use native.Mathlib.Omega.{arith}
 use Rattle.answers.proofs.Laws.{balance-stores}
-use borrow.Author.Rules.{rules}
 use Rattle.answers.proofs.put_balance.Goals as goal
 
 pub returns : goal.returns

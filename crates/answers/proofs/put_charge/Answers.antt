@@ -1,7 +1,6 @@
 -- `answers::put_charge` meets its contract: three numbers of two bytes, one behind another. Assumes nothing.
 use native.Mathlib.Omega.{arith}
 use Rattle.answers.proofs.Laws.{charge-stores}
-use borrow.Author.Rules.{rules}
 use Rattle.answers.proofs.put_charge.Goals as goal
 
 pub returns : goal.returns

@@ -3,7 +3,6 @@ use native.Mathlib.Omega.{arith}
 use mathlib.Core.Path.{◌∙◌}
 use lib.ListN.{length-set}
 use Rattle.answers.proofs.Laws.{header-stores}
-use borrow.Author.Rules.{rules}
 use Rattle.answers.proofs.put_header.Goals as goal
 
 pub put_id-at-requires : goal.put_id-at-requires

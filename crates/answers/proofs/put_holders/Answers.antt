@@ -5,7 +5,6 @@ use Prim.Native.Nat.{◌≤◌}
 use mathlib.Core.Path.{refl}
 use lib.Count.{ones, ones-le}
 use Rattle.answers.specs.Answer.{holder_bytes}
-use borrow.Author.Rules.{rules}
 use Rattle.answers.proofs.put_holders.Goals as goal
 
 pub overflow_cast-out : goal.overflow_cast-out

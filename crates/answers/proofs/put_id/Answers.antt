@@ -3,7 +3,6 @@ use native.Mathlib.Omega.{arith}
 use mathlib.Core.Path.{refl}
 use lib.ListN.{length-set}
 use Rattle.answers.proofs.Laws.{eight-stores}
-use borrow.Author.Rules.{rules}
 use Rattle.answers.proofs.put_id.Goals as goal
 
 pub bounds-out-at-2 : goal.bounds-out-at-2

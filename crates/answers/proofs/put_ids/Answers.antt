@@ -1,6 +1,5 @@
 -- `answers::put_ids` meets its contract: each turn stores one ID behind those before it. Assumes nothing.
 use native.Mathlib.Omega.{arith}
-use Prim.Native.Nat.{◌+◌, ◌*◌, ◌-◌, ◌≤◌}
 use mathlib.Core.Path.{◌≡◌, refl, ap, ◌∙◌}
 use lib.ListN.{length, take}
 use lib.Seq.{sets, take-length}

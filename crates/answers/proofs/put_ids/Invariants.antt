@@ -1,12 +1,9 @@
 -- `answers::put_ids` meets its contract: each turn stores one ID behind those before it. Assumes nothing.
-use native.Mathlib.Omega.{arith}
 use Prim.Native.Nat.{◌+◌, ◌*◌, ◌-◌, ◌≤◌}
-use mathlib.Core.Path.{◌≡◌, refl, ap, ◌∙◌}
+use mathlib.Core.Path.{◌≡◌}
 use lib.ListN.{length, take}
-use lib.Seq.{sets, take-length}
+use lib.Seq.{sets}
 use Rattle.answers.specs.Answer.{id_bytes}
-use Rattle.answers.proofs.Laws.{ids_next}
-use borrow.Author.Rules.{rules}
 use Rattle.answers.proofs.put_ids.Given as goal
 
 abbrev pub invariant-loop-k : goal.invariant-loop-k

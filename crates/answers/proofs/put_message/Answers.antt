@@ -4,7 +4,6 @@ use mathlib.Core.Path.{refl, sym}
 use lib.ListN.{length-take}
 use lib.Seq.{length-take-le}
 use Rattle.answers.proofs.Laws.{message-stores, message-end}
-use borrow.Author.Rules.{rules}
 use Rattle.answers.proofs.put_message.Goals as goal
 
 pub slice_bounds-put_ids-end : goal.slice_bounds-put_ids-end

@@ -1,7 +1,6 @@
 -- `answers::put_notice` meets its contract: a byte and an ID behind it. Assumes nothing.
 use lib.ListN.{length-set}
 use Rattle.answers.specs.Answer.{notice_bytes}
-use borrow.Author.Rules.{rules}
 use Rattle.answers.proofs.put_notice.Goals as goal
 
 pub shape_of-out : goal.shape_of-out

@@ -4,7 +4,6 @@ use mathlib.Core.Path.{refl}
 use Rattle.laws.specs.Bytes.{be-length}
 use Rattle.answers.specs.Answer.{holder_bytes, contents_of}
 use Rattle.answers.specs.AnswerLaws.{balance-length}
-use borrow.Author.Rules.{rules}
 use Rattle.answers.proofs.put_plain.Goals as goal
 
 pub returns-in-Refused : goal.returns-in-Refused

@@ -2,7 +2,6 @@
 use native.Mathlib.Omega.{arith}
 use Rattle.answers.specs.Answer.{received_bytes}
 use Rattle.answers.specs.AnswerLaws.{notice-length}
-use borrow.Author.Rules.{rules}
 use Rattle.answers.proofs.put_received.Goals as goal
 
 pub returns-in-Message : goal.returns-in-Message

@@ -3,7 +3,6 @@ use native.Mathlib.Omega.{arith}
 use mathlib.Core.Path.{refl}
 use lib.ListN.{length-set}
 use Rattle.answers.proofs.Laws.{two-stores}
-use borrow.Author.Rules.{rules}
 use Rattle.answers.proofs.put_short.Goals as goal
 
 pub bounds-out-at-2 : goal.bounds-out-at-2

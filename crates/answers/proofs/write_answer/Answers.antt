@@ -1,7 +1,6 @@
 -- `answers::write_answer` meets its contract: the number and the contents from the start on are the answer's bytes, which fit in 591. Assumes nothing.
 use lib.ListN.{length-set}
 use Rattle.answers.proofs.Laws.{answer-short, answer-written}
-use borrow.Author.Rules.{rules}
 use Rattle.answers.proofs.write_answer.Goals as goal
 
 pub returns-then-out-lt-ANSWER_SIZE : goal.returns-then-out-lt-ANSWER_SIZE

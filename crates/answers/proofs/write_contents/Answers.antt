@@ -2,7 +2,6 @@
 use mathlib.Core.List.{[]}
 use lib.ListN.{length-set}
 use Rattle.answers.proofs.Laws.{answer-written}
-use borrow.Author.Rules.{rules}
 use Rattle.answers.proofs.write_contents.Goals as goal
 
 pub shape_of-out : goal.shape_of-out

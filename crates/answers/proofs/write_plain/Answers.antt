@@ -1,7 +1,6 @@
 -- `answers::write_plain` meets its contract: a refusal and a bare 00 are one byte, any other answer has its contents. Assumes nothing.
 use mathlib.Core.List.{[]}
 use Rattle.answers.proofs.Laws.{answer-short, one_byte, bare}
-use borrow.Author.Rules.{rules}
 use Rattle.answers.proofs.write_plain.Goals as goal
 
 pub returns-then-out-lt-ANSWER_SIZE : goal.returns-then-out-lt-ANSWER_SIZE

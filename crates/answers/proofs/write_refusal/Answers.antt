@@ -5,7 +5,6 @@ use lib.ListN.{set}
 use Rattle.answers.specs.declared.Answer.TheVariants.{Refused}
 use Rattle.answers.specs.Answer.{contents_of}
 use Rattle.answers.proofs.Laws.{answer-written}
-use borrow.Author.Rules.{rules}
 use Rattle.answers.proofs.write_refusal.Goals as goal
 
 pub returns : goal.returns

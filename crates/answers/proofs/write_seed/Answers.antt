@@ -5,7 +5,6 @@ use Rattle.answers.specs.declared.Answer.TheVariants.{Received as received}
 use Rattle.answers.specs.declared.Received.TheVariants.{Seed as seed}
 use Rattle.answers.specs.Answer.{contents_of}
 use Rattle.answers.proofs.Laws.{answer-short, answer-written}
-use borrow.Author.Rules.{rules}
 use Rattle.answers.proofs.write_seed.Goals as goal
 
 pub returns-then-out-lt-ANSWER_SIZE : goal.returns-then-out-lt-ANSWER_SIZE

@@ -1,12 +1,11 @@
 -- `copies::down` meets its contract: each turn moves one byte, which no turn before it has written over. Assumes nothing.
 use native.Mathlib.Omega.{arith}
-use Prim.Native.Nat.{◌-◌, ◌≤◌, min}
+use Prim.Native.Nat.{◌-◌, min}
 use mathlib.Core.Path.{◌≡◌, refl, ap, ◌∙◌}
 use lib.ListN.{length, take, drop, length-set, length-drop}
 use lib.Seq.{sets}
 use borrow.Author.Tests.{le-leb, lt-leb}
 use Rattle.laws.specs.Stores.{sets_down, take_min}
-use borrow.Author.Rules.{rules}
 use Rattle.copies.proofs.down.Goals as goal
 
 pub returns-then-from-to : goal.returns-then-from-to

@@ -1,12 +1,8 @@
 -- `copies::down` meets its contract: each turn moves one byte, which no turn before it has written over. Assumes nothing.
-use native.Mathlib.Omega.{arith}
-use Prim.Native.Nat.{◌-◌, ◌≤◌, min}
-use mathlib.Core.Path.{◌≡◌, refl, ap, ◌∙◌}
-use lib.ListN.{length, take, drop, length-set, length-drop}
+use Prim.Native.Nat.{◌-◌, ◌≤◌}
+use mathlib.Core.Path.{◌≡◌}
+use lib.ListN.{length, take, drop}
 use lib.Seq.{sets}
-use borrow.Author.Tests.{le-leb, lt-leb}
-use Rattle.laws.specs.Stores.{sets_down, take_min}
-use borrow.Author.Rules.{rules}
 use Rattle.copies.proofs.down.Given as goal
 
 abbrev pub invariant-loop-i : goal.invariant-loop-i

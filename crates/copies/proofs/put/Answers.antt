@@ -1,11 +1,9 @@
 -- `copies::put` meets its contract: each turn stores one byte behind those before it. Assumes nothing.
 use native.Mathlib.Omega.{arith}
-use Prim.Native.Nat.{◌+◌, ◌-◌, ◌≤◌}
-use mathlib.Core.Path.{◌≡◌, refl, ap, ◌∙◌}
-use lib.ListN.{length, get_or, set, take, length-set}
-use lib.Seq.{sets}
+use Prim.Native.Nat.{◌+◌}
+use mathlib.Core.Path.{refl, ap, ◌∙◌}
+use lib.ListN.{get_or, set, length-set}
 use Rattle.laws.specs.Stores.{sets-next, sets-fit}
-use borrow.Author.Rules.{rules}
 use Rattle.copies.proofs.put.Goals as goal
 
 pub loop-k-init : goal.loop-k-init

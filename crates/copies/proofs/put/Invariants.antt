@@ -1,11 +1,8 @@
 -- `copies::put` meets its contract: each turn stores one byte behind those before it. Assumes nothing.
-use native.Mathlib.Omega.{arith}
-use Prim.Native.Nat.{◌+◌, ◌-◌, ◌≤◌}
-use mathlib.Core.Path.{◌≡◌, refl, ap, ◌∙◌}
-use lib.ListN.{length, get_or, set, take, length-set}
+use Prim.Native.Nat.{◌-◌, ◌≤◌}
+use mathlib.Core.Path.{◌≡◌}
+use lib.ListN.{length, take}
 use lib.Seq.{sets}
-use Rattle.laws.specs.Stores.{sets-next, sets-fit}
-use borrow.Author.Rules.{rules}
 use Rattle.copies.proofs.put.Given as goal
 
 abbrev pub invariant-loop-k : goal.invariant-loop-k

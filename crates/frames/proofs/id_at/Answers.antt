@@ -4,7 +4,6 @@ use mathlib.Core.Path.{◌≡◌}
 use native.Mathlib.Omega.{arith}
 use Rattle.laws.specs.Bytes.{num_at, num-eight}
 use Rattle.frames.specs.Frame.{id_at}
-use borrow.Author.Rules.{rules}
 use Rattle.frames.proofs.id_at.Goals as goal
 
 pub returns : goal.returns

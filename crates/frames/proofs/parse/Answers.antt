@@ -1,6 +1,5 @@
 -- `frames::parse` meets its contract: empty, send, unknown and other frames are the definition's choices. Assumes nothing.
 use Rattle.frames.proofs.Laws.{parse-empty, parse-send, parse-zero, parse-eleven, parse-over, parse-other}
-use borrow.Author.Rules.{rules}
 use Rattle.frames.proofs.parse.Goals as goal
 
 pub returns-then-frame-eq0 : goal.returns-then-frame-eq0

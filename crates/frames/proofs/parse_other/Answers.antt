@@ -2,7 +2,6 @@
 use native.Mathlib.Omega.{arith}
 use mathlib.Core.Path.{◌≡◌, ◌∙◌}
 use Rattle.frames.proofs.Laws.{other_length, other-peer, other-rest, two_bytes}
-use borrow.Author.Rules.{rules}
 use Rattle.frames.proofs.parse_other.Goals as goal
 
 pub returns-then-f-frame_length : goal.returns-then-f-frame_length

@@ -2,7 +2,6 @@
 use native.Mathlib.Omega.{arith}
 use Rattle.frames.specs.Frame.{frame_length, parse_rest}
 use Rattle.frames.proofs.Laws.{sized, sized-else, rest-else}
-use borrow.Author.Rules.{rules}
 use Rattle.frames.proofs.parse_rest.Goals as goal
 
 pub bounds-f-2 : goal.bounds-f-2

@@ -1,6 +1,5 @@
 -- `frames::parse_send` meets its contract: a frame under 6 bytes is refused, and the rest is what parse_sizes says of its numbers. Assumes nothing.
 use Rattle.frames.proofs.Laws.{send-short, send-sizes}
-use borrow.Author.Rules.{rules}
 use Rattle.frames.proofs.parse_send.Goals as goal
 
 pub returns-then-f-lt6 : goal.returns-then-f-lt6

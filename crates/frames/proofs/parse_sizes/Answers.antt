@@ -1,6 +1,5 @@
 -- `frames::parse_sizes` meets its contract: each test is the definition's next choice. Assumes nothing.
 use Rattle.frames.proofs.Laws.{sizes-peer, sizes-over, sizes-length, sizes-read}
-use borrow.Author.Rules.{rules}
 use Rattle.frames.proofs.parse_sizes.Goals as goal
 
 pub returns-then-p-gt-LAST_PEER : goal.returns-then-p-gt-LAST_PEER

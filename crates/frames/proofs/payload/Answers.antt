@@ -1,7 +1,6 @@
 -- `frames::payload` meets its contract: a part from the end of the two lists to the frame's end, or an empty one. Assumes nothing.
 use native.Mathlib.Omega.{arith}
 use Rattle.frames.proofs.Laws.{payload-none, payload-part}
-use borrow.Author.Rules.{rules}
 use Rattle.frames.proofs.payload.Goals as goal
 
 pub returns-then-n-lt6 : goal.returns-then-n-lt6

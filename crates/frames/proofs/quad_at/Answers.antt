@@ -1,7 +1,6 @@
 -- `frames::quad_at` meets its contract: four bytes, each number before it times 256. Assumes nothing.
 use native.Mathlib.Omega.{arith}
 use Rattle.laws.specs.Bytes.{num-four}
-use borrow.Author.Rules.{rules}
 use Rattle.frames.proofs.quad_at.Goals as goal
 
 pub returns : goal.returns

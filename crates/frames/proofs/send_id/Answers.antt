@@ -1,7 +1,6 @@
 -- `frames::send_id` meets its contract: the ID lies within the frame exactly where its last byte does. Assumes nothing.
 use native.Mathlib.Omega.{arith}
 use Rattle.frames.proofs.Laws.{id-past, id-within}
-use borrow.Author.Rules.{rules}
 use Rattle.frames.proofs.send_id.Goals as goal
 
 pub returns-then-n-lt14 : goal.returns-then-n-lt14

@@ -2,7 +2,6 @@
 use native.Mathlib.Omega.{arith}
 use Rattle.laws.specs.Bytes.{num-two}
 use Rattle.frames.specs.Frame.{short_at}
-use borrow.Author.Rules.{rules}
 use Rattle.frames.proofs.short_at.Goals as goal
 
 pub returns : goal.returns

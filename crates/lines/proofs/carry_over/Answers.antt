@@ -2,7 +2,6 @@
 -- Assumes nothing.
 use Rattle.lines.specs.LineLaws as law
 use native.Mathlib.Omega.{arith}
-use borrow.Author.Rules.{rules}
 use Rattle.lines.proofs.carry_over.Goals as goal
 
 pub returns-then-e-at : goal.returns-then-e-at

@@ -1,14 +1,11 @@
 -- `lines::decode` meets its contract: the loop keeps that the first `k` bytes of the buffer are those of the first `k` pairs and the rest is as before.
 -- Assumes nothing.
-use Prim.Native.Nat.{◌+◌, ◌*◌, ◌-◌, ◌≤◌}
+use Prim.Native.Nat.{◌+◌, ◌*◌}
 use mathlib.Core.Path.{◌≡◌, refl}
-use mathlib.Core.List.{◌++◌}
-use lib.ListN.{length, drop, length-set}
+use lib.ListN.{length-set}
 use Rattle.laws.specs.Build.{build}
-use Rattle.lines.specs.Line.{pair_at}
 use Rattle.lines.specs.LineLaws as law
 use native.Mathlib.Omega.{arith}
-use borrow.Author.Rules.{rules}
 use Rattle.lines.proofs.decode.Goals as goal
 
 pub loop-k-init : goal.loop-k-init

@@ -1,12 +1,6 @@
 -- `lines::digits_ahead` meets its contract: the loop keeps that every character before `i` is a digit. Assumes nothing.
-use Prim.Native.Nat.{ℕ, ◌-◌, ◌≤◌, ◌<◌}
-use mathlib.Core.Path.{◌≡◌, sym, ◌∙◌}
-use mathlib.Core.Bool.{true}
-use lib.ListN.{get_or}
+use mathlib.Core.Path.{sym, ◌∙◌}
 use native.Mathlib.Omega.{arith}
-use borrow.Author.Rules.{rules}
-use borrow.Author.Tests.{not-false}
-use Rattle.lines.specs.Line.{is_digit}
 use Rattle.lines.specs.LineLaws as law
 use Rattle.lines.proofs.digits_ahead.Goals as goal
 

@@ -1,9 +1,5 @@
 -- `lines::eight_digits` meets its contract: each turn of the loop is a step of `digits_from`. Assumes nothing.
-use Prim.Native.Nat.{◌-◌, ◌≤◌}
-use mathlib.Core.Path.{◌≡◌}
 use native.Mathlib.Omega.{arith}
-use borrow.Author.Rules.{rules}
-use Rattle.lines.specs.Line.{digits_from}
 use Rattle.lines.specs.LineLaws as law
 use Rattle.lines.proofs.eight_digits.Goals as goal
 

@@ -1,12 +1,9 @@
 -- `lines::fault_place` meets its contract: the loop starts behind digits and keeps that every character before `i` is one; where it stops, `i` is the first place that is none, or the end of the first 1,292.
 -- Assumes nothing.
 use Prim.Native.Nat.{ℕ, ◌-◌, ◌≤◌, ◌<◌}
-use mathlib.Core.Path.{◌≡◌, sym, ap, ◌∙◌}
-use mathlib.Core.Bool.{false, not}
-use borrow.Author.Count.{below_more}
+use mathlib.Core.Path.{◌≡◌}
+use mathlib.Core.Bool.{false}
 use Rattle.lines.specs.LineLaws as law
-use native.Mathlib.Omega.{arith}
-use borrow.Author.Rules.{rules}
 use Rattle.lines.proofs.fault_place.Given as goal
 
 abbrev pub invariant-loop-i : goal.invariant-loop-i

@@ -1,14 +1,9 @@
 -- `lines::line_end` meets its contract: the loop keeps that no character from `at` up to `i` is an LF; where it stops, `i` is the first that is one, or the length.
 -- Assumes nothing.
-use Prim.Native.Nat.{ℕ, ◌-◌, ◌≤◌, ◌<◌}
-use mathlib.Core.Path.{◌≡◌}
-use mathlib.Core.Bool.{false}
 use borrow.Author.Count.{below_more}
 use borrow.Author.Tests.{eq-eqb, ne_eqb}
-use lib.ListN.{length}
 use Rattle.lines.specs.LineLaws as law
 use native.Mathlib.Omega.{arith}
-use borrow.Author.Rules.{rules}
 use Rattle.lines.proofs.line_end.Goals as goal
 
 pub loop-i-init : goal.loop-i-init

@@ -1,13 +1,10 @@
 -- `lines::put_digits` meets its contract: the loop keeps that the digits of the first `k` bytes are stored from `at` on.
 -- Assumes nothing.
-use Prim.Native.Nat.{◌-◌, ◌≤◌}
-use mathlib.Core.Path.{◌≡◌, refl}
-use lib.ListN.{length, take, length-set}
-use lib.Seq.{sets}
+use mathlib.Core.Path.{refl}
+use lib.ListN.{length-set}
 use Rattle.lines.specs.Line.{digits_of}
 use Rattle.lines.specs.LineLaws as law
 use native.Mathlib.Omega.{arith}
-use borrow.Author.Rules.{rules}
 use Rattle.lines.proofs.put_digits.Goals as goal
 
 pub loop-k-init : goal.loop-k-init

@@ -2,7 +2,6 @@
 -- Assumes nothing.
 use Rattle.lines.specs.LineLaws as law
 use native.Mathlib.Omega.{arith}
-use borrow.Author.Rules.{rules}
 use Rattle.lines.proofs.read_line.Goals as goal
 
 pub line_end-n-requires : goal.line_end-n-requires

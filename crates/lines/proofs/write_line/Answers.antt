@@ -1,9 +1,7 @@
 -- `lines::write_line` meets its contract: without room nothing is stored; with room the digits are, and the LF behind them.
 -- Assumes nothing.
-use borrow.Author.Tests.{not-true, not-false}
 use Rattle.lines.specs.LineLaws as law
 use native.Mathlib.Omega.{arith}
-use borrow.Author.Rules.{rules}
 use Rattle.lines.proofs.write_line.Goals as goal
 
 pub returns-then-not-has_room : goal.returns-then-not-has_room

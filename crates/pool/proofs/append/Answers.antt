@@ -1,6 +1,5 @@
 -- `pool::append` meets its contract: one copy behind what is used. Assumes nothing.
 use Rattle.pool.specs.Pool.{appended}
-use borrow.Author.Rules.{rules}
 use Rattle.pool.proofs.append.Goals as goal
 
 pub returns : goal.returns

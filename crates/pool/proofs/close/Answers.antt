@@ -1,7 +1,6 @@
 -- `pool::close` meets its contract: one move down, to a lower place. Assumes nothing.
 use native.Mathlib.Omega.{arith}
 use Rattle.pool.specs.Laws.{close-is}
-use borrow.Author.Rules.{rules}
 use Rattle.pool.proofs.close.Goals as goal
 
 pub returns : goal.returns

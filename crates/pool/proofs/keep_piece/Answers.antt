@@ -2,7 +2,6 @@
 use mathlib.Core.Path.{sym, ◌∙◌}
 use native.Mathlib.Omega.{arith}
 use Rattle.pool.specs.Removal.{piece-out, piece-moved}
-use borrow.Author.Rules.{rules}
 use Rattle.pool.proofs.keep_piece.Goals as goal
 
 pub returns-then-is_match : goal.returns-then-is_match

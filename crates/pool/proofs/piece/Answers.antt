@@ -1,6 +1,5 @@
 -- `pool::piece` meets its contract: a part of the table. Assumes nothing.
 use Rattle.pool.specs.Laws.{piece_is}
-use borrow.Author.Rules.{rules}
 use Rattle.pool.proofs.piece.Goals as goal
 
 pub returns : goal.returns

@@ -1,9 +1,7 @@
 -- `pool::remove` meets its contract: after each turn what is left to do gives what the whole gives; the measure is what is left to read. Assumes nothing.
 use Prim.Native.Nat.{◌-◌}
-use native.Mathlib.Omega.{arith}
 use Rattle.rings.specs.Rings.{rings_of, queue_of}
-use Rattle.pool.specs.Removal.{Moving, moving-start, moving-turn, moving-done}
-use borrow.Author.Rules.{rules}
+use Rattle.pool.specs.Removal.{Moving}
 use Rattle.pool.proofs.remove.Given as goal
 
 abbrev pub invariant-loop-i : goal.invariant-loop-i

@@ -1,8 +1,7 @@
 -- `queues::carried_at` meets its contract: after each turn what is left of the queue answers as the whole; the measure is what is left to read. Assumes nothing.
 use Prim.Native.Nat.{◌-◌}
 use Rattle.rings.specs.Rings.{rings_of}
-use Rattle.queues.specs.Code.{Bringing, bringing-start, bringing-end, bringing-found, bringing-next}
-use borrow.Author.Rules.{rules}
+use Rattle.queues.specs.Code.{Bringing}
 use Rattle.queues.proofs.carried_at.Given as goal
 
 abbrev pub invariant-loop-i : goal.invariant-loop-i

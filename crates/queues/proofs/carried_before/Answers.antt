@@ -1,7 +1,6 @@
 -- `queues::carried_before` meets its contract: an empty queue, one longer than its ring and one without attached handles are passed by. Assumes nothing.
 use Rattle.rings.specs.Rings.{rings_of}
 use Rattle.queues.specs.Code.{before-empty, before-long, before-none, before-some}
-use borrow.Author.Rules.{rules}
 use Rattle.queues.proofs.carried_before.Goals as goal
 
 pub returns-then-len-eq0 : goal.returns-then-len-eq0

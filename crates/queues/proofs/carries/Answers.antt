@@ -1,7 +1,6 @@
 -- `queues::carries` meets its contract: an empty queue and one without attached handles are passed by. Assumes nothing.
 use Rattle.rings.specs.Rings.{rings_of}
 use Rattle.queues.specs.Code.{carries-empty, carries-none, carries-some}
-use borrow.Author.Rules.{rules}
 use Rattle.queues.proofs.carries.Goals as goal
 
 pub returns-then-len_of-eq0 : goal.returns-then-len_of-eq0

@@ -1,8 +1,6 @@
 -- `queues::carries_row` meets its contract: each return is one side of the definition's tests; a row has eight slots, so at most eight are attached. Assumes nothing.
 use mathlib.Core.Path.{refl}
-use borrow.Author.Tests.{not-true, not-false}
 use Rattle.queues.specs.Code.{brings-notice, brings-later, brings-attached}
-use borrow.Author.Rules.{rules}
 use Rattle.queues.proofs.carries_row.Goals as goal
 
 pub returns-then-not-is_message_kind : goal.returns-then-not-is_message_kind

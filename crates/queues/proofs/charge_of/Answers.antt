@@ -1,5 +1,4 @@
 -- `queues::charge_of` meets its contract: the three numbers are those of the definition. Assumes nothing.
-use borrow.Author.Rules.{rules}
 use Rattle.queues.proofs.charge_of.Goals as goal
 
 pub returns : goal.returns

@@ -1,6 +1,5 @@
 -- `queues::empty` meets its contract: the charges stored are the fresh ones, and the queue is cleared. Assumes nothing.
 use Rattle.queues.specs.Code.{empty-charges}
-use borrow.Author.Rules.{rules}
 use Rattle.queues.proofs.empty.Goals as goal
 
 pub returns : goal.returns

@@ -1,7 +1,6 @@
 -- `queues::enqueue` meets its contract: charges, queue and pool are each what one callee leaves. Assumes nothing.
 use Rattle.rings.specs.Rings.{rings_of}
 use Rattle.queues.specs.Code.{enqueue-done}
-use borrow.Author.Rules.{rules}
 use Rattle.queues.proofs.enqueue.Goals as goal
 
 pub store-requires : goal.store-requires

@@ -1,7 +1,6 @@
 -- `queues::enter` meets its contract: to a queue with room the entry is pushed, to a full one nothing is done. Assumes nothing.
 use Rattle.rings.specs.Rings.{rings_of}
 use Rattle.queues.specs.Code.{enter-room, enter-full}
-use borrow.Author.Rules.{rules}
 use Rattle.queues.proofs.enter.Goals as goal
 
 pub returns-then-len_of-lt-RING : goal.returns-then-len_of-lt-RING

@@ -1,8 +1,7 @@
 -- `queues::follows` meets its contract: after each turn what is left of the queue answers as all behind the oldest entry; the measure is what is left to read. Assumes nothing.
 use Prim.Native.Nat.{◌-◌}
 use Rattle.rings.specs.Rings.{rings_of}
-use Rattle.queues.specs.Code.{Following, following-start, following-end, following-other, following-found, following-next}
-use borrow.Author.Rules.{rules}
+use Rattle.queues.specs.Code.{Following}
 use Rattle.queues.proofs.follows.Given as goal
 
 abbrev pub invariant-loop-i : goal.invariant-loop-i

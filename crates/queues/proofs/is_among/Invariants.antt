@@ -1,8 +1,6 @@
 -- `queues::is_among` meets its contract: after each turn what is left of the first n slots answers as all of them; the measure is what is left to read. Assumes nothing.
 use Prim.Native.Nat.{◌-◌}
-use Rattle.queues.specs.Code.{Among, among-start, among-end, among-found, among_next}
-use native.Mathlib.Omega.{arith}
-use borrow.Author.Rules.{rules}
+use Rattle.queues.specs.Code.{Among}
 use Rattle.queues.proofs.is_among.Given as goal
 
 abbrev pub invariant-loop-k : goal.invariant-loop-k

@@ -1,6 +1,5 @@
 -- `queues::is_message` meets its contract: the entry's kind decides. Assumes nothing.
 use Rattle.queues.specs.Code.{message-entry}
-use borrow.Author.Rules.{rules}
 use Rattle.queues.proofs.is_message.Goals as goal
 
 pub returns : goal.returns

@@ -1,7 +1,5 @@
 -- `queues::lessen` meets its contract: each return is one side of the definition's tests. Assumes nothing.
-use borrow.Author.Tests.{not-true, not-false}
 use Rattle.queues.specs.Code.{lessen-notice, lessen-kept, lessen-out}
-use borrow.Author.Rules.{rules}
 use Rattle.queues.proofs.lessen.Goals as goal
 
 pub returns-then-not-is_message : goal.returns-then-not-is_message

@@ -1,8 +1,5 @@
 -- `queues::lessen_all` meets its contract: after each turn the charges so far, lessened by what is left of the queue, are those of the whole; the measure is what is left to read. Assumes nothing.
-use Prim.Native.Nat.{◌-◌}
-use Rattle.rings.specs.Rings.{rings_of}
-use Rattle.queues.specs.Code.{Lessening, lessening-start, lessening-next, lessening-done}
-use borrow.Author.Rules.{rules}
+use Rattle.queues.specs.Code.{lessening-start, lessening-next, lessening-done}
 use Rattle.queues.proofs.lessen_all.Goals as goal
 
 pub loop-i-init : goal.loop-i-init

@@ -1,13 +1,9 @@
 -- `queues::named` meets its contract: the loop's invariant is that no queue passed names the slot; the measure is the peers left. Assumes nothing.
-use Rattle.queues.specs.Queues.{carries_in}
-use mathlib.Core.Bool.{false}
-use mathlib.Core.Path.{◌≡◌, sym, ◌∙◌}
+use mathlib.Core.Path.{sym, ◌∙◌}
 use borrow.Author.Count.{below_more}
-use Prim.Native.Nat.{ℕ, ◌-◌, ◌≤◌, ◌<◌}
 use Rattle.rings.specs.Rings.{rings_of}
 use Rattle.queues.specs.Code.{named-found, named_none}
 use native.Mathlib.Omega.{arith}
-use borrow.Author.Rules.{rules}
 use Rattle.queues.proofs.named.Goals as goal
 
 pub loop-q-init : goal.loop-q-init

@@ -1,8 +1,5 @@
 -- `queues::named_at` meets its contract: after each turn what is left of the queue answers as the whole; the measure is what is left to read. Assumes nothing.
-use Prim.Native.Nat.{◌-◌}
-use Rattle.rings.specs.Rings.{rings_of}
-use Rattle.queues.specs.Code.{Naming, naming-start, naming-end, naming-found, naming-next}
-use borrow.Author.Rules.{rules}
+use Rattle.queues.specs.Code.{naming-start, naming-end, naming-found, naming-next}
 use Rattle.queues.proofs.named_at.Goals as goal
 
 pub loop-i-init : goal.loop-i-init

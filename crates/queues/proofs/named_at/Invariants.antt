@@ -1,8 +1,7 @@
 -- `queues::named_at` meets its contract: after each turn what is left of the queue answers as the whole; the measure is what is left to read. Assumes nothing.
 use Prim.Native.Nat.{◌-◌}
 use Rattle.rings.specs.Rings.{rings_of}
-use Rattle.queues.specs.Code.{Naming, naming-start, naming-end, naming-found, naming-next}
-use borrow.Author.Rules.{rules}
+use Rattle.queues.specs.Code.{Naming}
 use Rattle.queues.proofs.named_at.Given as goal
 
 abbrev pub invariant-loop-i : goal.invariant-loop-i

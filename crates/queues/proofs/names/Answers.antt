@@ -1,7 +1,5 @@
 -- `queues::names` meets its contract: each return is one side of the definition's tests; a row has eight slots, so at most eight are attached. Assumes nothing.
-use borrow.Author.Tests.{not-true, not-false}
 use Rattle.queues.specs.Code.{names-notice, names-slot, names-attached}
-use borrow.Author.Rules.{rules}
 use Rattle.queues.proofs.names.Goals as goal
 
 pub returns-then-not-is_message_kind : goal.returns-then-not-is_message_kind

@@ -1,7 +1,6 @@
 -- `queues::remove` meets its contract: a queue longer than its ring is left; else charges, pool and queue are each what a callee leaves, and the messages are read from the queue before it is swept. Assumes nothing.
 use Rattle.queues.specs.Queues.{queues_of}
 use Rattle.queues.specs.Code.{remove-long, remove-done}
-use borrow.Author.Rules.{rules}
 use Rattle.queues.proofs.remove.Goals as goal
 
 pub returns-then-len_of-gt-RING : goal.returns-then-len_of-gt-RING

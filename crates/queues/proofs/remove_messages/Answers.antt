@@ -2,7 +2,6 @@
 use Rattle.rings.specs.Rings.{rings_of, queue_of}
 use Rattle.queues.specs.Code.{messages-done}
 use Rattle.queues.specs.Sparing.{messages-no-kind, messages-none}
-use borrow.Author.Rules.{rules}
 use Rattle.queues.proofs.remove_messages.Goals as goal
 
 pub returns-then-m-eq0 : goal.returns-then-m-eq0

@@ -1,6 +1,5 @@
 -- `queues::settle` meets its contract: the payload is at most what is used, and charges and pool are each what one callee leaves. Assumes nothing.
 use Rattle.queues.specs.Code.{settle-charges, settle-pool}
-use borrow.Author.Rules.{rules}
 use Rattle.queues.proofs.settle.Goals as goal
 
 pub returns : goal.returns

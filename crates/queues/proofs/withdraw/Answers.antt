@@ -1,7 +1,6 @@
 -- `queues::withdraw` meets its contract: a queue within its ring is swept, a longer one left. Assumes nothing.
 use Rattle.rings.specs.Rings.{rings_of}
 use Rattle.queues.specs.Code.{withdraw-some, withdraw-none}
-use borrow.Author.Rules.{rules}
 use Rattle.queues.proofs.withdraw.Goals as goal
 
 pub returns-then-len_of-le-RING : goal.returns-then-len_of-le-RING

@@ -1,5 +1,4 @@
 -- `quota::allowed` meets its contract: the sum of the two numbers fits, and is compared with the half that `half_of` gives. Assumes nothing.
-use borrow.Author.Rules.{rules}
 use Rattle.quota.proofs.allowed.Goals as goal
 
 pub returns : goal.returns

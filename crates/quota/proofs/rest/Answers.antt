@@ -1,6 +1,5 @@
 -- `quota::rest` meets its contract: four two-byte numbers add up without a wrap, and the own one is taken off where it is no greater. Assumes nothing.
 use native.Mathlib.Omega.{arith}
-use borrow.Author.Rules.{rules}
 use Rattle.quota.proofs.rest.Goals as goal
 
 pub returns-then-o-s : goal.returns-then-o-s

@@ -1,6 +1,5 @@
 -- `rings::clear` meets its contract: one store, that of the definition. Assumes nothing.
 use Rattle.rings.specs.Code.{clear-made}
-use borrow.Author.Rules.{rules}
 use Rattle.rings.proofs.clear.Goals as goal
 
 pub returns : goal.returns

@@ -1,6 +1,5 @@
 -- `rings::first_entry` meets its contract: the row read is that of the head. Assumes nothing.
 use Rattle.rings.specs.Code.{first_made}
-use borrow.Author.Rules.{rules}
 use Rattle.rings.proofs.first_entry.Goals as goal
 
 pub returns : goal.returns

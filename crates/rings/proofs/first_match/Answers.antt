@@ -1,7 +1,5 @@
 -- `rings::first_match` meets its contract: no entry read so far matches, so the one that stops the loop is the first; the measure is what is left to read. Assumes nothing.
-use Prim.Native.Nat.{◌-◌}
-use Rattle.rings.specs.Search.{Passing, passing-start, passing-next, passing-found, passing-end}
-use borrow.Author.Rules.{rules}
+use Rattle.rings.specs.Search.{passing-start, passing-next, passing-found, passing-end}
 use Rattle.rings.proofs.first_match.Goals as goal
 
 pub loop-i-init : goal.loop-i-init

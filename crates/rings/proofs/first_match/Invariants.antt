@@ -1,7 +1,6 @@
 -- `rings::first_match` meets its contract: no entry read so far matches, so the one that stops the loop is the first; the measure is what is left to read. Assumes nothing.
 use Prim.Native.Nat.{◌-◌}
-use Rattle.rings.specs.Search.{Passing, passing-start, passing-next, passing-found, passing-end}
-use borrow.Author.Rules.{rules}
+use Rattle.rings.specs.Search.{Passing}
 use Rattle.rings.proofs.first_match.Given as goal
 
 abbrev pub invariant-loop-i : goal.invariant-loop-i

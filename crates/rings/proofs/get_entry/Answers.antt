@@ -1,6 +1,5 @@
 -- `rings::get_entry` meets its contract: the fields read one by one are the rows of the definition. Assumes nothing.
 use Rattle.rings.specs.Code.{entry_read}
-use borrow.Author.Rules.{rules}
 use Rattle.rings.proofs.get_entry.Goals as goal
 
 pub returns : goal.returns

@@ -1,6 +1,5 @@
 -- `rings::has_slot` meets its contract: a slot before the 16, behind them, or among them. Assumes nothing.
 use Rattle.rings.specs.Code.{slot-before, slot-behind, slot-among}
-use borrow.Author.Rules.{rules}
 use Rattle.rings.proofs.has_slot.Goals as goal
 
 pub returns-then-slot-first : goal.returns-then-slot-first

@@ -1,6 +1,5 @@
 -- `rings::is_match` meets its contract: the entry's kind and slot decide. Assumes nothing.
 use Rattle.rings.specs.Code.{match-entry}
-use borrow.Author.Rules.{rules}
 use Rattle.rings.proofs.is_match.Goals as goal
 
 pub returns : goal.returns

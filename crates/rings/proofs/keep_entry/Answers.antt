@@ -1,7 +1,6 @@
 -- `rings::keep_entry` meets its contract: an entry that matches leaves all as it is, any other is stored at the next place to fill. Assumes nothing.
 use Rattle.rings.specs.Rings.{rows_of}
 use Rattle.rings.specs.Code.{entry_gone, entry_kept}
-use borrow.Author.Rules.{rules}
 use Rattle.rings.proofs.keep_entry.Goals as goal
 
 pub returns-then-is_match : goal.returns-then-is_match

@@ -2,7 +2,6 @@
 use native.Mathlib.Omega.{arith}
 use lib.ListN.{length-set}
 use Rattle.rings.specs.Code.{pop-made}
-use borrow.Author.Rules.{rules}
 use Rattle.rings.proofs.pop.Goals as goal
 
 pub bounds-ends-at-2 : goal.bounds-ends-at-2

@@ -1,6 +1,5 @@
 -- `rings::push` meets its contract: the entry goes to the row behind the last one, and the length is one more. Assumes nothing.
 use Rattle.rings.specs.Code.{push-made}
-use borrow.Author.Rules.{rules}
 use Rattle.rings.proofs.push.Goals as goal
 
 pub returns : goal.returns

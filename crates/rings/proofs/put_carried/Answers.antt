@@ -3,7 +3,6 @@ use Prim.Native.Nat.{◌*◌}
 use Rattle.laws.specs.Rows.{stores8}
 use lib.ListN.{length-set}
 use native.Mathlib.Omega.{arith}
-use borrow.Author.Rules.{rules}
 use Rattle.ids.specs.Sizes.{carried_fields}
 use Rattle.rings.proofs.put_carried.Goals as goal
 

@@ -1,6 +1,5 @@
 -- `rings::put_entry` meets its contract: the two calls and the store of the number are the three tables of the definition. Assumes nothing.
 use Rattle.rings.specs.Code.{entry-put}
-use borrow.Author.Rules.{rules}
 use Rattle.rings.proofs.put_entry.Goals as goal
 
 pub returns : goal.returns

@@ -3,7 +3,6 @@ use Prim.Native.Nat.{◌*◌}
 use Rattle.rings.specs.Code.{fields-put}
 use lib.ListN.{length-set}
 use native.Mathlib.Omega.{arith}
-use borrow.Author.Rules.{rules}
 use Rattle.ids.specs.Sizes.{entry_fields}
 use Rattle.rings.proofs.put_fields.Goals as goal
 

@@ -2,7 +2,6 @@
 use Rattle.rings.specs.Code.{remove-made}
 use Rattle.rings.specs.Search.{found_within, found_before, remove-none}
 use native.Mathlib.Omega.{arith}
-use borrow.Author.Rules.{rules}
 use Rattle.rings.proofs.remove.Goals as goal
 
 pub returns-then-from-len : goal.returns-then-from-len

@@ -1,9 +1,7 @@
 -- `rings::sweep` meets its contract: after each turn the rows hold what stays of the entries read, stored from the head on, and nothing else has changed; the measure is what is left to read. Assumes nothing.
 use Prim.Native.Nat.{◌-◌}
-use Rattle.rings.specs.Sweep.{Sweeping, sweep-from, sweep-next, sweep-done}
+use Rattle.rings.specs.Sweep.{Sweeping}
 use Rattle.rings.specs.Rings.{rows_of}
-use native.Mathlib.Omega.{arith}
-use borrow.Author.Rules.{rules}
 use Rattle.rings.proofs.sweep.Given as goal
 
 abbrev pub invariant-loop-read : goal.invariant-loop-read

@@ -1,7 +1,5 @@
 -- `rings::takes` meets its contract: the slot's bit decides first, then the kind's. Assumes nothing.
-use borrow.Author.Tests.{not-true, not-false}
 use Rattle.rings.specs.Code.{match-slot, match-kind}
-use borrow.Author.Rules.{rules}
 use Rattle.rings.proofs.takes.Goals as goal
 
 pub returns-then-not-has_slot : goal.returns-then-not-has_slot

@@ -1,7 +1,6 @@
 -- `seeds::drop_seed` meets its contract: one store. Assumes nothing.
 use mathlib.Core.Path.{refl}
 use Rattle.seeds.specs.Seeds.{dropped}
-use borrow.Author.Rules.{rules}
 use Rattle.seeds.proofs.drop_seed.Goals as goal
 
 pub returns : goal.returns

@@ -1,9 +1,8 @@
 -- `seeds::is_among` meets its contract: the loop's invariant is that no slot passed is the one looked for; the measure is what is left to read. Assumes nothing.
-use Prim.Native.Nat.{◌+◌, ◌-◌}
+use Prim.Native.Nat.{◌+◌}
 use Rattle.seeds.specs.Seeds.{row_at}
-use Rattle.seeds.specs.Code.{Before, among_none, among-found, among_next}
+use Rattle.seeds.specs.Code.{among_none, among-found, among_next}
 use native.Mathlib.Omega.{arith}
-use borrow.Author.Rules.{rules}
 use Rattle.seeds.proofs.is_among.Goals as goal
 
 pub loop-k-init : goal.loop-k-init

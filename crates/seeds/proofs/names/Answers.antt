@@ -1,11 +1,7 @@
 -- `seeds::names` meets its contract: the loop's invariant is that no peer passed has a seed that names the slot; the measure is the peers left. Assumes nothing.
-use Prim.Native.Nat.{◌-◌, ◌≤◌}
-use mathlib.Core.Path.{◌≡◌, refl}
-use mathlib.Core.Bool.{false}
-use Rattle.model.specs.Lists.{any_below}
-use Rattle.seeds.specs.Code.{naming, naming-next, naming-found, naming-none}
+use mathlib.Core.Path.{refl}
+use Rattle.seeds.specs.Code.{naming-next, naming-found, naming-none}
 use native.Mathlib.Omega.{arith}
-use borrow.Author.Rules.{rules}
 use Rattle.seeds.proofs.names.Goals as goal
 
 pub loop-q-init : goal.loop-q-init

@@ -1,11 +1,9 @@
 -- `seeds::names` meets its contract: the loop's invariant is that no peer passed has a seed that names the slot; the measure is the peers left. Assumes nothing.
 use Prim.Native.Nat.{◌-◌, ◌≤◌}
-use mathlib.Core.Path.{◌≡◌, refl}
+use mathlib.Core.Path.{◌≡◌}
 use mathlib.Core.Bool.{false}
 use Rattle.model.specs.Lists.{any_below}
-use Rattle.seeds.specs.Code.{naming, naming-next, naming-found, naming-none}
-use native.Mathlib.Omega.{arith}
-use borrow.Author.Rules.{rules}
+use Rattle.seeds.specs.Code.{naming}
 use Rattle.seeds.proofs.names.Given as goal
 
 abbrev pub invariant-loop-q : goal.invariant-loop-q

@@ -1,8 +1,6 @@
 -- `seeds::names_at` meets its contract: a peer without a seed names nothing. Assumes nothing.
 use native.Mathlib.Omega.{arith}
-use borrow.Author.Tests.{not-true, not-false}
 use Rattle.seeds.specs.Code.{names-unset, names-set}
-use borrow.Author.Rules.{rules}
 use Rattle.seeds.proofs.names_at.Goals as goal
 
 pub returns-then-not-is_set : goal.returns-then-not-is_set

@@ -1,7 +1,6 @@
 -- `seeds::piece` meets its contract: a part of the table. Assumes nothing.
 use Rattle.seeds.specs.Code.{piece_is}
 use native.Mathlib.Omega.{arith}
-use borrow.Author.Rules.{rules}
 use Rattle.seeds.proofs.piece.Goals as goal
 
 pub returns : goal.returns

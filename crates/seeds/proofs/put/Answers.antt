@@ -1,6 +1,5 @@
 -- `seeds::put` meets its contract: the row's head, its slots and the payload, one behind another. Assumes nothing.
 use Rattle.seeds.specs.Code.{put_is}
-use borrow.Author.Rules.{rules}
 use Rattle.seeds.proofs.put.Goals as goal
 
 pub returns : goal.returns

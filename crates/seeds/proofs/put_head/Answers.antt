@@ -3,7 +3,6 @@ use lib.ListN.{length-set}
 use mathlib.Core.Path.{refl}
 use Rattle.seeds.specs.Code.{head-put}
 use native.Mathlib.Omega.{arith}
-use borrow.Author.Rules.{rules}
 use Rattle.seeds.proofs.put_head.Goals as goal
 
 pub bounds-seeds-a-2 : goal.bounds-seeds-a-2

@@ -4,7 +4,6 @@ use lib.ListN.{length-set}
 use Rattle.laws.specs.Rows.{stores8}
 use Rattle.seeds.specs.Seeds.{row_at}
 use native.Mathlib.Omega.{arith}
-use borrow.Author.Rules.{rules}
 use Rattle.seeds.proofs.put_slots.Goals as goal
 
 pub bounds-seeds-a-2 : goal.bounds-seeds-a-2

@@ -1,6 +1,5 @@
 -- `seeds::slots_of` meets its contract: eight reads in a row, each modulo the slots of all peers. Assumes nothing.
 use Rattle.seeds.specs.Code.{slots-are}
-use borrow.Author.Rules.{rules}
 use Rattle.seeds.proofs.slots_of.Goals as goal
 
 pub returns : goal.returns

@@ -1,6 +1,5 @@
 -- `tables::bit_of` meets its contract: the test is the definition's choice. Assumes nothing.
 use Rattle.tables.specs.CodeLaws.{bit-none, bit-some}
-use borrow.Author.Rules.{rules}
 use Rattle.tables.proofs.bit_of.Goals as goal
 
 pub returns-then-c-eq0 : goal.returns-then-c-eq0

@@ -1,12 +1,7 @@
 -- `tables::clear_peer` meets its contract: each turn is one more handle gone; then the length of the list. Assumes nothing.
 use Rattle.tables.specs.CodeLaws.{clear_none, clear-more, clear-all}
-use Rattle.tables.specs.Handles.{clear_below}
-use lib.ListN.{length}
-use mathlib.Core.Path.{◌≡◌, refl}
-use Prim.Native.Nat.{◌≤◌, ◌-◌}
+use mathlib.Core.Path.{refl}
 use native.Mathlib.Omega.{arith}
-use borrow.Author.Rules.{rules}
-use Rattle.model.specs.Numbers.{nodes}
 use Rattle.tables.proofs.clear_peer.Goals as goal
 
 pub loop-s-init : goal.loop-s-init

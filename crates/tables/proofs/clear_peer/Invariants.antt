@@ -1,11 +1,8 @@
 -- `tables::clear_peer` meets its contract: each turn is one more handle gone; then the length of the list. Assumes nothing.
-use Rattle.tables.specs.CodeLaws.{clear_none, clear-more, clear-all}
 use Rattle.tables.specs.Handles.{clear_below}
 use lib.ListN.{length}
-use mathlib.Core.Path.{◌≡◌, refl}
+use mathlib.Core.Path.{◌≡◌}
 use Prim.Native.Nat.{◌≤◌, ◌-◌}
-use native.Mathlib.Omega.{arith}
-use borrow.Author.Rules.{rules}
 use Rattle.model.specs.Numbers.{nodes}
 use Rattle.tables.proofs.clear_peer.Given as goal
 

@@ -1,7 +1,6 @@
 -- `tables::count_command` meets its contract: the store is the definition's. Assumes nothing.
 use Rattle.tables.specs.Peers.{count_command}
 use mathlib.Core.Path.{refl}
-use borrow.Author.Rules.{rules}
 use Rattle.tables.proofs.count_command.Goals as goal
 
 pub returns : goal.returns

@@ -1,7 +1,6 @@
 -- `tables::enlist` meets its contract: the entry and the length. Assumes nothing.
 use Rattle.tables.specs.CodeLaws.{enlist-done}
 use native.Mathlib.Omega.{arith}
-use borrow.Author.Rules.{rules}
 use Rattle.tables.proofs.enlist.Goals as goal
 
 pub put_record-requires : goal.put_record-requires

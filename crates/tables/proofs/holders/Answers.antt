@@ -1,9 +1,6 @@
 -- `tables::holders` meets its contract: the loop's invariant is the sum of the bits of the peers passed, which is below the next bit. Assumes nothing.
-use Rattle.tables.specs.CodeLaws.{Holders, holders-none, holders-more, holders-all}
-use Prim.Native.Nat.{◌-◌}
+use Rattle.tables.specs.CodeLaws.{holders-none, holders-more, holders-all}
 use native.Mathlib.Omega.{arith}
-use borrow.Author.Rules.{rules}
-use Rattle.ids.specs.Sizes.{peers}
 use Rattle.tables.proofs.holders.Goals as goal
 
 pub loop-q-init : goal.loop-q-init

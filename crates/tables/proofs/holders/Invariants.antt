@@ -1,8 +1,6 @@
 -- `tables::holders` meets its contract: the loop's invariant is the sum of the bits of the peers passed, which is below the next bit. Assumes nothing.
-use Rattle.tables.specs.CodeLaws.{Holders, holders-none, holders-more, holders-all}
+use Rattle.tables.specs.CodeLaws.{Holders}
 use Prim.Native.Nat.{◌-◌}
-use native.Mathlib.Omega.{arith}
-use borrow.Author.Rules.{rules}
 use Rattle.ids.specs.Sizes.{peers}
 use Rattle.tables.proofs.holders.Given as goal
 

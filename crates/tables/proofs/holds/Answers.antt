@@ -1,6 +1,5 @@
 -- `tables::holds` meets its contract: the record read once, compared. Assumes nothing.
 use Rattle.tables.specs.CodeLaws.{holds_not, holds-this}
-use borrow.Author.Rules.{rules}
 use Rattle.tables.proofs.holds.Goals as goal
 
 pub returns-then-e-id : goal.returns-then-e-id

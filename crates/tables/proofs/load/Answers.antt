@@ -1,6 +1,5 @@
 -- `tables::load` meets its contract: the four rows read are the definition's. Assumes nothing.
 use Rattle.tables.specs.CodeLaws.{loaded}
-use borrow.Author.Rules.{rules}
 use Rattle.tables.proofs.load.Goals as goal
 
 pub returns : goal.returns

@@ -1,6 +1,5 @@
 -- `tables::narrow` meets its contract: the two halves. Assumes nothing.
 use Rattle.tables.specs.CodeLaws.{narrow-down, narrow-up}
-use borrow.Author.Rules.{rules}
 use Rattle.tables.proofs.narrow.Goals as goal
 
 pub returns-then-id-other : goal.returns-then-id-other

@@ -1,8 +1,6 @@
 -- `tables::place_in` meets its contract: the loop's invariant is that the halving of what is left, with the reads that are left, comes to the same place; so the counter is the bound. Assumes nothing.
-use Rattle.tables.specs.CodeLaws.{Halving, halving-starts, halving-turn, halving-done, narrowed-less}
-use Prim.Native.Nat.{◌-◌}
+use Rattle.tables.specs.CodeLaws.{halving-starts, halving-turn, halving-done, narrowed-less}
 use native.Mathlib.Omega.{arith}
-use borrow.Author.Rules.{rules}
 use Rattle.tables.proofs.place_in.Goals as goal
 
 pub loop-low-init : goal.loop-low-init

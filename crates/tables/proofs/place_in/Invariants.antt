@@ -1,8 +1,6 @@
 -- `tables::place_in` meets its contract: the loop's invariant is that the halving of what is left, with the reads that are left, comes to the same place; so the counter is the bound. Assumes nothing.
-use Rattle.tables.specs.CodeLaws.{Halving, halving-starts, halving-turn, halving-done, narrowed-less}
+use Rattle.tables.specs.CodeLaws.{Halving}
 use Prim.Native.Nat.{◌-◌}
-use native.Mathlib.Omega.{arith}
-use borrow.Author.Rules.{rules}
 use Rattle.tables.proofs.place_in.Given as goal
 
 abbrev pub invariant-loop-low : goal.invariant-loop-low

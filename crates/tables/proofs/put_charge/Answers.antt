@@ -3,7 +3,6 @@ use Rattle.tables.specs.Charges.{put_charge}
 use lib.ListN.{length-set}
 use mathlib.Core.Path.{refl}
 use native.Mathlib.Omega.{arith}
-use borrow.Author.Rules.{rules}
 use Rattle.tables.proofs.put_charge.Goals as goal
 
 pub bounds-charges-at-2 : goal.bounds-charges-at-2

@@ -3,7 +3,6 @@ use Rattle.tables.specs.Handles.{put_handle}
 use lib.ListN.{length-set}
 use mathlib.Core.Path.{refl}
 use native.Mathlib.Omega.{arith}
-use borrow.Author.Rules.{rules}
 use Rattle.tables.proofs.put_handle.Goals as goal
 
 pub bounds-handles-at-2 : goal.bounds-handles-at-2

@@ -1,6 +1,5 @@
 -- `tables::raise` meets its contract: the handle, and its entry where it is the first. Assumes nothing.
 use Rattle.tables.specs.CodeLaws.{raise-more, raise-first}
-use borrow.Author.Rules.{rules}
 use Rattle.tables.proofs.raise.Goals as goal
 
 pub returns-then-c-ne0 : goal.returns-then-c-ne0

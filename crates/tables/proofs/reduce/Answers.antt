@@ -1,6 +1,5 @@
 -- `tables::reduce` meets its contract: the handle, and its entry where it was the last. Assumes nothing.
 use Rattle.tables.specs.CodeLaws.{reduce-more, reduce-last}
-use borrow.Author.Rules.{rules}
 use Rattle.tables.proofs.reduce.Goals as goal
 
 pub returns-then-left-ne0 : goal.returns-then-left-ne0

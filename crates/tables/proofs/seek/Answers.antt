@@ -1,6 +1,5 @@
 -- `tables::seek` meets its contract: the two searches, each with its bound. Assumes nothing.
 use Rattle.tables.specs.CodeLaws.{sought-own, sought-listed}
-use borrow.Author.Rules.{rules}
 use Rattle.tables.proofs.seek.Goals as goal
 
 pub returns-then-id-eq0 : goal.returns-then-id-eq0

@@ -1,6 +1,5 @@
 -- `tables::seek_among` meets its contract: the place that the halving comes to has the ID, or nothing has. Assumes nothing.
 use Rattle.tables.specs.CodeLaws.{among-past, among-other, among-this}
-use borrow.Author.Rules.{rules}
 use Rattle.tables.proofs.seek_among.Goals as goal
 
 pub returns-then-n-k : goal.returns-then-n-k

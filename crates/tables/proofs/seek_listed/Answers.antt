@@ -1,6 +1,5 @@
 -- `tables::seek_listed` meets its contract: no entry, the entry at the guessed place, or the search among all; each with the records that were read. Assumes nothing.
 use Rattle.tables.specs.CodeLaws.{listed-none, listed-there, listed-else}
-use borrow.Author.Rules.{rules}
 use Rattle.tables.proofs.seek_listed.Goals as goal
 
 pub returns-then-n-eq0 : goal.returns-then-n-eq0

@@ -1,12 +1,8 @@
 -- `tables::seek_own` meets its contract: the loop's invariant is that no slot passed has the ID and that each was one read. Assumes nothing.
 use Rattle.tables.specs.Handles.{has_at}
-use Rattle.tables.specs.CodeLaws.{own_row, own_at, own-nothing}
-use borrow.Author.Count.{below_more}
 use mathlib.Core.Bool.{false}
-use mathlib.Core.Path.{◌≡◌, sym, ◌∙◌}
+use mathlib.Core.Path.{◌≡◌}
 use Prim.Native.Nat.{ℕ, ◌+◌, ◌*◌, ◌≤◌, ◌-◌, ◌<◌}
-use native.Mathlib.Omega.{arith}
-use borrow.Author.Rules.{rules}
 use Rattle.ids.specs.Sizes.{slots}
 use Rattle.tables.proofs.seek_own.Given as goal
 

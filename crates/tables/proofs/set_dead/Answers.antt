@@ -3,7 +3,6 @@ use Rattle.tables.specs.Nodes.{set_dead}
 use lib.ListN.{length-set}
 use mathlib.Core.Path.{refl}
 use native.Mathlib.Omega.{arith}
-use borrow.Author.Rules.{rules}
 use Rattle.tables.proofs.set_dead.Goals as goal
 
 pub bounds-nodes-at-2 : goal.bounds-nodes-at-2

@@ -1,7 +1,6 @@
 -- `tables::set_disconnected` meets its contract: the store is the definition's. Assumes nothing.
 use Rattle.tables.specs.Peers.{set_disconnected}
 use mathlib.Core.Path.{refl}
-use borrow.Author.Rules.{rules}
 use Rattle.tables.proofs.set_disconnected.Goals as goal
 
 pub returns : goal.returns

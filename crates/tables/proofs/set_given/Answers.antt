@@ -1,7 +1,6 @@
 -- `tables::set_given` meets its contract: the store is the definition's. Assumes nothing.
 use Rattle.tables.specs.Peers.{set_given}
 use mathlib.Core.Path.{refl}
-use borrow.Author.Rules.{rules}
 use Rattle.tables.proofs.set_given.Goals as goal
 
 pub returns : goal.returns

@@ -1,7 +1,6 @@
 -- `tables::set_live` meets its contract: the store is the definition's. Assumes nothing.
 use Rattle.tables.specs.Nodes.{set_live}
 use mathlib.Core.Path.{refl}
-use borrow.Author.Rules.{rules}
 use Rattle.tables.proofs.set_live.Goals as goal
 
 pub returns : goal.returns

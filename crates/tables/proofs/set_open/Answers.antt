@@ -3,7 +3,6 @@ use Rattle.tables.specs.Peers.{set_open}
 use lib.ListN.{length-set}
 use mathlib.Core.Path.{refl}
 use native.Mathlib.Omega.{arith}
-use borrow.Author.Rules.{rules}
 use Rattle.tables.proofs.set_open.Goals as goal
 
 pub bounds-peers-at-2 : goal.bounds-peers-at-2

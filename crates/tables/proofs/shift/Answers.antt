@@ -1,11 +1,7 @@
 -- `tables::shift` meets its contract: the loop's invariant is the definition so far. Assumes nothing.
-use Rattle.tables.specs.Handles.{shifted}
 use Rattle.tables.specs.CodeLaws.{shift_none, shift-more, shift-all}
-use lib.ListN.{length}
-use mathlib.Core.Path.{◌≡◌, refl}
-use Prim.Native.Nat.{◌≤◌, ◌<◌, ◌+◌, ◌-◌}
+use mathlib.Core.Path.{refl}
 use native.Mathlib.Omega.{arith}
-use borrow.Author.Rules.{rules}
 use Rattle.tables.proofs.shift.Goals as goal
 
 pub loop-m-init : goal.loop-m-init

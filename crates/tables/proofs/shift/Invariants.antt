@@ -1,11 +1,8 @@
 -- `tables::shift` meets its contract: the loop's invariant is the definition so far. Assumes nothing.
 use Rattle.tables.specs.Handles.{shifted}
-use Rattle.tables.specs.CodeLaws.{shift_none, shift-more, shift-all}
 use lib.ListN.{length}
-use mathlib.Core.Path.{◌≡◌, refl}
-use Prim.Native.Nat.{◌≤◌, ◌<◌, ◌+◌, ◌-◌}
-use native.Mathlib.Omega.{arith}
-use borrow.Author.Rules.{rules}
+use mathlib.Core.Path.{◌≡◌}
+use Prim.Native.Nat.{◌<◌, ◌+◌, ◌-◌}
 use Rattle.tables.proofs.shift.Given as goal
 
 abbrev pub invariant-loop-m : goal.invariant-loop-m

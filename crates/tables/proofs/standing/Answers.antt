@@ -1,6 +1,5 @@
 -- `tables::standing` meets its contract: each return is the refusal of that state. Assumes nothing.
 use Rattle.tables.specs.CodeLaws.{standing-open, standing-left, standing-none}
-use borrow.Author.Rules.{rules}
 use Rattle.tables.proofs.standing.Goals as goal
 
 pub returns-then-state-eq-OPEN : goal.returns-then-state-eq-OPEN

@@ -1,7 +1,6 @@
 -- `tables::status_of` meets its contract: the tests are the definition's choices. Assumes nothing.
 use Rattle.tables.specs.Peers.{status_at}
 use Rattle.laws.specs.Tests.{tests}
-use borrow.Author.Rules.{rules}
 use Rattle.tables.proofs.status_of.Goals as goal
 
 pub returns-then-state-eq-OPEN : goal.returns-then-state-eq-OPEN

@@ -1,6 +1,5 @@
 -- `tables::store` meets its contract: four stores, which are the definition's. Assumes nothing.
 use Rattle.tables.specs.CodeLaws.{stored}
-use borrow.Author.Rules.{rules}
 use Rattle.tables.proofs.store.Goals as goal
 
 pub returns : goal.returns

@@ -1,6 +1,5 @@
 -- `tables::take_out` meets its contract: the entries shifted, then the length and the last ID. Assumes nothing.
 use Rattle.tables.specs.CodeLaws.{take-out-done}
-use borrow.Author.Rules.{rules}
 use Rattle.tables.proofs.take_out.Goals as goal
 
 pub returns : goal.returns

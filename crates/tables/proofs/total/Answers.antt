@@ -1,12 +1,6 @@
 -- `tables::total` meets its contract: the loop's invariant is the sum of the counts of the peers passed, which fits because each is below 2^60. Assumes nothing.
-use Rattle.tables.specs.Peers.{modulus}
-use Rattle.tables.specs.Handles.{total_below}
 use Rattle.tables.specs.CodeLaws.{total-none, total-more, total-all}
-use mathlib.Core.Path.{◌≡◌}
-use Prim.Native.Nat.{◌≤◌, ◌*◌, ◌-◌}
 use native.Mathlib.Omega.{arith}
-use borrow.Author.Rules.{rules}
-use Rattle.ids.specs.Sizes.{peers}
 use Rattle.tables.proofs.total.Goals as goal
 
 pub loop-q-init : goal.loop-q-init

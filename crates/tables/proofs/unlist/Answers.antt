@@ -1,7 +1,6 @@
 -- `tables::unlist` meets its contract: a chosen ID, an empty list, the entry at the guessed place; or else no entry, another, or this one where the halving comes to. Assumes nothing.
 use Rattle.tables.specs.CodeLaws.{unlist-chosen, unlist-empty, unlist-there, unlist-past, unlist-other, unlist-this}
 use native.Mathlib.Omega.{arith}
-use borrow.Author.Rules.{rules}
 use Rattle.tables.proofs.unlist.Goals as goal
 
 pub returns-then-id-eq0 : goal.returns-then-id-eq0

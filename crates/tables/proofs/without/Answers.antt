@@ -1,7 +1,6 @@
 -- `tables::without` meets its contract: 2 ^ q fits a byte. Assumes nothing.
 use Rattle.tables.specs.CodeLaws.{byte-shift}
 use native.Mathlib.Omega.{arith}
-use borrow.Author.Rules.{rules}
 use Rattle.tables.proofs.without.Goals as goal
 
 pub returns-then-bit-set : goal.returns-then-bit-set

@@ -1,5 +1,4 @@
 -- `quota::Charge::less` meets its contract: each field is what `subtract` gives for it. Assumes nothing.
-use borrow.Author.Rules.{rules}
 use Rattle.quota.proofs.Charge.less.Goals as goal
 
 pub returns : goal.returns

@@ -1,5 +1,4 @@
 -- `quota::Charge::plus` meets its contract: each field is what `add` gives for it. Assumes nothing.
-use borrow.Author.Rules.{rules}
 use Rattle.quota.proofs.Charge.plus.Goals as goal
 
 pub returns : goal.returns

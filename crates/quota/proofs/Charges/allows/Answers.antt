@@ -1,6 +1,4 @@
 -- `quota::Charges::allows` meets its contract: each return follows the definition's tests in order, with what `own`, `others` and `allowed` ensure. Assumes nothing.
-use borrow.Author.Tests.{not-true, not-false}
-use borrow.Author.Rules.{rules}
 use Rattle.quota.specs.Charges.{allows_all, others_all}
 use Rattle.quota.proofs.Charges.allows.Goals as goal
 

@@ -1,5 +1,4 @@
 -- `quota::Charges::balance` meets its contract: what is left of each resource is `left` of what `others` and `own` give. Assumes nothing.
-use borrow.Author.Rules.{rules}
 use Rattle.quota.specs.Charges.{balance_of, others_all}
 use Rattle.quota.proofs.Charges.balance.Goals as goal
 

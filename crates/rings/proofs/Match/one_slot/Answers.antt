@@ -2,7 +2,6 @@
 use Rattle.rings.specs.Code.{shift_small, one-made}
 use Prim.Native.Nat.{◌%◌}
 use native.Mathlib.Omega.{arith}
-use borrow.Author.Rules.{rules}
 use Rattle.rings.proofs.Match.one_slot.Goals as goal
 
 pub overflow_cast-result : goal.overflow_cast-result
