@@ -14,35 +14,28 @@ use ids::{
     CARRIED_SIZE, CHARGES_SIZE, ENDS_SIZE, ENTRIES_SIZE, HANDLES_SIZE, NODES_SIZE, NUMBERS_SIZE,
     PEERS_SIZE, POOL_SIZE, SEEDS_SIZE,
 };
-use libc::types::timespec;
-use libc::{EAGAIN, EINTR, STDERR_FILENO, STDIN_FILENO, STDOUT_FILENO};
 use session::Progress;
+use std::io::{ErrorKind, Read, Write};
+use std::rt::Clock;
+use std::time::Duration;
+use std::{io, thread};
 
-// Waits a millisecond, or until a signal interrupts the wait: the caller then tries again, so what is left of it is not
-// waited for. Its proof is by hand: the borrow checker covers no reference to a struct.
-fn pause() {
-    let asked = timespec {
-        tv_sec: 0,
-        tv_nsec: 1000000,
-    };
-    let mut left = timespec {
-        tv_sec: 0,
-        tv_nsec: 0,
-    };
-    libc::nanosleep(&asked, &mut left);
+// Waits a millisecond.
+fn pause(rt: &impl Clock) {
+    thread::sleep(rt, Duration::from_millis(1));
 }
 
 // Is the call that failed with this error to be made again? At once, where a signal interrupted it, and after a short
 // wait, where it would block.
-fn try_again(error: i32) -> bool {
-    if error == EINTR {
-        return true;
+fn try_again(rt: &impl Clock, error: &io::Error) -> bool {
+    match error.kind() {
+        ErrorKind::Interrupted => true,
+        ErrorKind::WouldBlock => {
+            pause(rt);
+            true
+        }
+        _ => false,
     }
-    if error != EAGAIN {
-        return false;
-    }
-    pause();
-    true
 }
 
 // What was read: how many characters, 0 at the end of the input, or that the read failed.
@@ -52,26 +45,21 @@ struct Input {
     failed: bool,
 }
 
-// One read. Its tries are counted down from a number that no run uses up.
-fn read_some(part: &mut [u8]) -> Input
+// One read. Its tries are counted, up to a number that no run uses up.
+fn read_some(rt: &impl Clock, input: &mut impl Read, part: &mut [u8]) -> Input
     ensures { result.got ≤ length part.old }
 {
-    let mut tries = u64::MAX;
-    while tries > 0 {
-        let got = libc::read(STDIN_FILENO, part);
-        if got >= 0 {
-            return Input {
-                got: io::count(got, part),
-                failed: false,
-            };
+    for _ in 0..u64::MAX {
+        match input.read(part) {
+            Ok(got) => {
+                return Input { got, failed: false };
+            }
+            Err(error) => {
+                if !try_again(rt, &error) {
+                    break;
+                }
+            }
         }
-        if !try_again(os::errno()) {
-            return Input {
-                got: 0,
-                failed: true,
-            };
-        }
-        tries -= 1;
     }
     Input {
         got: 0,
@@ -80,28 +68,29 @@ fn read_some(part: &mut [u8]) -> Input
 }
 
 // One write, its tries counted likewise. How many bytes it took, 0 where it failed.
-fn write_some(bytes: &[u8]) -> usize
+fn write_some(rt: &impl Clock, output: &mut impl Write, bytes: &[u8]) -> usize
     ensures { result ≤ length bytes.now }
 {
-    let mut tries = u64::MAX;
-    while tries > 0 {
-        let put = libc::write(STDOUT_FILENO, bytes);
-        if put >= 0 {
-            return io::count(put, bytes);
+    for _ in 0..u64::MAX {
+        match output.write(bytes) {
+            Ok(put) => {
+                return put;
+            }
+            Err(error) => {
+                if !try_again(rt, &error) {
+                    break;
+                }
+            }
         }
-        if !try_again(os::errno()) {
-            return 0;
-        }
-        tries -= 1;
     }
     0
 }
 
 // Writes all the bytes, or stops at a write that failed. Whether all are written.
-fn write_text(bytes: &[u8]) -> bool {
+fn write_text(rt: &impl Clock, output: &mut impl Write, bytes: &[u8]) -> bool {
     let mut done = 0;
     while done < bytes.len() {
-        let put = write_some(&bytes[done..]);
+        let put = write_some(rt, output, &bytes[done..]);
         if put == 0 {
             return false;
         }
@@ -110,12 +99,12 @@ fn write_text(bytes: &[u8]) -> bool {
     true
 }
 
-fn say_not_read() {
-    io::write_all(STDERR_FILENO, b"busline: cannot read the input\n");
+fn say_not_read(rt: &impl Eprint) {
+    let _ = rt.eprint("busline: cannot read the input\n");
 }
 
-fn say_not_written() {
-    io::write_all(STDERR_FILENO, b"busline: cannot write the output\n");
+fn say_not_written(rt: &impl Eprint) {
+    let _ = rt.eprint("busline: cannot write the output\n");
 }
 
 // What came of a chunk: where its piece starts, and whether all its answers are written.
@@ -145,6 +134,8 @@ fn beginning() -> Progress
 // The whole lines of a chunk answered, and their answers written: as many texts as they fill. After a write that failed
 // nothing more of the chunk is answered.
 fn answer_chunk(
+    rt: &impl Clock,
+    output: &mut impl Write,
     peers: &mut [u64],
     nodes: &mut [u64],
     handles: &mut [u64],
@@ -171,46 +162,52 @@ fn answer_chunk(
             peers, nodes, handles, charges, ends, entries, carried, numbers, pool, seeds, s,
             p.from, text,
         );
-        if !write_text(&text[..p.at]) {
+        if !write_text(rt, output, &text[..p.at]) {
             return sent_to(p.from, false);
         }
     }
     sent_to(p.from, true)
 }
 
-fn read_behind(buf: &mut [u8], held: usize) -> Input
+fn read_behind(rt: &impl Clock, input: &mut impl Read, buf: &mut [u8], held: usize) -> Input
     requires { held ≤ length buf.old }
     ensures { (held + result.got ≤ length buf.old) × (take held buf.new ≡ take held buf.old) }
 {
-    read_some(&mut buf[held..])
+    read_some(rt, input, &mut buf[held..])
 }
 
 // The piece at the end of the input, which lacks its LF.
-fn answer_piece(held: usize) {
+fn answer_piece(rt: &(impl Clock + Eprint), output: &mut impl Write, held: usize) {
     if held == 0 {
         return;
     }
-    if !write_text(b"16\n") {
-        say_not_written();
+    if !write_text(rt, output, b"16\n") {
+        say_not_written(rt);
     }
 }
 
 // A chunk read behind what is held: how many characters, 0 where there is no more to read. Then the piece that is held is
 // answered, or the failure is told.
-fn next_chunk(buf: &mut [u8], held: usize) -> usize
+fn next_chunk(
+    rt: &(impl Clock + Eprint),
+    input: &mut impl Read,
+    output: &mut impl Write,
+    buf: &mut [u8],
+    held: usize,
+) -> usize
     requires { held ≤ length buf.old }
     ensures { (held + result ≤ length buf.old) × (take held buf.new ≡ take held buf.old) }
 {
-    let input = read_behind(buf, held);
-    if input.failed {
-        say_not_read();
+    let read = read_behind(rt, input, buf, held);
+    if read.failed {
+        say_not_read(rt);
         return 0;
     }
-    if input.got == 0 {
-        answer_piece(held);
+    if read.got == 0 {
+        answer_piece(rt, output, held);
         return 0;
     }
-    input.got
+    read.got
 }
 
 // A turn: how many characters are carried over, and whether there is more to read.
@@ -230,14 +227,14 @@ fn ended() -> Turn
 }
 
 // The piece of a chunk carried over, or where an answer is not written the end.
-fn carry(buf: &mut [u8], sent: Sent, end: usize) -> Turn
+fn carry(rt: &impl Eprint, buf: &mut [u8], sent: Sent, end: usize) -> Turn
     ensures { let rest = carried_of buf.old sent.from end in
         (result.held ≤ most_carried)
         × (result.more ≡ true →
         (sent.whole ≡ true) × (result.held ≡ length rest) × (buf.new ≡ rest ++ drop (length rest) buf.old)) }
 {
     if !sent.whole {
-        say_not_written();
+        say_not_written(rt);
         return ended();
     }
     let rest = lines::carry_over(buf, sent.from, end);
@@ -250,6 +247,9 @@ fn carry(buf: &mut [u8], sent: Sent, end: usize) -> Turn
 // One chunk read behind what is held, answered, and its piece carried over. Where it goes on, the chunks so far, the bus,
 // what is carried over and what was written are those of a session (session/specs/Session.antt).
 fn take_turn(
+    rt: &(impl Clock + Eprint),
+    input: &mut impl Read,
+    output: &mut impl Write,
     peers: &mut [u64],
     nodes: &mut [u64],
     handles: &mut [u64],
@@ -271,12 +271,14 @@ fn take_turn(
         ends.new entries.new carried.new numbers.new pool.new seeds.new in
         (result.held ≤ most_carried) × (result.more ≡ true → Underway bus (take result.held buf.new)) }
 {
-    let got = next_chunk(buf, held);
+    let got = next_chunk(rt, input, output, buf, held);
     if got == 0 {
         return ended();
     }
     let end = held + got;
     let sent = answer_chunk(
+        rt,
+        output,
         peers,
         nodes,
         handles,
@@ -290,11 +292,14 @@ fn take_turn(
         &buf[..end],
         text,
     );
-    carry(buf, sent, end)
+    carry(rt, buf, sent, end)
 }
 
 // The loop counts its turns down from a number that no run uses up.
 fn run(
+    rt: &(impl Clock + Eprint),
+    input: &mut impl Read,
+    output: &mut impl Write,
     peers: &mut [u64],
     nodes: &mut [u64],
     handles: &mut [u64],
@@ -316,8 +321,8 @@ fn run(
     let mut turns = u64::MAX;
     while turns > 0 {
         let t = take_turn(
-            peers, nodes, handles, charges, ends, entries, carried, numbers, pool, seeds, buf,
-            held, text,
+            rt, input, output, peers, nodes, handles, charges, ends, entries, carried, numbers,
+            pool, seeds, buf, held, text,
         );
         if !t.more {
             return;
@@ -327,7 +332,9 @@ fn run(
     }
 }
 
-fn main() {
+fn main(rt: HostRuntime) {
+    let mut input = rt.stdin();
+    let mut output = rt.stdout();
     let mut peers = [0u64; PEERS_SIZE];
     let mut nodes = [0u64; NODES_SIZE];
     let mut handles = [0u64; HANDLES_SIZE];
@@ -338,8 +345,8 @@ fn main() {
     let mut numbers = [0u64; NUMBERS_SIZE];
     let mut pool = [0u8; POOL_SIZE];
     let mut seeds = [0u8; SEEDS_SIZE];
-    let mut buf = io::large_buffer();
-    let mut text = io::large_buffer();
+    let mut buf = [0u8; 65536];
+    let mut text = [0u8; 65536];
     bus::fresh(
         &mut peers,
         &mut nodes,
@@ -353,6 +360,9 @@ fn main() {
         &mut seeds,
     );
     run(
+        &rt,
+        &mut input,
+        &mut output,
         &mut peers,
         &mut nodes,
         &mut handles,

@@ -19,9 +19,9 @@ ghost use Rattle.std.specs.Prelude.{◌≡◌, ◌+◌, ◌≤◌, length};
 use answers::{Answer, Header, Received};
 use frames::{Command, Parsed};
 use ids::{HandleId, Peer, User};
-use libc::{STDIN_FILENO, STDOUT_FILENO};
 use lines::{LineRead, Written};
 use quota::{Charge, Charges};
+use std::io::Read;
 
 const EDQUOT: u8 = 122;
 
@@ -155,18 +155,19 @@ fn ids_shown(answer: Answer) -> usize
     }
 }
 
-fn say(bytes: &[u8]) {
+// Writes an answer line. A write that failed is not told of.
+fn say(rt: &impl Print, bytes: &[u8]) {
     let mut line = [0u8; 1184];
     let Written::Next(n) = lines::write_line(&mut line, 0, bytes) else {
         return;
     };
     let end = copies::least(n, 1184);
-    io::write_all(STDOUT_FILENO, &line[..end]);
+    let _ = rt.write_all(&line[..end]);
 }
 
-fn say_fault(place: usize) {
+fn say_fault(rt: &impl Print, place: usize) {
     let bytes = [22, (place / 256 % 256) as u8, (place % 256) as u8];
-    say(&bytes);
+    say(rt, &bytes);
 }
 
 fn judge(frame: &[u8], charges: Charges) -> Answered {
@@ -177,7 +178,7 @@ fn judge(frame: &[u8], charges: Charges) -> Answered {
 }
 
 // Answers one frame, and returns the charges after it.
-fn answer_frame(frame: &[u8], charges: Charges) -> Charges {
+fn answer_frame(rt: &impl Print, frame: &[u8], charges: Charges) -> Charges {
     let done = judge(frame, charges);
     let answer = done.answer;
     let shown = ids_shown(answer);
@@ -185,7 +186,7 @@ fn answer_frame(frame: &[u8], charges: Charges) -> Charges {
     let mut out = [0u8; 591];
     let o = answers::write_answer(&mut out, answer, &list[..shown], frames::payload(frame));
     let len = copies::least(o.len, 591);
-    say(&out[..len]);
+    say(rt, &out[..len]);
     let after = done.charges;
     after
 }
@@ -197,7 +198,7 @@ struct Turn {
     charges: Charges,
 }
 
-fn answer_line(s: &[u8], charges: Charges) -> Turn
+fn answer_line(rt: &impl Print, s: &[u8], charges: Charges) -> Turn
     ensures { result.used ≤ length s.now }
 {
     let mut frame = [0u8; 646];
@@ -206,11 +207,11 @@ fn answer_line(s: &[u8], charges: Charges) -> Turn
             let n = copies::least(m, 646);
             Turn {
                 used: next,
-                charges: answer_frame(&frame[..n], charges),
+                charges: answer_frame(rt, &frame[..n], charges),
             }
         }
         LineRead::Bad(place, next) => {
-            say_fault(place);
+            say_fault(rt, place);
             Turn {
                 used: next,
                 charges,
@@ -227,13 +228,13 @@ struct Lines {
     charges: Charges,
 }
 
-fn answer_lines(s: &[u8], charges: Charges) -> Lines
+fn answer_lines(rt: &impl Print, s: &[u8], charges: Charges) -> Lines
     ensures { result.at ≤ length s.now }
 {
     let mut at = 0;
     let mut c = charges;
     while at < s.len() {
-        let t = answer_line(&s[at..], c);
+        let t = answer_line(rt, &s[at..], c);
         let next = t.charges;
         c = next;
         let used = t.used;
@@ -246,7 +247,7 @@ fn answer_lines(s: &[u8], charges: Charges) -> Lines
 }
 
 // The piece at the end of the input, which lacks its LF.
-fn answer_end(s: &[u8]) {
+fn answer_end(rt: &impl Print, s: &[u8]) {
     let mut frame = [0u8; 646];
     if s.len() == 0 {
         return;
@@ -254,7 +255,7 @@ fn answer_end(s: &[u8]) {
     let LineRead::Piece(place) = lines::read_line(s, &mut frame) else {
         return;
     };
-    say_fault(place);
+    say_fault(rt, place);
 }
 
 // A chunk answered: how many characters are carried over, the charges, and whether the input goes on.
@@ -265,21 +266,27 @@ struct Chunk {
     goes_on: bool,
 }
 
-fn answer_chunk(buf: &mut [u8], held: usize, charges: Charges) -> Chunk
+fn answer_chunk(
+    rt: &impl Print,
+    input: &mut impl Read,
+    buf: &mut [u8],
+    held: usize,
+    charges: Charges,
+) -> Chunk
     requires { (held ≤ 1293) × (length buf.old ≡ 65536) }
     ensures { result.held ≤ 1293 }
 {
-    let n = read_behind(buf, held);
+    let n = read_behind(input, buf, held);
     let end = held + n;
     if n == 0 {
-        answer_end(&buf[..held]);
+        answer_end(rt, &buf[..held]);
         return Chunk {
             held: 0,
             charges,
             goes_on: false,
         };
     }
-    let done = answer_lines(&buf[..end], charges);
+    let done = answer_lines(rt, &buf[..end], charges);
     let c = done.charges;
     Chunk {
         held: lines::carry_over(buf, done.at, end),
@@ -288,23 +295,26 @@ fn answer_chunk(buf: &mut [u8], held: usize, charges: Charges) -> Chunk
     }
 }
 
-fn read_behind(buf: &mut [u8], held: usize) -> usize
+// One read. Where it fails there is no more to read.
+fn read_behind(input: &mut impl Read, buf: &mut [u8], held: usize) -> usize
     requires { held ≤ length buf.old }
     ensures { held + result ≤ length buf.old }
 {
-    let part = &mut buf[held..];
-    let got = libc::read(STDIN_FILENO, part);
-    io::count(got, part)
+    match input.read(&mut buf[held..]) {
+        Ok(got) => got,
+        Err(_) => 0,
+    }
 }
 
 // The loop counts its turns down from a number that no run uses up.
-fn main() {
-    let mut buf = io::large_buffer();
+fn main(rt: HostRuntime) {
+    let mut input = rt.stdin();
+    let mut buf = [0u8; 65536];
     let mut held = 0;
     let mut charges = Charges::fresh();
     let mut turns = u64::MAX;
     while turns > 0 {
-        let t = answer_chunk(&mut buf, held, charges);
+        let t = answer_chunk(&rt, &mut input, &mut buf, held, charges);
         if !t.goes_on {
             break;
         }

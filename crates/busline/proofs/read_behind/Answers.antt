@@ -5,4 +5,4 @@ use borrow.Author.Rules.{rules}
 use Rattle.busline.proofs.read_behind.Goals as goal
 
 pub returns : goal.returns
-returns c = (search rules, take_at (take c.args.held c.args.buf.now) _ c.args.held (length-take-le c.args.held c.args.buf.now c.requires))
+returns g c = (search rules, take_at (take c.args.held c.args.buf.now) _ c.args.held (length-take-le c.args.held c.args.buf.now c.requires))

@@ -1,11 +1,10 @@
 -- `wirecheck::answer_lines` meets its contract: each turn takes characters that are there, so that fewer are left. Assumes nothing.
 use Prim.Native.Nat.{◌-◌, ◌≤◌}
 use lib.ListN.{length}
-use borrow.Author.Rules.{rules}
 use Rattle.wirecheck.proofs.answer_lines.Given as goal
 
 abbrev pub invariant-loop-at : goal.invariant-loop-at
-invariant-loop-at l = l.at ≤ length l.s
+invariant-loop-at g l = l.at ≤ length l.s
 
 abbrev pub decreases-loop-at : goal.decreases-loop-at
-decreases-loop-at l = length l.s - l.at
+decreases-loop-at g l = length l.s - l.at

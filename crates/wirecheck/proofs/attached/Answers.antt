@@ -1,7 +1,5 @@
 -- `wirecheck::attached` meets its contract: the loop counts to 8, and the array keeps its 8 places. Assumes nothing.
-use Prim.Native.Nat.{◌-◌}
-use mathlib.Core.Path.{◌≡◌}
-use lib.ListN.{length, length-set}
+use lib.ListN.{length-set}
 use borrow.Author.Rules.{rules}
 use Rattle.wirecheck.proofs.attached.Goals as goal
 

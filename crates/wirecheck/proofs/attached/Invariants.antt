@@ -1,8 +1,7 @@
 -- `wirecheck::attached` meets its contract: the loop counts to 8, and the array keeps its 8 places. Assumes nothing.
 use Prim.Native.Nat.{◌-◌}
 use mathlib.Core.Path.{◌≡◌}
-use lib.ListN.{length, length-set}
-use borrow.Author.Rules.{rules}
+use lib.ListN.{length}
 use Rattle.wirecheck.proofs.attached.Given as goal
 
 abbrev pub invariant-loop-k : goal.invariant-loop-k

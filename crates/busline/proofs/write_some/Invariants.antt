@@ -1,9 +1,0 @@
--- `busline::write_some` meets its contract: a write takes no more than there is. Assumes nothing.
-use borrow.Author.Rules.{rules}
-use Rattle.busline.proofs.write_some.Given as goal
-
-abbrev pub invariant-loop-tries : goal.invariant-loop-tries
-invariant-loop-tries l = Unit {0}
-
-abbrev pub decreases-loop-tries : goal.decreases-loop-tries
-decreases-loop-tries l = l.tries
