@@ -1,5 +1,5 @@
-// The bus as a static library: its two functions under C names, each with the contract of the function that it calls, and the version by
-// which a header is compared with the archive.
+// What C calls of the bus, as a library, over which the theorems stand: its two functions under their C names, each with the contract of
+// the function that it calls, and the version by which a header is compared with the archive. `export_c` exports them.
 
 #![tactic(auto)]
 
@@ -18,16 +18,14 @@ pub struct BusOutcome {
 // Version 0.6.0: 10,000 times the first part, 100 times the second, and the third.
 const VERSION: u32 = 600;
 
-#[unsafe(no_mangle)]
-pub extern "C" fn eikelzwier_version() -> u32
+pub fn eikelzwier_version() -> u32
     ensures { result ≡ 600 }
 {
     VERSION
 }
 
 // A fresh bus, no peer opened. The number is 0, or 5 where a buffer lacks its length: then nothing is written.
-#[unsafe(no_mangle)]
-pub extern "C" fn eikelzwier_fresh(
+pub fn eikelzwier_fresh(
     peers: &mut [u64],
     nodes: &mut [u64],
     handles: &mut [u64],
@@ -51,8 +49,7 @@ pub extern "C" fn eikelzwier_fresh(
 }
 
 // One command. Its answer is written into the answer buffer.
-#[unsafe(no_mangle)]
-pub extern "C" fn eikelzwier_command(
+pub fn eikelzwier_command(
     peers: &mut [u64],
     nodes: &mut [u64],
     handles: &mut [u64],

@@ -1,5 +1,5 @@
-// A command with a journal under its C name, with the contract of the function that it calls. It is a library of its own, so that
-// each of the exported functions has the core compiled into it.
+// A command with a journal under its C name, as a library, over which the theorems stand: with the contract of the function that it
+// calls. `export_journal_c` exports it.
 
 #![tactic(auto)]
 
@@ -17,8 +17,7 @@ pub struct BusReport {
 }
 
 // One command with a journal, of which `used` bytes are used.
-#[unsafe(no_mangle)]
-pub extern "C" fn eikelzwier_command_with_journal(
+pub fn eikelzwier_command_with_journal(
     peers: &mut [u64],
     nodes: &mut [u64],
     handles: &mut [u64],

@@ -1,5 +1,5 @@
-// Recovery under its C name, with the contract of the function that it calls. It is a library of its own, so that each of the
-// exported functions has the core compiled into it.
+// Recovery under its C name, as a library, over which the theorems stand: with the contract of the function that it calls.
+// `export_recovery_c` exports it.
 
 #![tactic(auto)]
 
@@ -55,8 +55,7 @@ fn told(r: Recovered) -> BusRecovery
 }
 
 // The bus after the whole lines of the bytes kept of a journal, or a fresh one where a line stopped it.
-#[unsafe(no_mangle)]
-pub extern "C" fn eikelzwier_recover(
+pub fn eikelzwier_recover(
     peers: &mut [u64],
     nodes: &mut [u64],
     handles: &mut [u64],
