@@ -1,8 +1,8 @@
--- Runs of calls of the two exported functions, `eikelzwier_fresh` and `eikelzwier_command`, which C and Rust link: of each call nothing is known but what the exported function's own contract
+-- Runs of calls of the two functions, `eikelzwier_fresh` and `eikelzwier_command`, that `export_c` exports for C and Rust to link: of each call nothing is known but what the function's own contract
 -- ensures. Such a run is a run of calls of the core's two functions, and the other way round, so every theorem over those (crates/bus/proofs/Whole.antt) holds of it; the third
 -- demand and the number 5 are written out.
 -- Assumes nothing.
-use Prim.Native.Nat.{ℕ, ◌≤◌}
+use Prim.Native.Nat.{◌≤◌}
 use mathlib.Core.Path.{◌≡◌}
 use mathlib.Core.Bool.{true}
 use mathlib.Core.List.{List, [], ◌∷◌, ◌++◌, map}

@@ -1,5 +1,5 @@
--- Runs of calls of the exported functions with a journal, `eikelzwier_fresh`, `eikelzwier_command_with_journal` and `eikelzwier_recover`, which C and Rust link: of each call nothing is known but what the
--- exported function's own contract ensures. Such a run is a run of calls of the journal's functions, so every theorem over those (crates/recovery/proofs/Calls.antt) holds of it.
+-- Runs of calls of the functions with a journal, `eikelzwier_fresh`, `eikelzwier_command_with_journal` and `eikelzwier_recover`, that `export_c`, `export_journal_c` and `export_recovery_c` export for C and
+-- Rust to link: of each call nothing is known but what the function's own contract ensures. Such a run is a run of calls of the journal's functions, so every theorem over those (crates/recovery/proofs/Calls.antt) holds of it.
 -- Assumes nothing.
 use Prim.Native.Nat.{ℕ, ◌≤◌}
 use mathlib.Core.Path.{◌≡◌, refl, sym, ap, ◌∙◌}

@@ -1,6 +1,5 @@
 -- `export_recovery::eikelzwier_recover` meets its contract: what `recover` comes to, told in numbers. Assumes nothing.
 use Rattle.journal_model.specs.Stops.{told-as}
-use borrow.Author.Rules.{rules}
 use Rattle.export_recovery.proofs.eikelzwier_recover.Goals as goal
 
 pub returns : goal.returns
