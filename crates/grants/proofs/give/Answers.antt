@@ -26,6 +26,6 @@ shape_of-numbers c = elim c.if-total-eq1.branch [ then-total-eq1 w ↦ omega (ar
 
 pub returns : goal.returns
 returns c = let a = c.args in elim c.if-total-eq1.branch [
-      then-total-eq1 w ↦ give-one a.nodes.now a.peers.now a.handles.now (rings_of a.ends.now a.entries.now a.carried.now a.numbers.now) a.p.0 a.n a.s c.valid.ensures c.if-not-valid.false c.total.ensures c.add_reference.ensures w.if-total-eq1.true w.one_slot.ensures (rings-same w.ends-is w.entries-is w.carried-is w.numbers-is ∙ w.withdraw.ensures)
-      | else-total-eq1 w ↦ give-more a.nodes.now a.peers.now a.handles.now (rings_of a.ends.now a.entries.now a.carried.now a.numbers.now) a.p.0 a.n a.s c.valid.ensures c.if-not-valid.false c.total.ensures c.add_reference.ensures w.if-total-eq1.false (rings-same w.ends-is w.entries-is w.carried-is w.numbers-is)
-    ]
+  | then-total-eq1 w ↦ give-one a.nodes.now a.peers.now a.handles.now (rings_of a.ends.now a.entries.now a.carried.now a.numbers.now) a.p.0 a.n a.s c.valid.ensures c.if-not-valid.false c.total.ensures c.add_reference.ensures w.if-total-eq1.true w.one_slot.ensures (rings-same w.ends-is w.entries-is w.carried-is w.numbers-is ∙ w.withdraw.ensures)
+  | else-total-eq1 w ↦ give-more a.nodes.now a.peers.now a.handles.now (rings_of a.ends.now a.entries.now a.carried.now a.numbers.now) a.p.0 a.n a.s c.valid.ensures c.if-not-valid.false c.total.ensures c.add_reference.ensures w.if-total-eq1.false (rings-same w.ends-is w.entries-is w.carried-is w.numbers-is)
+]

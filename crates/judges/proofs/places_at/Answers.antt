@@ -12,7 +12,7 @@ loop-k-init c = counted_start _ _ _
 pub loop-k-preserved : goal.loop-k-preserved
 loop-k-preserved c =
     elim c.if-to-k.branch [
-      then-to-k w ↦ counted-own _ _ _ _ _ c.loop-k.invariant c.loop-k-test.true (omega (arith, c.requires)) w.if-to-k.true w.m-is
+      | then-to-k w ↦ counted-own _ _ _ _ _ c.loop-k.invariant c.loop-k-test.true (omega (arith, c.requires)) w.if-to-k.true w.m-is
       | else-to-k w ↦ counted-other _ _ _ _ _ c.loop-k.invariant c.loop-k-test.true (omega (arith, c.requires)) w.if-to-k.false w.m-is
     ]
 

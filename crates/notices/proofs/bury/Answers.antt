@@ -18,12 +18,12 @@ loop-k-preserved c =
     let a = c.args in
     let v = c.loop-k.invariant.2 in
     elim c.if-bit.branch [
-      then-bit w ↦
-        let next = bury-in a.nodes.now a.p.0 a.set a.n c.loop-k.k v c.wide.ensures.0 c.bit.ensures w.if-bit.true w.set_dead.ensures w.nodes-is in
-        (omega arith, ap length next ∙ bury-length _ _ _ _ _, next)
+      | then-bit w ↦
+          let next = bury-in a.nodes.now a.p.0 a.set a.n c.loop-k.k v c.wide.ensures.0 c.bit.ensures w.if-bit.true w.set_dead.ensures w.nodes-is in
+          (omega arith, ap length next ∙ bury-length _ _ _ _ _, next)
       | else-bit w ↦
-        let next = bury-out a.nodes.now a.p.0 a.set a.n c.loop-k.k v c.wide.ensures.0 c.bit.ensures w.if-bit.false w.nodes-is in
-        (omega arith, ap length next ∙ bury-length _ _ _ _ _, next)
+          let next = bury-out a.nodes.now a.p.0 a.set a.n c.loop-k.k v c.wide.ensures.0 c.bit.ensures w.if-bit.false w.nodes-is in
+          (omega arith, ap length next ∙ bury-length _ _ _ _ _, next)
     ]
 
 pub returns : goal.returns

@@ -22,18 +22,18 @@ loop-k-preserved c =
     let v = c.loop-k.invariant in
     let l = c.loop-k-test.true in
     elim c.if-ids-k.branch [
-      then-ids-k+then-s-p w ↦
-        expiring-in a.nodes.now a.handles.now a.charges.now a.p.0 here slot_at before a.nh v l
-        (shown-own a.p.0 a.slots a.ids c.loop-k.k w.if-ids-k.true w.if-s-p.true)
-        (rings-same w.ends-is w.entries-is w.carried-is w.numbers-is ∙ w.expire.ensures)
+      | then-ids-k+then-s-p w ↦
+          expiring-in a.nodes.now a.handles.now a.charges.now a.p.0 here slot_at before a.nh v l
+          (shown-own a.p.0 a.slots a.ids c.loop-k.k w.if-ids-k.true w.if-s-p.true)
+          (rings-same w.ends-is w.entries-is w.carried-is w.numbers-is ∙ w.expire.ensures)
       | then-ids-k+else-s-p w ↦
-        expiring-out a.nodes.now a.handles.now a.charges.now a.p.0 here slot_at before a.nh v l
-        (shown-other a.p.0 a.slots a.ids c.loop-k.k w.if-ids-k.true w.if-s-p.false)
-        (rings-same w.ends-is w.entries-is w.carried-is w.numbers-is)
+          expiring-out a.nodes.now a.handles.now a.charges.now a.p.0 here slot_at before a.nh v l
+          (shown-other a.p.0 a.slots a.ids c.loop-k.k w.if-ids-k.true w.if-s-p.false)
+          (rings-same w.ends-is w.entries-is w.carried-is w.numbers-is)
       | else-ids-k w ↦
-        expiring-out a.nodes.now a.handles.now a.charges.now a.p.0 here slot_at before a.nh v l
-        (shown-valid a.p.0 a.slots a.ids c.loop-k.k w.if-ids-k.false)
-        (rings-same w.ends-is w.entries-is w.carried-is w.numbers-is)
+          expiring-out a.nodes.now a.handles.now a.charges.now a.p.0 here slot_at before a.nh v l
+          (shown-valid a.p.0 a.slots a.ids c.loop-k.k w.if-ids-k.false)
+          (rings-same w.ends-is w.entries-is w.carried-is w.numbers-is)
     ]
 
 pub returns : goal.returns

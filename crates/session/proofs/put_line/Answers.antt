@@ -15,6 +15,7 @@ use Rattle.session.proofs.put_line.Goals as goal
 abbrev Ends : ℕ → Written → Type 0
 Ends n (Next k) = k ≡ n
 Ends n Full = ⊥
+
 module _ (o a : List ℕ) (at : ℕ) (h : at + (2 * length a + 1) ≤ length o) where
   ends : Ends (at + (2 * length a + 1)) (line_written o at a)
   unfolding line_written
