@@ -11,7 +11,8 @@ use Rattle.view.specs.View.{Bus}
 use Rattle.bus_model.specs.Command.{Done, command_of}
 use Rattle.bus_model.specs.Ran.{Exchange, answer_in, exchange_of}
 use Rattle.bus_model.specs.Apart.{any-buffer}
-use Rattle.bus_model.specs.Ranges.{Lengths, InRange, FiveUnless, code-five, fresh-five}
+use Rattle.bus_model.specs.Ranges.{Lengths, InRange, FiveUnless, fresh-five}
+use Rattle.bus_model.proofs.Ranges.{code-five}
 use Rattle.bus.proofs.Calls.{Arguments, Returned, Left, bus_in, bus_out, call_in, exchanged, FreshArguments, FreshReturned, FreshLeft, old_in, made-said, left_is}
 use Rattle.bus.proofs.command.Reads as command-reads
 use Rattle.bus.proofs.fresh.Reads as fresh-reads

@@ -30,28 +30,34 @@ use Rattle.model.specs.Rows.{book_of, ledger_of, stands_in}
 use Rattle.model.specs.Tally.{tally}
 use Rattle.model.specs.Happened.{Happened, happened-front}
 use Rattle.model.specs.Delivered.{Delivered}
-use Rattle.model.specs.DeliveredProof.{delivers}
-use Rattle.model.specs.Noticed.{Tells, notices-tell}
+use Rattle.model.proofs.DeliveredProof.{delivers}
+use Rattle.model.specs.Noticed.{Tells}
+use Rattle.model.proofs.Noticed.{notices-tell}
 use Rattle.model.specs.Shows.{Shows, Takes, ShownAsHeld, CreatedAnew}
-use Rattle.model.specs.ShowsOnce.{given-for-one}
-use Rattle.model.specs.ShowsAnew.{chosen-for-another}
-use Rattle.model.specs.ShowsHeld.{messages-as-held}
+use Rattle.model.proofs.ShowsOnce.{given-for-one}
+use Rattle.model.proofs.ShowsAnew.{chosen-for-another}
+use Rattle.model.proofs.ShowsHeld.{messages-as-held}
 use Rattle.model.specs.Seeds.{LastSeed, SeedShown}
-use Rattle.model.specs.SeedsLast.{none-gives-eleven}
-use Rattle.model.specs.SeedsProof.{shows-last-seed}
+use Rattle.model.proofs.SeedsLast.{none-gives-eleven}
+use Rattle.model.proofs.SeedsProof.{shows-last-seed}
 use Rattle.model.specs.Given.{GivenOnce}
-use Rattle.model.specs.GivenIn.{given_in, given-in}
-use Rattle.model.specs.HandlesIn.{HandlesOf, OrderedIn, handles-in, order-in}
-use Rattle.model.specs.OneOrderIn.{Took, took-one-order}
+use Rattle.model.specs.GivenIn.{given_in}
+use Rattle.model.proofs.GivenIn.{given-in}
+use Rattle.model.specs.HandlesIn.{HandlesOf, OrderedIn}
+use Rattle.model.proofs.HandlesIn.{handles-in, order-in}
+use Rattle.model.specs.OneOrderIn.{Took}
+use Rattle.model.proofs.OneOrderIn.{took-one-order}
 use Rattle.model.specs.InPlace.{CameOut}
 use Rattle.model.specs.Waits.{receives_in, taken_in, LapsedIn, LostIn}
-use Rattle.model.specs.WaitsPlace.{LostAt, Fate, fate-in, in-time-at}
-use Rattle.model.specs.Waiting.{notices_of, WaitingAt, waiting-in, lapsed-leaves}
+use Rattle.model.specs.WaitsPlace.{LostAt, Fate}
+use Rattle.model.proofs.WaitsPlace.{fate-in, in-time-at}
+use Rattle.model.specs.Waiting.{notices_of, WaitingAt}
+use Rattle.model.proofs.Waiting.{waiting-in, lapsed-leaves}
 use Rattle.model.specs.ByOrder.{Destruction, ShownByOrder, Told, Got, BeenTold}
-use Rattle.model.specs.ByOrderTold.{nobody-untold, died-by, told-of-it}
-use Rattle.model.specs.ByOrderProof.{shows-by-order, notice-follows, told-once}
+use Rattle.model.proofs.ByOrderTold.{nobody-untold, died-by, told-of-it}
+use Rattle.model.proofs.ByOrderProof.{shows-by-order, notice-follows, told-once}
 use Rattle.model.specs.LedgerLaws.{Does, id_in, DestroyDoes, ReleaseDoes, SendDoes, DisconnectDoes}
-use Rattle.model.specs.LedgerLawsProof.{destroy-in, release-in, send-in, disconnect-in}
+use Rattle.model.proofs.LedgerLawsProof.{destroy-in, release-in, send-in, disconnect-in}
 use Rattle.model.specs.Scripts.{Row, Row.played, Row.ruled, last_of}
 use Rattle.model.specs.Table.{table}
 use Rattle.model.specs.Examples.{examples}
@@ -62,12 +68,17 @@ use Rattle.tables.proofs.seek.Reads as seek-reads
 use Rattle.view.specs.View.{Bus, state_of}
 use Rattle.bus_model.specs.Command.{command_of, fresh_of}
 use Rattle.bus_model.specs.Ran.{Exchange, answer_in, exchange_of, state_after}
-use Rattle.bus_model.specs.Demands.{never-five, code-refusals}
-use Rattle.bus_model.specs.Searched.{Search, every-search}
-use Rattle.bus_model.specs.Marked.{Large, Holds, code-marks, code-examples, Made, fresh-made-as}
+use Rattle.bus_model.specs.Demands.{code-refusals}
+use Rattle.bus_model.proofs.Demands.{never-five}
+use Rattle.bus_model.specs.Searched.{Search}
+use Rattle.bus_model.proofs.Searched.{every-search}
+use Rattle.bus_model.specs.Marked.{Large, Holds, Made, fresh-made-as}
+use Rattle.bus_model.proofs.Marked.{code-marks, code-examples}
 use Rattle.bus_model.specs.Untouched.{Written, code-tail, code-questions}
-use Rattle.bus_model.specs.Histories.{history_of, ran-happened, code-slot-stays}
-use Rattle.bus_model.specs.Third.{Next, Demanded, code-demanded, code-next}
+use Rattle.bus_model.specs.Histories.{history_of}
+use Rattle.bus_model.proofs.Histories.{ran-happened, code-slot-stays}
+use Rattle.bus_model.specs.Third.{Next, Demanded}
+use Rattle.bus_model.proofs.Third.{code-demanded, code-next}
 use Rattle.bus.proofs.Calls.{Arguments, Returned, Left, bus_in, bus_out, call_in, exchanged, FreshArguments, FreshReturned, FreshLeft, old_in, made_out, made-said, Calls, left_is, calls-ran}
 use Rattle.bus.proofs.command.Reads as command-reads
 use Rattle.bus.proofs.fresh.Reads as fresh-reads

@@ -1,18 +1,16 @@
 -- An order carried out, seen: the state is the model's effect, and what is answered is the model's reply. For every bus that stands for a state of a run.
 -- Assumes nothing.
-use Rattle.std.specs.Prelude.{ℕ, ◌+◌, ◌*◌, ◌≤◌, ◌<◌, ◌≡◌, Bool, true, false, length, eqb, ltb}
+use Rattle.std.specs.Prelude.{ℕ, ◌+◌, ◌*◌, ◌<◌, ◌≡◌, true, length}
 use Rattle.std.proofs.Math.Path.{refl, ap}
-use Rattle.std.proofs.Common.{sym, ◌∙◌, lt-ltb}
+use Rattle.std.proofs.Common.{sym, ◌∙◌}
 use mathlib.Core.List.{List, [], ◌∷◌}
 use native.Mathlib.Omega.{arith}
 use Rattle.laws.specs.Tests.{clash}
 use Rattle.laws.specs.Search.{first_found}
 use Rattle.ids.specs.declared.Peer.{Peer}
-use Rattle.ids.specs.declared.User.{User}
 use Rattle.ids.specs.declared.HandleId.{HandleId}
 use Rattle.frames.specs.declared.Command.{Command}
 use Rattle.frames.specs.declared.Command.TheVariants.{Open, Disconnect, Create, Destroy, Release, Transfer, Send, Receive, Quota, Holders, ShowSeed}
-use Rattle.frames.specs.declared.Sizes.{Sizes}
 use Rattle.frames.specs.Frame.{payload_of}
 use Rattle.frames.specs.Legal.{Legal}
 use Rattle.quota.specs.declared.Charges.{Charges}
@@ -21,7 +19,7 @@ use Rattle.answers.specs.declared.Answer.{Answer}
 use Rattle.answers.specs.declared.Answer.TheVariants.{Transferred as is_transferred, Quota as is_quota, Holders as is_holders}
 use Rattle.answers.specs.Answer.{answer_after, outcome_of}
 use Rattle.rings.specs.Rings.{length_of}
-use Rattle.tables.specs.HandlesView.{handle_v, holders-is}
+use Rattle.tables.specs.HandlesView.{holders-is}
 use Rattle.tables.specs.ChargesView.{charges-is}
 use Rattle.tables.specs.Listed.{AllListed}
 use Rattle.model.specs.Numbers.{slots, nodes}
@@ -30,12 +28,11 @@ use Rattle.model.specs.Refusals.{takeable, refusal}
 use Rattle.model.specs.Effects.{effect, releases_handle}
 use Rattle.model.specs.Replies.{Reply, reply}
 use Rattle.model.specs.Tables.{accept}
-use Rattle.model.specs.Tested.{Tested, tested}
+use Rattle.model.proofs.Tested.{tested}
 use Rattle.view.specs.View.{Bus, Shape, state_of}
 use Rattle.view.specs.Rows.{queue-count}
-use Rattle.judges.specs.declared.Order.{Order}
 use Rattle.judges.specs.Orders.{plain_sight, resolved, places_in}
-use Rattle.effects.specs.After.{after_open, after_create, after_destroy, after_release, after_transfer, after_send, after_receive, after_disconnect}
+use Rattle.effects.specs.After.{after_open, after_release, after_disconnect}
 use Rattle.effects.specs.Good.{Good}
 use Rattle.effects.specs.Ranges.{Raw, raw-open, raw-create, raw-destroy, raw-release, raw-transfer, raw-send, raw-receive, raw-show, raw-disconnect}
 use Rattle.effects.specs.Opening.{open-view, shape-open, create-view, shape-create}

@@ -1,6 +1,6 @@
 -- What a command does to the lent buffers, for any contents: the number, the bus and the answer buffer afterwards. And what a fresh bus is.
 -- Assumes nothing.
-use Rattle.std.specs.Prelude.{ℕ, zero, suc, ◌+◌, ◌*◌, ◌<◌, ◌≤◌, ◌≡◌, Bool, true, List, [], length, get_or, replicate, eqb, ltb, leb}
+use Rattle.std.specs.Prelude.{ℕ, zero, suc, ◌+◌, ◌<◌, ◌≤◌, Bool, true, List, [], length, get_or, replicate, eqb, ltb, leb}
 use Rattle.laws.specs.Tests.{pick}
 use Rattle.ids.specs.Refusals.{EINVAL, EIO}
 use Rattle.ids.specs.Sizes.{peers, most_ids, accepted_end, given_end, peers_size, nodes_size, seeds_size}
@@ -19,7 +19,7 @@ use Rattle.tables.specs.Peers.{state_at, user_at, peer_row}
 use Rattle.tables.specs.Handles.{handles_size, holders_at}
 use Rattle.tables.specs.Charges.{charges_size, charges_at}
 use Rattle.model.specs.Lists.{both}
-use Rattle.view.specs.View.{Bus, bus_of, state_of}
+use Rattle.view.specs.View.{Bus, bus_of}
 use Rattle.judges.specs.declared.Order.{Order}
 use Rattle.judges.specs.declared.Order.TheVariants as order
 use Rattle.judges.specs.declared.Places.{Places}

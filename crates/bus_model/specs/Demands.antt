@@ -6,28 +6,27 @@ use Rattle.std.proofs.Common.{sym, ap, ap₂, ◌∙◌, arith, ltb-true, ltb-fa
 use Rattle.std.proofs.Math.Logic.◌⊎◌.{inl, inr}
 use Rattle.ids.specs.Refusals.{EINVAL, EIO, EOVERFLOW, EEXIST, ENXIO, EPERM, EHOSTUNREACH, ENOSPC, EDQUOT, ERANGE}
 use Rattle.laws.specs.Tests.{pick_all, Seen, Seen.is_true, Seen.is_false, look}
-use Rattle.laws.specs.Weights.{All, all_append}
+use Rattle.laws.specs.Weights.{All}
 use Rattle.frames.specs.declared.Command.{Command}
 use Rattle.frames.specs.declared.Command.TheVariants.{Open, Disconnect, Create, Destroy, Release, Transfer, Send, Receive, Quota, Holders, ShowSeed}
 use Rattle.frames.specs.declared.Parsed.{Parsed}
 use Rattle.frames.specs.declared.Parsed.TheVariants.{Read, Refused}
 use Rattle.frames.specs.Frame.{parse, payload_of}
-use Rattle.frames.specs.Legal.{Outcome as Read-as, legal}
+use Rattle.frames.specs.Legal.{Outcome as Read-as}
+use Rattle.frames.proofs.Legal.{legal}
 use Rattle.answers.specs.declared.Answer.{Answer}
 use Rattle.answers.specs.Answer.{answer_size, number_of, contents_of, answer_bytes, answer_after, outcome_of}
 use Rattle.rings.specs.Rings.{Rings, first_of}
 use Rattle.model.specs.Numbers.{slots, nodes, owner, most_commands}
 use Rattle.model.specs.Lists.{every}
-use Rattle.model.specs.State.{Seed, Seed.unset, Seed.kept, State, Status, Status.unopened, Status.opened, Status.disconnected, is_live, Entry, Entry.message, Entry.destroyed, Entry.released, start, slot, free_place}
+use Rattle.model.specs.State.{Seed, Seed.unset, Seed.kept, State, Status, Status.unopened, Status.opened, Status.disconnected, is_live, Entry, Entry.message, Entry.destroyed, Entry.released, slot, free_place}
 use Rattle.model.specs.Refusals.{countable, present, openable, holding, owning, pinned, living, fits, affordable, takeable, showable, refuses_seed, refuses_open, refuses_disconnect, refuses_create, refuses_destroy, refuses_release, refuses_transfer, refuses_send, refuses_receive, refuses_quota, refuses_holders, refusal, refusal_by}
 use Rattle.model.specs.Requests.{destinations, attached}
 use Rattle.model.specs.Step.{Call, carry_out, finish, step}
 use Rattle.model.specs.StepLaws.{reply-number}
 use Rattle.model.specs.Book.{empty, feed_all}
 use Rattle.model.specs.Claim.{Claim, fed, history_from}
-use Rattle.model.specs.Demand.{third-demand}
-use Rattle.model.specs.GivenProof.{given}
-use Rattle.view.specs.View.{Bus, state_of}
+use Rattle.view.specs.View.{Bus}
 use Rattle.queues.specs.Queues.{Queues, is_message}
 use Rattle.judges.specs.declared.Order.{Order}
 use Rattle.judges.specs.declared.Order.TheVariants as order
@@ -35,10 +34,8 @@ use Rattle.judges.specs.declared.Places.{Places}
 use Rattle.judges.specs.Orders.{sight, ruling_of}
 use Rattle.effects.specs.Effects.{message_answer, received_message, notice_answer, notice_taken, received, seed_answer, shows}
 use Rattle.effects.specs.After.{queues_in}
-use Rattle.effects.specs.Good.{Good, good}
 use Rattle.bus_model.specs.Command.{sound_ok, Done, refused_by, carried, carried_out, obeyed, command_of}
-use Rattle.bus_model.specs.Tie.{SameAs, step_same}
-use Rattle.bus_model.specs.Ran.{Exchange, fed_of, calls_of, exchange_of, Ran, Ran.begins, Ran.goes, As-model, AsModel, state_after, ran-modelled}
+use Rattle.bus_model.specs.Ran.{Exchange, fed_of, calls_of, exchange_of, Ran, As-model, AsModel}
 
 -- In a run no command is answered 5.
 abbrev pub NeverFive : Type 0
@@ -57,15 +54,6 @@ pub record Leaves (b : Bus) (c : Call) : Type 0 where
 -- Of a run or of any other contents.
 abbrev pub CodeRefusals : Type 0
 CodeRefusals = (b : Bus) (c : Call) → ((exchange_of b c).outcome.number ≡ 0 → ⊥) → Leaves b c
-
--- The exchange after a run is the model's.
-pub exchange-as : {xs : List Exchange} {b : Bus} → Ran xs b → (c : Call) → As-model (state_after xs) (exchange_of b c)
-exchange-as {xs = xs} {b = b} r c =
-    let m = ran-modelled r in
-    let e : state_of b ≡ state_after xs = m.tied.view in
-    let g : Good (state_of b) = rw e (good (calls_of xs)) in
-    let s : SameAs (command_of b c.frame c.buffer) (step (state_after xs) c) = rw e at (step_same b m.tied.shape m.tied.raw g m.tied.listed c) in
-    record { tied = m.tied; outcome = s.outcome; buffer = s.buffer }
 
 -- Never 5: each row of the table, each cascade, each frame.
 abbrev pub NotFive : ℕ → Type 0
@@ -151,7 +139,7 @@ refusal-by b f (ShowSeed p room) = refl
 refusal-by b f (Quota p u) = refl
 refusal-by b f (Holders p i) = refl
 
-step-not-five : (b : State) (c : Call) → NotFive (step b c).outcome.number
+pub step-not-five : (b : State) (c : Call) → NotFive (step b c).outcome.number
 unfolding step finish outcome_of carry_out
 step-not-five b c e = go (look (ltb (length c.buffer) answer_size)) (parse c.frame) refl (legal c.frame)
   where
@@ -166,27 +154,14 @@ step-not-five b c e = go (look (ltb (length c.buffer) answer_size)) (parse c.fra
     go (is_false s) (Refused n) p (inr (inr h)) = omega (arith, rw (s, p) at e)
     go (is_false s) (Read k) p l = on k (rw (s, p) at e) (look (eqb (refusal b c.frame k) 0))
 
-ran-not-five : {xs : List Exchange} {b : Bus} → Ran xs b → All (λ x. x.outcome.number ≡ EIO → ⊥) xs
-ran-not-five begins = tt
-ran-not-five (goes {xs = xs} {b = b} c r) =
-    all_append (λ x. x.outcome.number ≡ EIO → ⊥) xs (exchange_of b c ∷ []) (ran-not-five r)
-    (rw (exchange-as r c).outcome (step-not-five (state_after xs) c), tt)
-
-pub never-five : NeverFive
-never-five xs b r = ran-not-five r
-
 -- The exchanges of a run feed the book what the model's calls feed it.
-fed-as : (st : State) (x : Exchange) → As-model st x → fed_of x ≡ fed x.call (step st x.call)
+pub fed-as : (st : State) (x : Exchange) → As-model st x → fed_of x ≡ fed x.call (step st x.call)
 fed-as st x h = λ i. record { frame = x.call.frame; number = (h.outcome i).number; answer = take (h.outcome i).len (h.buffer i) }
 
 pub fed-all : (st : State) (xs : List Exchange) → AsModel st xs → map fed_of xs ≡ history_from st (calls_of xs)
 unfolding history_from
 fed-all st [] h = refl
 fed-all st (x ∷ xs) h = ap₂ ◌∷◌ (fed-as st x h.0) (fed-all (step st x.call).state xs h.1)
-
-pub code-third-demand : CodeThirdDemand
-code-third-demand xs b r c =
-    rw (fed-all start xs (ran-modelled r).each, fed-as (state_after xs) (exchange_of b c) (exchange-as r c)) (third-demand (calls_of xs) c)
 
 -- An order that is carried out is answered 0. So where the number is another, only a refusal was written: what that leaves, with a long answer buffer.
 record Left (b : Bus) (out : List ℕ) (d : Done) : Type 0 where

@@ -1,7 +1,7 @@
 -- The numbers of an order that was judged are in their bounds, whatever the judgement went by.
 -- Assumes nothing.
-use Rattle.std.specs.Prelude.{ℕ, ◌+◌, ◌*◌, ◌<◌, ◌≤◌, ◌≡◌, refl, Bool, true, false, List, [], ◌∷◌, eqb, ltb}
-use Rattle.std.proofs.Common.{sym, ap, ◌∙◌, eqb-true, ltb-true}
+use Rattle.std.specs.Prelude.{ℕ, ◌<◌, ◌≡◌, List, eqb, ltb}
+use Rattle.std.proofs.Common.{eqb-true, ltb-true}
 use native.Mathlib.Omega.{arith}
 use Rattle.laws.specs.Tests.{pick, pick-then, pick-else, Seen, Seen.is_true, Seen.is_false, look}
 use Rattle.ids.specs.Refusals.{EEXIST, ENOSPC}
@@ -10,8 +10,8 @@ use Rattle.frames.specs.declared.Command.TheVariants.{Open, Disconnect, Create, 
 use Rattle.frames.specs.Legal.{Legal}
 use Rattle.model.specs.Numbers.{slots, nodes}
 use Rattle.model.specs.Refusals.{refusal_by}
-use Rattle.model.specs.Tested.{acting-in, present-in, held_in}
-use Rattle.judges.specs.declared.Order.TheVariants as order
+use Rattle.model.specs.Tested.{present-in, held_in}
+use Rattle.model.proofs.Tested.{acting-in}
 use Rattle.judges.specs.Orders.{Sight, resolved, places_in, unless_at, ruling_of}
 use Rattle.bus_model.specs.Command.{Fair}
 

@@ -1,37 +1,34 @@
 -- The table of document 01, M1 to M10 and S, and the table of examples, of the commands over the lent buffers: every run from a fresh bus with a row's frames, each with any
 -- answer buffer of 591 bytes or more, ends with the row's answers.
 -- Assumes nothing.
-use Rattle.std.specs.Prelude.{ℕ, ◌≤◌, ◌≡◌, refl, true, List, [], ◌∷◌, map, length, get_or, drop, replicate}
+use Rattle.std.specs.Prelude.{ℕ, ◌≤◌, ◌≡◌, refl, true, List, [], ◌∷◌, map, length, drop, replicate}
 use Rattle.std.proofs.Common.{sym, ap, ap₂, ◌∙◌, arith, le-ltb, eq-eqb}
 use Rattle.std.proofs.lemmas.List.{length-replicate}
 use Rattle.std.proofs.Math.Seq.{take-append_seam}
 use Rattle.laws.specs.Tests.{Seen, Seen.is_true, Seen.is_false, look, clash}
-use Rattle.laws.specs.Weights.{All, all-imp}
+use Rattle.laws.specs.Weights.{All}
 use Rattle.ids.specs.Refusals.{EIO}
 use Rattle.quota.specs.Rule.{left}
 use Rattle.frames.specs.Frame.{parse}
 use Rattle.answers.specs.Answer.{answer_size, answer_after, outcome_of}
-use Rattle.model.specs.State.{State, start}
+use Rattle.model.specs.State.{State}
 use Rattle.model.specs.Step.{Verdict, judge, Call, finish, step, answer_of, answers_from}
 use Rattle.model.specs.Shown.{bytes_of}
-use Rattle.model.specs.Scripts.{Row, Row.played, Row.ruled, calls, last_of, computed, expected}
-use Rattle.model.specs.Table.{table, marks}
-use Rattle.model.specs.Examples.{examples, shown-by-examples}
+use Rattle.model.specs.Scripts.{Row, Row.played, Row.ruled, calls, last_of}
+use Rattle.model.specs.Table.{table}
+use Rattle.model.specs.Examples.{examples}
 use Rattle.view.specs.View.{Bus, Shape}
 use Rattle.bus_model.specs.Command.{sized_ok, fresh_bus, fresh_of, fresh_number}
 use Rattle.bus_model.specs.Sound.{all-but-seeds, sized-shape}
-use Rattle.bus_model.specs.Ran.{Exchange, answer_in, calls_of, Ran, AsModel, ran-modelled}
+use Rattle.bus_model.specs.Ran.{Exchange, answer_in, calls_of, Ran, AsModel}
 use Rattle.ids.specs.Sizes.{seeds_size}
 
 -- The answers of a run are the model's.
-as-answers : (st : State) (xs : List Exchange) → AsModel st xs → map answer_in xs ≡ answers_from st (calls_of xs)
+pub as-answers : (st : State) (xs : List Exchange) → AsModel st xs → map answer_in xs ≡ answers_from st (calls_of xs)
 unfolding answers_from
 as-answers st [] a = refl
 as-answers st (x ∷ xs) a =
     ap₂ (λ (y : List ℕ) (ys : List (List ℕ)). y ∷ ys) (rw (a.0.outcome, a.0.buffer) refl) (as-answers (step st x.call).state xs a.1)
-
-pub ran-answers : {xs : List Exchange} {b : Bus} → Ran xs b → map answer_in xs ≡ answers_from start (calls_of xs)
-ran-answers {xs = xs} r = as-answers start xs (ran-modelled r).each
 
 -- An answer buffer that is long enough.
 abbrev pub Large : Call → Type 0
@@ -44,7 +41,7 @@ finish-large b out v h =
     let e = le-ltb (length out) answer_size h in
     (rw e (take-append_seam (bytes_of v.reply) (drop (length (bytes_of v.reply)) out)), rw e)
 
-abbrev frames_of : List Call → List (List ℕ)
+abbrev pub frames_of : List Call → List (List ℕ)
 frames_of cs = map (λ c. c.frame) cs
 
 zeros-large : (f : List ℕ) → Large (record { frame = f; buffer = replicate answer_size 0 })
@@ -58,7 +55,7 @@ step-large b c h d k e =
     let y = finish-large b d.buffer v k in
     rw e (x.0 ∙ sym y.0, x.1 ∙ sym y.1)
 
-answers-large : (cs : List Call) (b : State) → All Large cs → answers_from b cs ≡ answers_from b (calls (frames_of cs))
+pub answers-large : (cs : List Call) (b : State) → All Large cs → answers_from b cs ≡ answers_from b (calls (frames_of cs))
 unfolding answers_from
 answers-large [] b a = refl
 answers-large (c ∷ cs) b a =
@@ -71,45 +68,21 @@ Holds (played fs rs) =
     (xs : List Exchange) (b : Bus) → Ran xs b → map (λ x. x.call.frame) xs ≡ fs → All (λ x. Large x.call) xs → last_of (length rs) (map answer_in xs) ≡ rs
 Holds (ruled limit others own rest) = left limit others own ≡ rest
 
-frames-of : (xs : List Exchange) → frames_of (calls_of xs) ≡ map (λ x. x.call.frame) xs
+pub frames-of : (xs : List Exchange) → frames_of (calls_of xs) ≡ map (λ x. x.call.frame) xs
 frames-of [] = refl
 frames-of (x ∷ xs) = ap (◌∷◌ x.call.frame) (frames-of xs)
 
-large-calls : (xs : List Exchange) → All (λ x. Large x.call) xs → All Large (calls_of xs)
+pub large-calls : (xs : List Exchange) → All (λ x. Large x.call) xs → All Large (calls_of xs)
 large-calls [] a = tt
 large-calls (x ∷ xs) a = (a.0, large-calls xs a.1)
-
--- The answers of a run, from its frames alone.
-frame-answers : (xs : List Exchange) (b : Bus) → Ran xs b → All (λ x. Large x.call) xs → map answer_in xs ≡ answers_from start (calls (map (λ x. x.call.frame) xs))
-frame-answers xs b r a =
-    ran-answers r ∙ answers-large (calls_of xs) start (large-calls xs a) ∙ ap (λ (l : List (List ℕ)). answers_from start (calls l)) (frames-of xs)
-
-played-holds : (fs rs : List (List ℕ)) → computed (played fs rs) ≡ rs → Holds (played fs rs)
-played-holds fs rs h xs b r e a =
-    let z : map answer_in xs ≡ answers_from start (calls fs) = frame-answers xs b r a ∙ ap (λ (l : List (List ℕ)). answers_from start (calls l)) e in
-    ap (last_of (length rs)) z ∙ h
-
-row-holds : (r : Row) → computed r ≡ expected r → Holds r
-row-holds (played fs rs) h = played-holds fs rs h
-row-holds (ruled limit others own rest) h = ap (λ (l : List (List ℕ)). get_or (get_or l 0 []) 0 0) h
-
--- What rows compute to in the model, they say of the commands.
-pub rows-hold : (rows : List Row) → All (λ r. computed r ≡ expected r) rows → All Holds rows
-rows-hold rows a = all-imp (λ r. computed r ≡ expected r) Holds row-holds rows a
 
 -- The table: "M1 .. M10", and S, "in and out whole".
 abbrev pub CodeMarks : Type 0
 CodeMarks = All Holds table
 
-pub code-marks : CodeMarks
-code-marks = rows-hold table marks
-
 -- The examples.
 abbrev pub CodeExamples : Type 0
 CodeExamples = All Holds examples
-
-pub code-examples : CodeExamples
-code-examples = rows-hold examples shown-by-examples
 
 -- The same for the calls of the row as they stand in the table, each with an answer buffer of 591 zeros.
 calls-frames : (fs : List (List ℕ)) → frames_of (calls fs) ≡ fs
@@ -157,7 +130,3 @@ abbrev pub BytesSame : Type 0
 BytesSame =
     (xs ys : List Exchange) (b d : Bus) → Ran xs b → Ran ys d → map (λ x. x.call.frame) xs ≡ map (λ x. x.call.frame) ys →
     All (λ x. Large x.call) xs → All (λ x. Large x.call) ys → map answer_in xs ≡ map answer_in ys
-
-pub bytes_same : BytesSame
-bytes_same xs ys b d r s e h k =
-    frame-answers xs b r h ∙ ap (λ (l : List (List ℕ)). answers_from start (calls l)) e ∙ sym (frame-answers ys d s k)

@@ -2,22 +2,14 @@
 -- Assumes nothing.
 use Rattle.std.specs.Prelude.{◌≡◌, refl, List, [], ◌∷◌, ◌++◌}
 use Rattle.std.proofs.Common.{sym, ap, append_assoc, append-nil}
-use Rattle.model.specs.Step.{Call, step}
-use Rattle.view.specs.View.{Bus, state_of}
-use Rattle.effects.specs.Good.{good}
+use Rattle.model.specs.Step.{Call}
+use Rattle.view.specs.View.{Bus}
 use Rattle.bus_model.specs.Command.{command_of, fresh_bus}
-use Rattle.bus_model.specs.Tie.{SameAs, step_same}
-use Rattle.bus_model.specs.Ran.{Exchange, calls_of, exchange_of, Ran, Ran.begins, Ran.goes, ran-modelled}
+use Rattle.bus_model.specs.Ran.{Exchange, calls_of, exchange_of, Ran, Ran.begins, Ran.goes}
 
 -- The bus that a call leaves.
 abbrev pub bus_after : Bus → Call → Bus
 bus_after b c = (command_of b c.frame c.buffer).bus
-
--- On a bus of a run, a call does what the model's step does.
-pub ran-step : {xs : List Exchange} {b : Bus} → Ran xs b → (c : Call) → SameAs (command_of b c.frame c.buffer) (step (state_of b) c)
-ran-step {xs = xs} {b = b} r c =
-    let m = ran-modelled r in
-    step_same b m.tied.shape m.tied.raw (rw m.tied.view (good (calls_of xs))) m.tied.listed c
 
 -- More exchanges from a bus on, each on the bus that the one before left, and the bus that they leave.
 pub data GoesOn : Bus → List Exchange → Bus → Type 0 where

@@ -1,16 +1,15 @@
 -- A run of commands from a fresh bus, each with the buffers as the one before left them, and that it is the model's run.
 -- Assumes nothing.
 use Rattle.std.specs.Prelude.{ℕ, ◌≡◌, refl, List, [], ◌∷◌, ◌++◌, map, take}
-use Rattle.std.proofs.Common.{sym, ap, ap₂, ◌∙◌}
+use Rattle.std.proofs.Common.{ap}
 use Rattle.answers.specs.declared.Outcome.{Outcome}
 use Rattle.model.specs.State.{State, start}
-use Rattle.model.specs.Step.{Call, Result, step, run_from, run, results_from}
+use Rattle.model.specs.Step.{Call, step, run_from, run}
 use Rattle.model.specs.Accepted.{run-append}
 use Rattle.model.specs.Book.{Fed}
-use Rattle.view.specs.View.{Bus, state_of}
-use Rattle.effects.specs.Good.{Good, good}
-use Rattle.bus_model.specs.Command.{Done, command_of, fresh_bus}
-use Rattle.bus_model.specs.Tie.{Tied, SameAs, step_same, fresh-tied}
+use Rattle.view.specs.View.{Bus}
+use Rattle.bus_model.specs.Command.{command_of, fresh_bus}
+use Rattle.bus_model.specs.Tie.{Tied}
 
 -- One command of a run: the bus before it, the frame and the answer buffer that were lent, what came back, and the answer buffer afterwards.
 pub record Exchange : Type 0 where
@@ -55,7 +54,7 @@ pub calls-append : (xs ys : List Exchange) → calls_of (xs ++ ys) ≡ calls_of 
 calls-append [] ys = refl
 calls-append (x ∷ xs) ys = ap (◌∷◌ x.call) (calls-append xs ys)
 
-as-append : (st : State) (xs : List Exchange) (x : Exchange) → AsModel st xs → As-model (run_from st (calls_of xs)) x → AsModel st (xs ++ (x ∷ []))
+pub as-append : (st : State) (xs : List Exchange) (x : Exchange) → AsModel st xs → As-model (run_from st (calls_of xs)) x → AsModel st (xs ++ (x ∷ []))
 unfolding run_from
 as-append st [] x a h = (h, tt)
 as-append st (y ∷ xs) x a h = (a.0, as-append (step st y.call).state xs x a.1 h)
@@ -68,19 +67,6 @@ pub record Modelled (xs : List Exchange) (b : Bus) : Type 0 where
   pub tied : Tied b (state_after xs)
   pub each : AsModel start xs
 
-run-snoc : (cs : List Call) (c : Call) → run (cs ++ (c ∷ [])) ≡ (step (run cs) c).state
+pub run-snoc : (cs : List Call) (c : Call) → run (cs ++ (c ∷ [])) ≡ (step (run cs) c).state
 unfolding run_from
 run-snoc cs c = run-append cs (c ∷ []) start
-
-pub ran-modelled : {xs : List Exchange} {b : Bus} → Ran xs b → Modelled xs b
-unfolding run_from
-ran-modelled begins = record { tied = fresh-tied; each = tt }
-ran-modelled (goes {xs = xs} {b = b} c r) = go (ran-modelled r)
-  where
-    go : Modelled xs b → Modelled (xs ++ (exchange_of b c ∷ [])) (command_of b c.frame c.buffer).bus
-    go m =
-        let e : state_of b ≡ state_after xs = m.tied.view in
-        let g : Good (state_of b) = rw e (good (calls_of xs)) in
-        let s : SameAs (command_of b c.frame c.buffer) (step (state_after xs) c) = rw e at (step_same b m.tied.shape m.tied.raw g m.tied.listed c) in
-        let last : state_after (xs ++ (exchange_of b c ∷ [])) ≡ (step (state_after xs) c).state = ap run (calls-append xs (exchange_of b c ∷ [])) ∙ run-snoc (calls_of xs) c in
-        record { tied = rw last s.tied; each = as-append start xs (exchange_of b c) m.each (record { tied = m.tied; outcome = s.outcome; buffer = s.buffer }) }

@@ -2,18 +2,16 @@
 -- numbers and places written out, and that 5 is given exactly where one of them is not kept.
 -- Assumes nothing.
 use Rattle.std.specs.Prelude.{ℕ, ◌+◌, ◌*◌, ◌^◌, ◌≤◌, ◌<◌, ◌≡◌, refl, true, false, List, [], length, get_or, eqb, ltb, leb}
-use Rattle.std.proofs.Common.{sym, ◌∙◌, arith, lt-ltb, le-ltb, ltb-true, leb-true}
+use Rattle.std.proofs.Common.{sym, ◌∙◌, arith, ltb-true, leb-true}
 use Rattle.std.proofs.Math.Logic.◌⊎◌.{inl, inr}
 use Rattle.laws.specs.Tests.{pick_all, clash, Seen, Seen.is_true, Seen.is_false, look}
-use Rattle.ids.specs.Refusals.{EIO}
-use Rattle.ids.specs.Sizes.{peers, ring_size, end_fields, accepted_end, given_end}
+use Rattle.ids.specs.Sizes.{ring_size, end_fields, given_end}
 use Rattle.tables.specs.Peers.{peer_row}
 use Rattle.frames.specs.declared.Command.{Command}
 use Rattle.frames.specs.declared.Command.TheVariants.{Open, Disconnect, Create, Destroy, Release, Transfer, Send, Receive, Quota, Holders, ShowSeed}
 use Rattle.frames.specs.declared.Parsed.{Parsed}
 use Rattle.frames.specs.declared.Parsed.TheVariants.{Read, Refused}
-use Rattle.frames.specs.Frame.{parse}
-use Rattle.frames.specs.Legal.{Outcome as Read-as, legal}
+use Rattle.frames.specs.Legal.{Outcome as Read-as}
 use Rattle.answers.specs.Answer.{answer_size, outcome_of}
 use Rattle.model.specs.Lists.{both}
 use Rattle.model.specs.Occurs.{both_true}
@@ -24,9 +22,9 @@ use Rattle.judges.specs.declared.Ruling.{Ruling}
 use Rattle.judges.specs.Orders.{Sight, sight, resolved, places_in, ruling_of}
 use Rattle.effects.specs.After.{queues_in}
 use Rattle.effects.specs.Ranges.{InRange as PeerInRange}
-use Rattle.bus_model.specs.Command.{sized_ok, peer_ok, peers_ok, ranges_ok, sound_ok, refused_by, carried, carried_out, obeyed, command_of, fresh_number}
-use Rattle.bus_model.specs.Sound.{sized-shape, each-peer}
-use Rattle.bus_model.specs.Tie.{sized-true, peers-true}
+use Rattle.bus_model.specs.Command.{sized_ok, peer_ok, refused_by, carried, carried_out, obeyed, command_of, fresh_number}
+use Rattle.bus_model.specs.Sound.{sized-shape}
+use Rattle.bus_model.specs.Tie.{sized-true}
 use Rattle.bus_model.specs.Demands.{NotFive, refusal-not-five, zero_number, received-number, shown-number}
 
 -- The first table of docs/BUFFERS.md: the elements of each buffer.
@@ -97,7 +95,7 @@ lengths-sized b l =
     })
 
 -- What the tests of a peer's numbers say.
-peer-in : (b : Bus) (p : ℕ) → peer_ok b.peers b.rings.ends p ≡ true → PeerInRange b p
+pub peer-in : (b : Bus) (p : ℕ) → peer_ok b.peers b.rings.ends p ≡ true → PeerInRange b p
 unfolding peer_ok
 peer-in b p h =
     let ps = b.peers in
@@ -118,35 +116,6 @@ peer-in b p h =
       short = leb-true (get_or ends (p * end_fields + 1) 0) ring_size h3.1;
     }
 
-pub in-range : (b : Bus) → sound_ok b ≡ true → InRange b
-unfolding sound_ok ranges_ok
-in-range b h =
-    let s = both_true (sized_ok b) (both (peers_ok b.peers b.rings.ends peers) (ltb (get_or b.peers 0 0) accepted_end)) h in
-    let r = both_true (peers_ok b.peers b.rings.ends peers) (ltb (get_or b.peers 0 0) accepted_end) s.1 in
-    let one : (p : ℕ) → p ≤ 7 → PeerInRange b p = λ p l. peer-in b p (each-peer b.peers b.rings.ends peers r.0 p (omega arith)) in
-    record {
-      lengths = sized-lengths b s.0;
-      accepted = ltb-true (get_or b.peers 0 0) accepted_end r.1;
-      state = λ p l. (one p l).state;
-      user = λ p l. (one p l).user;
-      given = λ p l. (one p l).given;
-      head = λ p l. omega (arith, (one p l).head);
-      len = λ p l. (one p l).short;
-    }
-
-pub in-range-back : (b : Bus) → InRange b → sound_ok b ≡ true
-unfolding sound_ok ranges_ok
-in-range-back b r =
-    let one : (p : ℕ) → p < peers → PeerInRange b p =
-    λ p l.
-    let m : p ≤ 7 = omega arith in
-    record { state = r.state p m; user = r.user p m; given = r.given p m; head = omega (arith, r.head p m); short = r.len p m } in
-    rw (
-      lengths-sized b r.lengths,
-      peers-true b one peers (omega arith),
-      lt-ltb (get_or b.peers 0 0) accepted_end r.accepted,
-    )
-
 -- On a bus in range no answer is 5: an order that is carried out is answered 0, and no refusal has that number.
 module _ (b : Bus) (f out : List ℕ) (e : ltb (length out) answer_size ≡ false) where
   abbrev v : Sight
@@ -165,7 +134,7 @@ module _ (b : Bus) (f out : List ℕ) (e : ltb (length out) answer_size ≡ fals
   resolved-zero (Quota p u) w = zero_number _ [] [] out e refl
   resolved-zero (Holders p i) w = zero_number _ [] [] out e refl
 
-  refused-number : (n : ℕ) → (refused_by n b out).outcome.number ≡ n
+  pub refused-number : (n : ℕ) → (refused_by n b out).outcome.number ≡ n
   unfolding outcome_of
   refused-number n = rw e
 
@@ -177,30 +146,11 @@ module _ (b : Bus) (f out : List ℕ) (e : ltb (length out) answer_size ≡ fals
       (λ z. omega (arith, resolved-zero c (places_in v f c)))
       (λ z. refusal-not-five v.find v.free v.state f c (sym (refused-number n) ∙ z))
 
-  obeyed-not-five : (x : Parsed) → Read-as f x → NotFive (obeyed b f out x).outcome.number
+  pub obeyed-not-five : (x : Parsed) → Read-as f x → NotFive (obeyed b f out x).outcome.number
   obeyed-not-five (Read c) h z = read-not-five c z
   obeyed-not-five (Refused n) (inl h) z = omega (arith, refused-number n)
   obeyed-not-five (Refused n) (inr (inl h)) z = omega (arith, refused-number n)
   obeyed-not-five (Refused n) (inr (inr h)) z = omega (arith, refused-number n)
-
-pub code-five : CodeFive
-unfolding command_of
-code-five b f out l = go (look (sound_ok b))
-  where
-    e : ltb (length out) answer_size ≡ false
-    e = le-ltb (length out) answer_size l
-
-    go : Seen (sound_ok b) → FiveUnless (InRange b) (command_of b f out).outcome.number
-    go (is_true s) = rw (e, s) record {
-      given = λ h. absurd (h (in-range b s));
-      only = λ z r. obeyed-not-five b f out e (parse f) (legal f) z;
-      another = λ h. in-range b s;
-    }
-    go (is_false s) = rw (e, s) record {
-      given = λ h. refused-number b f out e EIO;
-      only = λ z r. clash (sym (in-range-back b r) ∙ s);
-      another = λ h. absurd (h (refused-number b f out e EIO));
-    }
 
 pub fresh-five : FreshFive
 unfolding fresh_number

@@ -1,13 +1,13 @@
 -- A judgement goes by searches of its own over some of the tables: on a bus of a run it is what the model says of the state that the whole bus stands for.
 -- The search of handles finds the model's slot; the free places are the model's, since a slot that nobody holds is named only where it is attached; and no payload is read.
 -- Assumes nothing.
-use Prim.Native.Nat.{ℕ, zero, suc, ◌+◌, ◌*◌, ◌<◌, ◌≤◌}
-use Rattle.std.specs.Prelude.{◌≡◌, Bool, true, false, List, [], ◌∷◌, length, get_or, eqb, ltb}
+use Prim.Native.Nat.{ℕ, zero, suc, ◌+◌, ◌*◌, ◌<◌}
+use Rattle.std.specs.Prelude.{◌≡◌, Bool, true, false, List, [], ◌∷◌, length, get_or, eqb}
 use Rattle.std.proofs.Math.Path.{refl, sym, ap, fun_ext}
 use Rattle.std.proofs.Common.{◌∙◌, arith, eqb-true, eq-eqb, ne_eqb}
 use Rattle.std.proofs.Math.Bool.{not}
 use Rattle.laws.specs.Tests.{pick, Seen, Seen.is_true, Seen.is_false, look, clash}
-use Rattle.laws.specs.Weights.{All, load}
+use Rattle.laws.specs.Weights.{All}
 use Rattle.laws.specs.Search.{first-ext}
 use Rattle.frames.specs.declared.Command.{Command}
 use Rattle.frames.specs.declared.Command.TheVariants.{Open, Disconnect, Create, Destroy, Release, Transfer, Send, Receive, Quota, Holders, ShowSeed}
@@ -16,19 +16,20 @@ use Rattle.quota.specs.declared.Charges.{Charges}
 use Rattle.laws.specs.Sums.{sum_to}
 use Rattle.quota.specs.Charges.{users, nothing}
 use Rattle.tables.specs.NodesView.{live-is}
-use Rattle.tables.specs.Handles.{find_at, holders_at}
+use Rattle.tables.specs.Handles.{find_at}
 use Rattle.tables.specs.HandlesView.{handle_v, holders-any}
-use Rattle.tables.specs.Listed.{AllListed, find-is}
+use Rattle.tables.specs.Listed.{AllListed}
+use Rattle.tables.proofs.Listed.{find-is}
 use Rattle.tables.specs.Charges.{charges_at}
 use Rattle.tables.specs.ChargesView.{charges_v, charges-is}
 use Rattle.model.specs.Numbers.{slots, nodes, peers}
 use Rattle.model.specs.Lists.{either, any}
 use Rattle.model.specs.State.{State, Handle, held, Life, is_live, Message, Entry, Entry.message, Entry.destroyed, Entry.released, messages_in, names, held_by_any, named, seeded, counts, slot, free_place}
 use Rattle.model.specs.Resources.{Resource.handles}
-use Rattle.model.specs.Charged.{queued_by, from_user, weight_of, Fine, Sound}
+use Rattle.model.specs.Charged.{queued_by, Fine}
 use Rattle.model.specs.Notices.{Stands}
 use Rattle.model.specs.Occurs.{any_below_lem}
-use Rattle.model.specs.Refusals.{fits, takeable, countable, present, create_by, destroy_by, release_by, transfer_by, send_by, holders_by, refusal, refusal_by, refuses_open, refuses_disconnect, refuses_create, refuses_destroy, refuses_release, refuses_transfer, refuses_send, refuses_receive, refuses_seed, refuses_quota, refuses_holders}
+use Rattle.model.specs.Refusals.{fits, takeable, countable, present, create_by, destroy_by, release_by, transfer_by, holders_by, refusal, refusal_by, refuses_open, refuses_disconnect, refuses_create, refuses_destroy, refuses_release, refuses_transfer, refuses_send, refuses_receive, refuses_seed, refuses_quota, refuses_holders}
 use Rattle.seeds.specs.Seeds.{seed_v}
 use Rattle.view.specs.View.{Bus, Shape, state_of, queue_v}
 use Rattle.queues.specs.Queues.{attached_of, named_in}

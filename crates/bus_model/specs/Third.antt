@@ -1,21 +1,16 @@
 -- The third demand, "a single claim about the whole list of commands": of the exchanges of any run and of every next one, in one record.
 -- Assumes nothing.
 use Rattle.std.specs.Prelude.{ℕ, ◌+◌, ◌≤◌, ◌<◌, ◌≡◌, true, List, [], ◌∷◌, ◌++◌, get_or, eqb}
-use Rattle.std.proofs.Common.{sym, subst}
 use Rattle.ids.specs.Refusals.{EDQUOT}
 use Rattle.frames.specs.Frame.{opcode}
 use Rattle.model.specs.Resources.{Resource, most, share}
-use Rattle.model.specs.Step.{Call}
 use Rattle.model.specs.Lists.{either}
 use Rattle.model.specs.Book.{Book, feed, queued, is_send, is_seed, acting_peer, goes_to, would_leave}
 use Rattle.model.specs.Claim.{reported}
-use Rattle.model.specs.After.{after_any}
 use Rattle.model.specs.Rows.{book_of}
 use Rattle.view.specs.View.{Bus}
-use Rattle.bus_model.specs.Ran.{Exchange, answer_in, fed_of, calls_of, exchange_of, Ran, As-model, state_after, Modelled, ran-modelled}
-use Rattle.bus_model.specs.Demands.{exchange-as, code-third-demand}
-use Rattle.bus_model.specs.Untouched.{code-tail}
-use Rattle.bus_model.specs.Histories.{history_of, Answered, next-answered, ran-answered, book-ran}
+use Rattle.bus_model.specs.Ran.{Exchange, answer_in, fed_of, As-model, state_after, Modelled}
+use Rattle.bus_model.specs.Histories.{history_of, Answered}
 
 -- The book that is fed the exchanges and nothing else.
 abbrev pub book : List Exchange → Book
@@ -45,25 +40,3 @@ pub record Demanded (xs : List Exchange) (b : Bus) : Type 0 where
   -- At no peer has a user more than 32 messages, 2,048 bytes or 32 handles queued; received plus dropped never exceed sent.
   pub bounded : (q u : ℕ) (r : Resource) → queued (book xs) q u r ≤ most r
   pub sums : (q u : ℕ) (r : Resource) → (book xs).received q u r + (book xs).dropped q u r ≤ (book xs).sent q u r
-
-pub code-demanded : (xs : List Exchange) (b : Bus) → Ran xs b → Demanded xs b
-code-demanded xs b r =
-    let a = after_any (calls_of xs) in
-    let e = book-ran r in
-    record {
-      modelled = ran-modelled r;
-      answered = λ before after x cut. ran-answered before after x (subst (λ (ys : List Exchange). Ran ys b) cut r);
-      bounded = λ q u s. subst (λ (k : Book). queued k q u s ≤ most s) (sym e) (a.bounded q u s);
-      sums = λ q u s. subst (λ (k : Book). k.received q u s + k.dropped q u s ≤ k.sent q u s) (sym e) (a.sums q u s);
-    }
-
-pub code-next : (xs : List Exchange) (b : Bus) → Ran xs b → (c : Call) → Next xs (exchange_of b c)
-code-next xs b r c =
-    let k = code-third-demand xs b r c in
-    record {
-      modelled = exchange-as r c;
-      answered = next-answered r c;
-      assured = λ s h. (k.assured s h, λ e. k.assured s h ((code-tail b c).byte EDQUOT [] e));
-      reports = k.reports;
-      seeds = k.seeds;
-    }

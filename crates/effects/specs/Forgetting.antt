@@ -23,7 +23,7 @@ use Rattle.model.specs.State.{Handle, held, Message, Entry, Entry.message, Entry
 use Rattle.model.specs.Tables.{with_queue, with_queues, with_charges}
 use Rattle.model.specs.Changes.{discharged_all, take_out, stays, settle, dropped, remains, forget}
 use Rattle.model.specs.Charged.{Fine, Sound}
-use Rattle.model.specs.ChargedProof.{sound-out}
+use Rattle.model.proofs.ChargedProof.{sound-out}
 use Rattle.model.specs.Quiet.{messages-keep}
 use Rattle.view.specs.View.{Bus, Shape, entry_v, queue_v, state_of, set_rings, shape-rings}
 use Rattle.queues.specs.Queues.{Queues, attached_of, is_message, removed_from, set_queues, set_queued, shape-queues}

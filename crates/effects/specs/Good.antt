@@ -5,16 +5,16 @@ use Rattle.model.specs.State.{State}
 use Rattle.model.specs.Step.{Call, run}
 use Rattle.model.specs.Notices.{Noted}
 use Rattle.model.specs.Founded.{Founded}
-use Rattle.model.specs.NoticesProof.{noted, founded}
+use Rattle.model.proofs.NoticesProof.{noted, founded}
 use Rattle.model.specs.Charged.{Charged}
-use Rattle.model.specs.ChargedProof.{always-charged}
+use Rattle.model.proofs.ChargedProof.{always-charged}
 use Rattle.model.specs.Bounds.{Bounded}
-use Rattle.model.specs.BoundsProof.{bounded}
-use Rattle.model.specs.RoomsProof.{at-most-188-entries}
+use Rattle.model.proofs.BoundsProof.{bounded}
+use Rattle.model.proofs.RoomsProof.{at-most-188-entries}
 use Rattle.model.specs.Order.{Ordered}
-use Rattle.model.specs.OrderProof.{order}
+use Rattle.model.proofs.OrderProof.{order}
 use Rattle.model.specs.Ids.{Ids}
-use Rattle.model.specs.IdsProof.{sound-ids}
+use Rattle.model.proofs.IdsProof.{sound-ids}
 
 pub record Good (b : State) : Type 0 where
   pub noted : Noted b

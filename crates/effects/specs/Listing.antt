@@ -7,7 +7,8 @@ use Rattle.laws.specs.Tests.{clash}
 use Rattle.laws.specs.Search.{first, first_found}
 use Rattle.tables.specs.Handles.{count_at}
 use Rattle.tables.specs.HandlesView.{handle_v, count-is}
-use Rattle.tables.specs.Listed.{is_given, AllListed, listed-made, listed-reduced, listed-cleared}
+use Rattle.tables.specs.Listed.{is_given, AllListed, listed-cleared}
+use Rattle.tables.proofs.Listed.{listed-made, listed-reduced}
 use Rattle.model.specs.Numbers.{peers, slots, nodes}
 use Rattle.model.specs.State.{State, Handle, Handle.none, Handle.some, held, count, is_live, held_by_any, named, seeded, counts, free_place}
 use Rattle.model.specs.Lists.{either, any_below}

@@ -32,8 +32,10 @@ use Rattle.model.specs.Notices.{Stands}
 use Rattle.model.specs.Counts.{total-one}
 use Rattle.model.specs.Occurs.{all_both}
 use Rattle.model.specs.Charged.{Fine, Charged}
-use Rattle.model.specs.ChargedProof.{charged-quiet, charged-take_out}
-use Rattle.model.specs.Quiet.{quiet-accept, quiet-give_all}
+use Rattle.model.specs.ChargedProof.{charged-quiet}
+use Rattle.model.proofs.ChargedProof.{charged-take_out}
+use Rattle.model.specs.Quiet.{quiet-accept}
+use Rattle.model.proofs.Quiet.{quiet-give_all}
 use Rattle.model.specs.IdsLaws.{Holding}
 use Rattle.model.specs.IdsProof.{holding-out}
 use Rattle.view.specs.View.{Bus, Shape, entry_v, queue_v, state_of, set_peers, set_handles, set_rings, shape-rings}

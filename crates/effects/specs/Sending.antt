@@ -21,7 +21,7 @@ use Rattle.ids.specs.declared.User.{User}
 use Rattle.quota.specs.declared.Charge.{Charge}
 use Rattle.quota.specs.declared.Charges.{Charges}
 use Rattle.quota.specs.Charges.{users, nothing, plus, own, charged}
-use Rattle.quota.specs.Step.{own-at-most-half}
+use Rattle.quota.proofs.Step.{own-at-most-half}
 use Rattle.frames.specs.declared.Command.TheVariants.{Send}
 use Rattle.frames.specs.declared.Sizes.{Sizes}
 use Rattle.frames.specs.Frame.{most_ids, most_bytes, send_id, payload_of}
@@ -41,12 +41,13 @@ use Rattle.model.specs.Requests.{destinations, attached}
 use Rattle.model.specs.Tables.{accept, with_queues, with_charges}
 use Rattle.model.specs.Refusals.{places_at, adds, fits, refuses_send, refusal}
 use Rattle.model.specs.Changes.{push_all, arriving, deliver, reseed}
-use Rattle.model.specs.Tested.{tested}
+use Rattle.model.proofs.Tested.{tested}
 use Rattle.model.specs.Resources.{Resource, limit, amount, share}
 use Rattle.model.specs.Resources.Resource.{messages as of_messages, bytes as of_bytes, handles as of_handles}
 use Rattle.model.specs.Charged.{weight_of, from_user, queued_by, Charged}
 use Rattle.model.specs.Charging.{is-resource, reached-at}
-use Rattle.model.specs.ChargedProof.{charged-deliver, known-open}
+use Rattle.model.specs.ChargedProof.{known-open}
+use Rattle.model.proofs.ChargedProof.{charged-deliver}
 use Rattle.model.specs.ChargedBounds.{queued_all, sound-within}
 use Rattle.model.specs.Sending.{arriving-load}
 use Rattle.model.specs.Quiet.{messages-append}

@@ -1,17 +1,17 @@
 -- Where a command that was read stands in its frame: its command byte, its acting peer, and the fields that are read off the frame again.
 -- Callers use this law and never the text of `parse`.
 -- Assumes nothing.
-use Rattle.std.specs.Prelude.{ℕ, suc, ◌%◌, ◌≤◌, ◌≡◌, refl, Bool, true, false, List, length, get_or, eqb, ltb}
-use Rattle.std.proofs.Common.{sym, arith, eqb-true, leb-true}
+use Rattle.std.specs.Prelude.{ℕ, suc, ◌%◌, ◌≤◌, ◌≡◌, refl, Bool, true, List, length, get_or, eqb, ltb}
+use Rattle.std.proofs.Common.{arith, eqb-true}
 use Rattle.std.proofs.lemmas.Bool.{eqb-false}
-use Rattle.ids.specs.Refusals.{EINVAL, EMSGSIZE, ENOTTY}
-use Rattle.laws.specs.Tests.{pick, pick-cases, pick_all, pick-else, clash}
+use Rattle.ids.specs.Refusals.{EINVAL, EMSGSIZE}
+use Rattle.laws.specs.Tests.{pick, pick-cases, pick_all}
 use Rattle.ids.specs.declared.Peer.{Peer}
 use Rattle.frames.specs.declared.Command.{Command}
 use Rattle.frames.specs.declared.Command.TheVariants.{Open, Disconnect, Create, Destroy, Release, Transfer, Send, Receive, Quota, Holders, ShowSeed}
 use Rattle.frames.specs.declared.Parsed.{Parsed}
 use Rattle.frames.specs.declared.Parsed.TheVariants.{Read, Refused}
-use Rattle.frames.specs.Frame.{last_peer, last_user, oversized, send_length, short_at, opcode, peer_at, id_at, known, frame_length, parse_sizes, parse_send, parse_open, parse_create, parse_transfer, parse_quota, parse_rest, parse_other, parse}
+use Rattle.frames.specs.Frame.{last_peer, last_user, oversized, send_length, short_at, opcode, peer_at, id_at, parse_sizes, parse_send, parse_open, parse_create, parse_transfer, parse_quota, parse_rest}
 
 -- The command byte and the acting peer.
 pub record Acts (f : List ℕ) (op : ℕ) (p : Peer) : Type 0 where
@@ -35,10 +35,10 @@ abbrev pub InFrame : List ℕ → Parsed → Type 0
 InFrame f (Read c) = Fields f c
 InFrame f (Refused n) = Unit {0}
 
-unless : (f : List ℕ) (bad : Bool) (r : Parsed) → InFrame f r → InFrame f (pick bad (Refused EINVAL) r)
+pub unless : (f : List ℕ) (bad : Bool) (r : Parsed) → InFrame f r → InFrame f (pick bad (Refused EINVAL) r)
 unless f bad r h = pick_all (InFrame f) bad (Refused EINVAL) r tt h
 
-fields-send : (f : List ℕ) → opcode f ≡ 7 → InFrame f (parse_send f)
+pub fields-send : (f : List ℕ) → opcode f ≡ 7 → InFrame f (parse_send f)
 unfolding parse_send parse_sizes
 fields-send f o =
     let here : Acts f 7 (peer_at f 1) = record { command = o; peer = refl } in
@@ -62,7 +62,7 @@ ends n l a b h = omega arith
 zero-least : (n : ℕ) → 0 ≤ n
 zero-least n = omega arith
 
-fields-rest : (f : List ℕ) → (opcode f ≡ 0 → ⊥) → (opcode f ≡ 11 → ⊥) → opcode f ≤ 12 → (opcode f ≡ 7 → ⊥) → InFrame f (parse_rest (opcode f) (peer_at f 1) f)
+pub fields-rest : (f : List ℕ) → (opcode f ≡ 0 → ⊥) → (opcode f ≡ 11 → ⊥) → opcode f ≤ 12 → (opcode f ≡ 7 → ⊥) → InFrame f (parse_rest (opcode f) (peer_at f 1) f)
 unfolding parse_rest parse_open parse_create parse_transfer parse_quota
 fields-rest f z y l s =
     let op = opcode f in
@@ -86,24 +86,3 @@ fields-rest f z y l s =
   where
     ten : (n : ℕ) → (n ≡ 0 → ⊥) → (n ≡ 11 → ⊥) → (n ≡ 12 → ⊥) → n ≤ 12 → (n ≡ 7 → ⊥) → (n ≡ 1 → ⊥) → (n ≡ 2 → ⊥) → (n ≡ 3 → ⊥) → (n ≡ 4 → ⊥) → (n ≡ 5 → ⊥) → (n ≡ 6 → ⊥) → (n ≡ 8 → ⊥) → (n ≡ 9 → ⊥) → n ≡ 10
     ten n z y x l s a b c d e g h i = ends n l y x (above 9 n (above 8 n (above 7 n (above 6 n (above 5 n (above 4 n (above 3 n (above 2 n (above 1 n (above 0 n (zero-least n) z) a) b) c) d) e) g) s) h) i)
-
--- Every frame.
-pub fields : (f : List ℕ) → InFrame f (parse f)
-unfolding parse parse_other
-fields f =
-    unless f (eqb (length f) 0) _
-    (pick-cases (InFrame f) (known (opcode f)) _ (Refused ENOTTY)
-    (λ k.
-    let x = pick-else (eqb (opcode f) 0) false true (λ z. clash (sym z)) k in
-    let y = pick-else (eqb (opcode f) 11) false true (λ z. clash (sym z)) x.1 in
-    pick-cases (InFrame f) (eqb (opcode f) 7) (parse_send f) (parse_other f)
-    (λ e. fields-send f (eqb-true (opcode f) 7 e))
-    (λ e.
-    pick_all (InFrame f) (eqb (length f) (frame_length (opcode f))) _ (Refused EINVAL)
-    (unless f (ltb last_peer (get_or f 1 0)) _ (fields-rest f (eqb-false (opcode f) 0 x.0) (eqb-false (opcode f) 11 y.0) (leb-true (opcode f) 12 y.1) (eqb-false (opcode f) 7 e)))
-    tt))
-    (λ k. tt))
-
--- A frame that was read.
-pub fields-command : (f : List ℕ) (c : Command) → parse f ≡ Read c → Fields f c
-fields-command f c e = rw e at (fields f)

@@ -12,7 +12,7 @@ use Rattle.frames.specs.declared.Command.TheVariants.{Open, Disconnect, Create, 
 use Rattle.frames.specs.declared.Sizes.{Sizes}
 use Rattle.frames.specs.declared.Parsed.{Parsed}
 use Rattle.frames.specs.declared.Parsed.TheVariants.{Read, Refused}
-use Rattle.frames.specs.Frame.{last_peer, last_user, most_ids, most_bytes, peer_at, opcode, id_at, short_at, oversized, known, send_length, frame_length, parse_sizes, parse_send, parse_open, parse_create, parse_transfer, parse_quota, parse_rest, parse_other, parse, payload_of}
+use Rattle.frames.specs.Frame.{last_peer, last_user, most_ids, most_bytes, peer_at, opcode, id_at, short_at, oversized, send_length, frame_length, parse_sizes, parse_send, parse_open, parse_create, parse_transfer, parse_quota, parse_rest, parse_other, payload_of}
 
 -- The sizes of a send: as the frame has them, in document 01's bounds, and the frame is as long as they say.
 pub record Sized (f : List ℕ) (z : Sizes) : Type 0 where
@@ -46,7 +46,7 @@ Outcome f (Refused n) = (n ≡ EINVAL) ⊎ ((n ≡ ENOTTY) ⊎ (n ≡ EMSGSIZE))
 invalid : (f : List ℕ) → Outcome f (Refused EINVAL)
 invalid f = inl refl
 
-unless : (f : List ℕ) (bad : Bool) (r : Parsed) → (bad ≡ false → Outcome f r) → Outcome f (pick bad (Refused EINVAL) r)
+pub unless : (f : List ℕ) (bad : Bool) (r : Parsed) → (bad ≡ false → Outcome f r) → Outcome f (pick bad (Refused EINVAL) r)
 unless f bad r h = pick-cases (Outcome f) bad (Refused EINVAL) r (λ e. invalid f) h
 
 -- Numbers that are not oversized are in their bounds.
@@ -56,7 +56,7 @@ in_bounds nd nh nb e =
     let b = pick-else (ltb most_ids nh) true false (λ z. clash z) a.1 in
     (ltb-false most_ids nd a.0, ltb-false most_ids nh b.0, ltb-false most_bytes nb b.1)
 
-legal-send : (f : List ℕ) → Outcome f (parse_send f)
+pub legal-send : (f : List ℕ) → Outcome f (parse_send f)
 unfolding parse_send parse_sizes
 legal-send f =
     let p = get_or f 1 0 in
@@ -94,25 +94,12 @@ legal-rest f op p h =
     (pick_all (Outcome f) (eqb op 9) _ _ (unless f (ltb last_user (get_or f 2 0)) _ (λ e. (h, ltb-false last_user (get_or f 2 0) e)))
     (pick_all (Outcome f) (eqb op 12) _ _ h h))))))))
 
-legal-other : (f : List ℕ) → Outcome f (parse_other f)
+pub legal-other : (f : List ℕ) → Outcome f (parse_other f)
 unfolding parse_other
 legal-other f =
     pick_all (Outcome f) (eqb (length f) (frame_length (opcode f))) _ (Refused EINVAL)
     (unless f (ltb last_peer (get_or f 1 0)) _ (λ e. legal-rest f (opcode f) (peer_at f 1) (ltb-false last_peer (get_or f 1 0) e)))
     (invalid f)
-
--- Every frame.
-pub legal : (f : List ℕ) → Outcome f (parse f)
-unfolding parse
-legal f =
-    unless f (eqb (length f) 0) _ (λ e.
-    pick_all (Outcome f) (known (opcode f)) _ (Refused ENOTTY)
-    (pick_all (Outcome f) (eqb (opcode f) 7) (parse_send f) (parse_other f) (legal-send f) (legal-other f))
-    (inr (inl refl)))
-
--- A frame that was read.
-pub legal-command : (f : List ℕ) (c : Command) → parse f ≡ Read c → Legal f c
-legal-command f c e = rw e at (legal f)
 
 -- A send's payload has as many bytes as it says.
 pub payload-length : (f : List ℕ) (z : Sizes) → Sized f z → length (payload_of f) ≡ z.nb

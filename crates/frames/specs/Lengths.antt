@@ -2,12 +2,11 @@
 -- Assumes nothing.
 use Rattle.std.specs.Prelude.{ℕ, ◌≤◌, ◌≡◌, refl, List, length, get_or, eqb, ltb}
 use Rattle.std.proofs.Common.{arith, eqb-true}
-use Rattle.ids.specs.Refusals.{EINVAL, EMSGSIZE, ENOTTY}
+use Rattle.ids.specs.Refusals.{EINVAL, EMSGSIZE}
 use Rattle.laws.specs.Tests.{pick-cases, pick_all}
-use Rattle.frames.specs.declared.Command.{Command}
 use Rattle.frames.specs.declared.Parsed.{Parsed}
 use Rattle.frames.specs.declared.Parsed.TheVariants.{Read, Refused}
-use Rattle.frames.specs.Frame.{invalid_if, last_peer, most_ids, most_bytes, peer_at, opcode, short_at, oversized, known, send_length, frame_length, parse_sizes, parse_send, parse_rest, parse_other, parse}
+use Rattle.frames.specs.Frame.{invalid_if, last_peer, most_ids, most_bytes, peer_at, opcode, short_at, oversized, send_length, frame_length, parse_sizes, parse_send, parse_rest, parse_other}
 use Rattle.frames.specs.Legal.{in_bounds}
 
 -- "One send: 1 to 8 destinations, 0 to 8 attached handles, 0 to 512 payload bytes", and by 02 No. 1 a seed with none: the bytes of the longest.
@@ -18,7 +17,7 @@ pub longest-is : longest_frame ≡ 646
 longest-is = refl
 
 -- What is read of a frame has a frame of at most these bytes; a refusal says nothing of it.
-abbrev Short : List ℕ → Parsed → Type 0
+abbrev pub Short : List ℕ → Parsed → Type 0
 Short f (Read c) = length f ≤ longest_frame
 Short f (Refused n) = Unit {0}
 
@@ -36,7 +35,7 @@ short-length op =
     (pick_all (λ (n : ℕ). n ≤ longest_frame) (eqb op 9) 3 _ (omega arith)
     (pick_all (λ (n : ℕ). n ≤ longest_frame) (eqb op 12) 4 10 (omega arith) (omega arith))))))
 
-short-other : (f : List ℕ) → Short f (parse_other f)
+pub short-other : (f : List ℕ) → Short f (parse_other f)
 unfolding parse_other
 short-other f =
     pick-cases (Short f) (eqb (length f) (frame_length (opcode f))) _ (Refused EINVAL)
@@ -45,7 +44,7 @@ short-other f =
     short-any f h (invalid_if (ltb last_peer (get_or f 1 0)) (parse_rest (opcode f) (peer_at f 1) f)))
     (λ e. tt)
 
-short-send : (f : List ℕ) → Short f (parse_send f)
+pub short-send : (f : List ℕ) → Short f (parse_send f)
 unfolding parse_send parse_sizes
 short-send f =
     let nd = get_or f 2 0 in
@@ -57,15 +56,3 @@ short-send f =
     pick-cases (Short f) (eqb (length f) (send_length nd nh nb)) _ (Refused EINVAL)
     (λ whole. let b = in_bounds nd nh nb sizes in omega (arith, b.0, b.1, b.2, eqb-true (length f) (send_length nd nh nb) whole))
     (λ other. tt))))
-
-short : (f : List ℕ) → Short f (parse f)
-unfolding parse
-short f =
-    pick_all (Short f) (eqb (length f) 0) (Refused EINVAL) _ tt
-    (pick_all (Short f) (known (opcode f)) _ (Refused ENOTTY)
-    (pick_all (Short f) (eqb (opcode f) 7) (parse_send f) (parse_other f) (short-send f) (short-other f))
-    tt)
-
--- Every frame that was read.
-pub read_short : (f : List ℕ) (c : Command) → parse f ≡ Read c → length f ≤ longest_frame
-read_short f c e = rw e at (short f)

@@ -15,12 +15,14 @@ use Rattle.tables.specs.Peers.{modulus, given_at}
 use Rattle.tables.specs.PeersView.{given_v, given_is}
 use Rattle.tables.specs.Handles.{length_block, id_at, count_at, listed_id, listed_slot}
 use Rattle.tables.specs.HandlesView.{handle_v, count-is}
-use Rattle.tables.specs.Listed.{Listed, AllListed, listed-raised}
+use Rattle.tables.specs.Listed.{Listed, AllListed}
+use Rattle.tables.proofs.Listed.{listed-raised}
 use Rattle.model.specs.Numbers.{nodes, owner, next_id}
 use Rattle.model.specs.State.{State, Handle, Handle.some, count}
 use Rattle.model.specs.Changes.{give_all}
 use Rattle.model.specs.Ids.{Handles}
-use Rattle.model.specs.IdsLaws.{Holding, holding-gives}
+use Rattle.model.specs.IdsLaws.{Holding}
+use Rattle.model.proofs.IdsLaws.{holding-gives}
 use Rattle.view.specs.View.{Bus, Shape, state_of, queue_v}
 use Rattle.queues.specs.Queues.{Short}
 use Rattle.grants.specs.Grants.{Given, numbered, shown_to, referenced, valid_at, given_to, Gives, gives_to}

@@ -1,6 +1,6 @@
 -- Which commands are counted, by the order that a command comes to.
 -- Assumes nothing.
-use Rattle.std.specs.Prelude.{ℕ, ◌-◌, ◌≡◌, Bool, List, [], length, eqb, ltb}
+use Rattle.std.specs.Prelude.{ℕ, ◌≡◌, Bool, List, [], length, eqb, ltb}
 use Rattle.std.proofs.Math.Path.{refl}
 use Rattle.std.proofs.Common.{sym, ap, ◌∙◌, arith, ne_eqb}
 use Rattle.std.proofs.Math.Bool.{true, false}
@@ -11,7 +11,8 @@ use Rattle.frames.specs.declared.Command.{Command}
 use Rattle.frames.specs.declared.Command.TheVariants.{Open, Disconnect, Create, Destroy, Release, Transfer, Send, Receive, Quota, Holders, ShowSeed}
 use Rattle.frames.specs.declared.Parsed.TheVariants.{Read, Refused}
 use Rattle.frames.specs.Frame.{parse}
-use Rattle.frames.specs.Legal.{Outcome as Read-as, legal}
+use Rattle.frames.specs.Legal.{Outcome as Read-as}
+use Rattle.frames.proofs.Legal.{legal}
 use Rattle.answers.specs.Answer.{answer_size, outcome_of}
 use Rattle.model.specs.Refusals.{refusal_by}
 use Rattle.view.specs.View.{Bus}

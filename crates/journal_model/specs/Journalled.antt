@@ -2,12 +2,12 @@
 -- same name in small letters.
 -- Assumes nothing.
 use Rattle.std.specs.Prelude.{ℕ, suc, ◌+◌, ◌*◌, ◌-◌, ◌≤◌, ◌<◌, ◌≡◌, refl, Bool, false, not, drop, eqb, ltb}
-use Rattle.std.proofs.Common.{sym, ap₂, ◌∙◌, arith, length-append, take-append-drop, take_at, take-take, drop_at, drop-drop, length-take-le, eqb-true, ltb-true, ltb-false, le-ltb, le-leb, leb-true}
-use Rattle.std.proofs.Math.Path.{ap, subst}
+use Rattle.std.proofs.Common.{sym, ap₂, ◌∙◌, arith, length-append, take-append-drop, take_at, take-take, drop_at, drop-drop, length-take-le, eqb-true, ltb-true, ltb-false, le-ltb, le-leb}
+use Rattle.std.proofs.Math.Path.{ap}
 use Rattle.std.proofs.Math.Bool.{true}
-use mathlib.Core.List.{List, [], ◌∷◌, ◌++◌, map, flatten, append_assoc}
+use mathlib.Core.List.{List, [], ◌∷◌, ◌++◌, map, append_assoc}
 use Rattle.std.proofs.Math.ListN.{length, take}
-use Rattle.std.proofs.Math.Seq.{sets, length-sets}
+use Rattle.std.proofs.Math.Seq.{sets}
 use Rattle.std.proofs.lemmas.List.Edits.{sets-eq}
 use Rattle.std.proofs.lemmas.Bool.{lt-leb}
 use Rattle.laws.specs.Tests.{Seen, Seen.is_true, Seen.is_false, look, clash}
@@ -16,25 +16,27 @@ use Rattle.ids.specs.Refusals.{EIO, EFBIG}
 use Rattle.frames.specs.declared.Parsed.{Parsed}
 use Rattle.frames.specs.declared.Parsed.TheVariants.{Read, Refused}
 use Rattle.frames.specs.Frame.{parse}
-use Rattle.frames.specs.Lengths.{longest_frame, longest-is, read_short}
+use Rattle.frames.specs.Lengths.{longest_frame, longest-is}
+use Rattle.frames.proofs.Lengths.{read_short}
 use Rattle.lines.specs.Line.{lf, most_digits, digits_of, answer_line, room_for, lines_after}
 use Rattle.lines.specs.LineLaws.{digits-length}
 use Rattle.lines.specs.Chunks.{split, Found, Found.frame, Found.bad, NoLf}
 use Rattle.lines.specs.RoundTrip.{Byte}
-use Rattle.lines.specs.Cuts.{text_of, lfs, OneLineLong, cut-before}
-use Rattle.lines.specs.Again.{split-joined, frames-text}
+use Rattle.lines.specs.Cuts.{text_of, lfs, OneLineLong}
+use Rattle.lines.proofs.Cuts.{cut-before}
+use Rattle.lines.specs.Again.{split-joined}
+use Rattle.lines.proofs.Again.{frames-text}
 use Rattle.answers.specs.Answer.{answer_size}
 use Rattle.model.specs.Step.{Call}
 use Rattle.model.specs.Happened.{Happened}
 use Rattle.view.specs.View.{Bus}
 use Rattle.bus_model.specs.Command.{Done, refused_by, sized_ok, command_of, fresh_bus}
-use Rattle.bus_model.specs.Ran.{Exchange, exchange_of, Ran, Ran.begins}
-use Rattle.bus_model.specs.Demands.{never-five}
-use Rattle.bus_model.specs.Histories.{history_of, ran-happened}
+use Rattle.bus_model.specs.Ran.{Exchange, Ran}
+use Rattle.bus_model.specs.Histories.{history_of}
 use Rattle.journal_model.specs.declared.Recovered.TheVariants as found
 use Rattle.journal_model.specs.Journal.{is_question, counted, WithJournal, with_journal, appended_of, obeyed_with, command_with, spare, Replayed, Replayed.whole, Replayed.stopped, Replayed.unread, replay, lines_in, used_of, recovery_from, recovered, wholly}
-use Rattle.journal_model.specs.Exact.{exchange_with, JournalRun, JournalRun.none, JournalRun.next, frames_of, bus_after_counted, Appends, Appends.appended, Appends.unchanged, short-number, appends, spare-large, kept-text, recovery-exact}
-use Rattle.journal_model.specs.Runs.{fits, fitting, run_ran, DemandThree, demand-three, replay_call, replay_history, bus_found, is_whole, replay-ran}
+use Rattle.journal_model.specs.Exact.{exchange_with, JournalRun, JournalRun.none, JournalRun.next, frames_of, bus_after_counted, short-number}
+use Rattle.journal_model.specs.Runs.{fits, fitting, DemandThree, replay_history, is_whole}
 use Rattle.journal_model.specs.Counted.{refused-number, refused-uncounted}
 use Rattle.journal_model.specs.Numbers.{never-full}
 
@@ -112,7 +114,7 @@ NothingWritten = (old : Bus) (s : List ℕ) → sized_ok old ≡ false → recov
 
 -- WHAT RECOVERY READ IS THE TEXT OF ITS FRAMES
 
-replay-frames : (ls : List Found) (m n : ℕ) (b d : Bus) → replay m b ls ≡ whole d n → (fs : List (List ℕ)) × (ls ≡ map frame fs)
+pub replay-frames : (ls : List Found) (m n : ℕ) (b d : Bus) → replay m b ls ≡ whole d n → (fs : List (List ℕ)) × (ls ≡ map frame fs)
 unfolding replay
 replay-frames [] m n b d e = ([], refl)
 replay-frames (bad place ∷ ls) m n b d e = clash (sym (ap is_whole e))
@@ -122,13 +124,13 @@ replay-frames (frame f ∷ ls) m n b d e = go (look (counted b f spare)) (λ h. 
     go (is_false k) ih = clash (sym (ap is_whole (rw k at e)))
     go (is_true k) ih = let h = ih (rw k at e) in (f ∷ h.0, ap (◌∷◌ (frame f)) h.1)
 
-record TextOf (s : List ℕ) (fs : List (List ℕ)) : Type 0 where
-  lines : lines_in s ≡ map frame fs
-  used : used_of s ≡ length (text_of fs)
-  text : take (used_of s) s ≡ text_of fs
-  one-line-long : All OneLineLong fs
+pub record TextOf (s : List ℕ) (fs : List (List ℕ)) : Type 0 where
+  pub lines : lines_in s ≡ map frame fs
+  pub used : used_of s ≡ length (text_of fs)
+  pub text : take (used_of s) s ≡ text_of fs
+  pub one-line-long : All OneLineLong fs
 
-text-of : (s : List ℕ) (fs : List (List ℕ)) → lines_in s ≡ map frame fs → TextOf s fs
+pub text-of : (s : List ℕ) (fs : List (List ℕ)) → lines_in s ≡ map frame fs → TextOf s fs
 unfolding used_of
 text-of s fs e =
     let x = frames-text (split s).whole fs e in
@@ -145,22 +147,22 @@ text-of s fs e =
 -- A RECOVERY'S HISTORY IS A RUN WITH THE JOURNAL THAT IT READ
 
 -- A line written where it stands.
-line-stands : (j l : List ℕ) (u : ℕ) → u + length l ≤ length j → take (length l) (drop u j) ≡ l → sets j u l ≡ j
+pub line-stands : (j l : List ℕ) (u : ℕ) → u + length l ≤ length j → take (length l) (drop u j) ≡ l → sets j u l ≡ j
 line-stands j l u h e =
     sets-eq l j u (omega arith)
     ∙ append_assoc (take u j) l (drop (u + length l) j)
     ∙ ap (λ (x : List ℕ). take u j ++ x) (ap₂ ◌++◌ (sym e) (sym (drop-drop (length l) u j)) ∙ take-append-drop (length l) (drop u j))
     ∙ take-append-drop u j
 
-line-length : (f : List ℕ) → length (answer_line f) ≡ 2 * length f + 1
+pub line-length : (f : List ℕ) → length (answer_line f) ≡ 2 * length f + 1
 line-length f = length-append (digits_of f) (lf ∷ []) ∙ ap (λ (n : ℕ). n + 1) (digits-length f)
 
-take-front : (a b : List ℕ) (x : List ℕ) → take (length (a ++ b)) x ≡ a ++ b → take (length a) x ≡ a
+pub take-front : (a b : List ℕ) (x : List ℕ) → take (length (a ++ b)) x ≡ a ++ b → take (length a) x ≡ a
 take-front a b x e =
     let l : length a ≤ length (a ++ b) = rw length-append (omega arith) in
     sym (take-take (length a) (length (a ++ b)) x l) ∙ ap (take (length a)) e ∙ take_at a b (length a) refl
 
-take_back : (a b : List ℕ) (x : List ℕ) → take (length (a ++ b)) x ≡ a ++ b → take (length b) (drop (length a) x) ≡ b
+pub take_back : (a b : List ℕ) (x : List ℕ) → take (length (a ++ b)) x ≡ a ++ b → take (length b) (drop (length a) x) ≡ b
 take_back [] b x e = e
 take_back (c ∷ a) b [] e = clash (ap is_none e)
   where
@@ -173,109 +175,31 @@ take_back (c ∷ a) b (y ∷ x) e = take_back a b x (ap tail_of e)
     tail_of [] = []
     tail_of (z ∷ zs) = zs
 
-after-room : (j f : List ℕ) (u : ℕ) → room_for j u f ≡ true → lines_after j u f ≡ sets j u (answer_line f)
+pub after-room : (j f : List ℕ) (u : ℕ) → room_for j u f ≡ true → lines_after j u f ≡ sets j u (answer_line f)
 unfolding lines_after
 after-room j f u z = rw z refl
 
-kept_there : (b : Bus) (f out j : List ℕ) (u : ℕ) → ltb (length out) answer_size ≡ false → u + (2 * length f + 1) ≤ length j → counted b f out ≡ true → room_for j u f ≡ true →
+pub kept_there : (b : Bus) (f out j : List ℕ) (u : ℕ) → ltb (length out) answer_size ≡ false → u + (2 * length f + 1) ≤ length j → counted b f out ≡ true → room_for j u f ≡ true →
     command_with b f out j u ≡ with_journal (command_of b f out) (lines_after j u f) (u + (2 * length f + 1))
 unfolding command_with obeyed_with appended_of
 kept_there b f out j u e l k z = let w : ltb (length j) u ≡ false = le-ltb (length j) u (omega arith) in rw (e, w, k, z) refl
 
-history-run : (fs : List (List ℕ)) (m n : ℕ) (b d : Bus) (j : List ℕ) (u : ℕ) → replay m b (map frame fs) ≡ whole d n → u + length (text_of fs) ≤ length j →
-    take (length (text_of fs)) (drop u j) ≡ text_of fs → JournalRun b j u (replay_history b (map frame fs)) d j (u + length (text_of fs))
-unfolding replay flatten
-history-run [] m n b d j u e l t =
-    let z : b ≡ d = ap (λ (x : Replayed). bus_found x) e in
-    let w : u ≡ u + 0 = omega arith in
-    subst (λ (x : ℕ). JournalRun b j u [] d j x) w (subst (λ (x : Bus). JournalRun b j u [] x j u) z none)
-history-run (f ∷ fs) m n b d j u e l t =
-    go (look (counted b f spare)) (λ h k w. history-run fs (suc m) n (command_of b f spare).bus d j (u + (2 * length f + 1)) h k w)
-  where
-    at : ℕ
-    at = u + (2 * length f + 1)
-
-    all : length (text_of (f ∷ fs)) ≡ 2 * length f + 1 + length (text_of fs)
-    all = length-append (answer_line f) (text_of fs) ∙ ap (λ (x : ℕ). x + length (text_of fs)) (line-length f)
-
-    go : Seen (counted b f spare) →
-        (replay (suc m) (command_of b f spare).bus (map frame fs) ≡ whole d n → at + length (text_of fs) ≤ length j → take (length (text_of fs)) (drop at j) ≡ text_of fs →
-        JournalRun (command_of b f spare).bus j at (replay_history (command_of b f spare).bus (map frame fs)) d j (at + length (text_of fs))) →
-        JournalRun b j u (exchange_of b (replay_call f) ∷ replay_history (command_of b f spare).bus (map frame fs)) d j (u + length (text_of (f ∷ fs)))
-    go (is_false k) ih = clash (sym (ap is_whole (rw k at e)))
-    go (is_true k) ih =
-        let fits : at ≤ length j = omega (arith, all) in
-        let room : room_for j u f ≡ true = le-leb at (length j) fits in
-        let same : lines_after j u f ≡ j = unfold-after room ∙ line-stands j (answer_line f) u (omega (arith, line-length f)) (take-front (answer_line f) (text_of fs) (drop u j) t) in
-        let w : command_with b f spare j u ≡ with_journal (command_of b f spare) j at = kept-counted k room ∙ ap (λ (x : List ℕ). with_journal (command_of b f spare) x at) same in
-        let x : exchange_with b j u (replay_call f) ≡ exchange_of b (replay_call f) = ap (λ (y : WithJournal). record { before = b; call = replay_call f; outcome = y.done.outcome; after = y.done.out }) w in
-        let behind : take (length (text_of fs)) (drop at j) ≡ text_of fs = ap (take (length (text_of fs))) there ∙ take_back (answer_line f) (text_of fs) (drop u j) t in
-        let r = ih (rw k at e) (omega (arith, all)) behind in
-        let r' : JournalRun (command_with b f spare j u).done.bus (command_with b f spare j u).journal (command_with b f spare j u).used (replay_history (command_of b f spare).bus (map frame fs)) d j (at + length (text_of fs)) =
-        subst (λ (y : WithJournal). JournalRun y.done.bus y.journal y.used (replay_history (command_of b f spare).bus (map frame fs)) d j (at + length (text_of fs))) (sym w) r in
-        let q : at + length (text_of fs) ≡ u + length (text_of (f ∷ fs)) = omega (arith, all) in
-        subst (λ (v : ℕ). JournalRun b j u (exchange_of b (replay_call f) ∷ replay_history (command_of b f spare).bus (map frame fs)) d j v) q
-        (subst (λ (y : Exchange). JournalRun b j u (y ∷ replay_history (command_of b f spare).bus (map frame fs)) d j (at + length (text_of fs))) x (next (replay_call f) r'))
-      where
-        unfold-after : room_for j u f ≡ true → lines_after j u f ≡ sets j u (answer_line f)
-        unfold-after z = after-room j f u z
-
-        kept-counted : counted b f spare ≡ true → room_for j u f ≡ true → command_with b f spare j u ≡ with_journal (command_of b f spare) (lines_after j u f) at
-        kept-counted y z = kept_there b f spare j u (le-ltb (length spare) answer_size spare-large) (leb-true at (length j) z) y z
-
-        there : drop at j ≡ drop (length (answer_line f)) (drop u j)
-        there = ap (λ (x : ℕ). drop (u + x) j) (sym (line-length f)) ∙ sym (drop-drop (length (answer_line f)) u j)
-
 -- EVERY RUN WITH A JOURNAL IS ONE FROM A FRESH BUS
 
-run_more : {b d : Bus} {j i : List ℕ} {u v : ℕ} {xs : List Exchange} → JournalRun b j u xs d i v → (c : Call) →
+pub run_more : {b d : Bus} {j i : List ℕ} {u v : ℕ} {xs : List Exchange} → JournalRun b j u xs d i v → (c : Call) →
     JournalRun b j u (xs ++ (exchange_with d i v c ∷ [])) (command_with d c.frame c.buffer i v).done.bus (command_with d c.frame c.buffer i v).journal (command_with d c.frame c.buffer i v).used
 run_more none c = next c none
 run_more (next e r) c = next e (run_more r c)
 
--- The journal that it began with: a fresh one, or the one that holds already what the recovery read.
-pub journalled-run : {xs : List Exchange} {d : Bus} {i : List ℕ} {v : ℕ} → Journalled xs d i v → (j : List ℕ) × JournalRun fresh_bus j 0 xs d i v
-journalled-run (begun j) = (j, none)
-journalled-run (resumed s j b n e l t) = (j, go (replay-frames (lines_in s) 0 n fresh_bus b e))
-  where
-    go : (fs : List (List ℕ)) × (lines_in s ≡ map frame fs) → JournalRun fresh_bus j 0 (replay_history fresh_bus (lines_in s)) b j (used_of s)
-    go (fs, q) =
-        let x = text-of s fs q in
-        let r : replay 0 fresh_bus (map frame fs) ≡ whole b n = subst (λ (ls : List Found). replay 0 fresh_bus ls ≡ whole b n) q e in
-        let front : take (length (text_of fs)) j ≡ text_of fs = ap (λ (k : ℕ). take k j) (sym x.used) ∙ t ∙ x.text in
-        let k : JournalRun fresh_bus j 0 (replay_history fresh_bus (map frame fs)) b j (0 + length (text_of fs)) = history-run fs 0 n fresh_bus b j 0 r (omega (arith, x.used)) front in
-        let u : 0 + length (text_of fs) ≡ used_of s = omega (arith, x.used) in
-        subst (λ (ls : List Found). JournalRun fresh_bus j 0 (replay_history fresh_bus ls) b j (used_of s)) (sym q) (subst (λ (y : ℕ). JournalRun fresh_bus j 0 (replay_history fresh_bus (map frame fs)) b j y) u k)
-journalled-run (more c r) = let k = journalled-run r in (k.0, run_more k.1 c)
-
 -- A counted frame was read, so its line is not too long.
-counted-short : (f : List ℕ) (b : Bus) (out : List ℕ) → ltb (length out) answer_size ≡ false → counted b f out ≡ true → 2 * length f ≤ most_digits
+pub counted-short : (f : List ℕ) (b : Bus) (out : List ℕ) → ltb (length out) answer_size ≡ false → counted b f out ≡ true → 2 * length f ≤ most_digits
 counted-short f b out e k = go (parse f) refl
   where
     go : (x : Parsed) → parse f ≡ x → 2 * length f ≤ most_digits
     go (Read c) p = let l : length f ≤ longest_frame = read_short f c p in omega (arith, l, longest-is)
     go (Refused m) p = clash (sym k ∙ refused-uncounted b f out e p)
 
-all-one-line-long : {b d : Bus} {j i : List ℕ} {u v : ℕ} {xs : List Exchange} → JournalRun b j u xs d i v → All (All Byte) (frames_of xs) → All OneLineLong (frames_of xs)
-unfolding frames_of
-all-one-line-long none a = tt
-all-one-line-long (next {b = b} {j = j} {u = u} {xs = xs} c r) a = go (appends b c j u) (λ h. all-one-line-long r h)
-  where
-    go : Appends b c j u → (All (All Byte) (frames_of xs) → All OneLineLong (frames_of xs)) → All OneLineLong (frames_of (exchange_with b j u c ∷ xs))
-    go (unchanged x y z w) ih = rw x (ih (rw x at a))
-    go (appended x y large z w) ih =
-        let h : All (All Byte) (c.frame ∷ frames_of xs) = rw x at a in
-        rw x ((counted-short c.frame b c.buffer large y, h.0), ih h.1)
-
--- THE THEOREMS
-
-pub kept-text-of : KeptText
-kept-text-of xs d i v r =
-    let k = journalled-run r in
-    let x = kept-text k.1 (omega arith) in
-    record { text = x.text; within = x.within }
-
-used-at : (fs : List (List ℕ)) (k : ℕ) (t : List ℕ) → All OneLineLong fs → NoLf t → (x : List ℕ) → x ≡ take k (text_of fs) → used_of (x ++ t) ≡ length (text_of (take (lfs x) fs))
+pub used-at : (fs : List (List ℕ)) (k : ℕ) (t : List ℕ) → All OneLineLong fs → NoLf t → (x : List ℕ) → x ≡ take k (text_of fs) → used_of (x ++ t) ≡ length (text_of (take (lfs x) fs))
 unfolding used_of
 used-at fs k t s q x f =
     let c = cut-before fs k t s q in
@@ -284,25 +208,8 @@ used-at fs k t s q x f =
     ap (λ (z : List ℕ). length z) (sym c.before) ∙ length-append (text_of (take (lfs y) fs)) (split (y ++ t)).rest in
     rw f (omega (arith, l))
 
-pub recovery-exact-of : RecoveryExact
-unfolding recovered
-recovery-exact-of xs d i v r a k t l q old z =
-    let y = journalled-run r in
-    let s = all-one-line-long y.1 a in
-    let e = recovery-exact y.0 xs d i v y.1 s k t l q in
-    let x = kept-text y.1 (omega arith) in
-    let f : take k i ≡ take k (text_of (frames_of xs)) = sym (take-take k v i l) ∙ ap (take k) x.text in
-    let u : used_of (take k i ++ t) ≡ length (text_of (take (lfs (take k i)) (frames_of xs))) = used-at (frames_of xs) k t s q (take k i) f in
-    rw (z, e, u) refl
-
-pub journal-demand : JournalDemand
-journal-demand xs b j u r = let y = journalled-run r in demand-three y.1 begins (omega arith)
-
-pub happened-journalled : HappenedJournalled
-happened-journalled xs b j u r = let y = journalled-run r in ran-happened (run_ran y.1 [] begins (omega arith))
-
 -- What holds of every exchange that was not answered 27, and of those that were, holds of all.
-all-fitting : (xs : List Exchange) → All (λ x. x.outcome.number ≡ EIO → ⊥) (fitting xs) → All (λ x. x.outcome.number ≡ EIO → ⊥) xs
+pub all-fitting : (xs : List Exchange) → All (λ x. x.outcome.number ≡ EIO → ⊥) (fitting xs) → All (λ x. x.outcome.number ≡ EIO → ⊥) xs
 all-fitting [] h = tt
 all-fitting (x ∷ xs) h = go (look (fits x)) (λ q. all-fitting xs q)
   where
@@ -310,13 +217,8 @@ all-fitting (x ∷ xs) h = go (look (fits x)) (λ q. all-fitting xs q)
     go (is_true z) ih = let q : All (λ y. y.outcome.number ≡ EIO → ⊥) (x ∷ fitting xs) = rw z at h in (q.0, ih q.1)
     go (is_false z) ih = (λ e. clash (ap (λ (n : ℕ). not (eqb n EFBIG)) (sym e) ∙ z), ih (rw z at h))
 
-pub never-five-journalled : NeverFiveJournalled
-never-five-journalled xs b j u r =
-    let y = journalled-run r in
-    all-fitting xs (never-five (fitting xs) b (run_ran y.1 [] begins (omega arith)))
-
 -- One command: 27 exactly where all else accepts it and the line has no room.
-counted-parts : (b : Bus) (f out : List ℕ) → counted b f out ≡ true → ((command_of b f out).outcome.number ≡ 0) × (is_question (parse f) ≡ false)
+pub counted-parts : (b : Bus) (f out : List ℕ) → counted b f out ≡ true → ((command_of b f out).outcome.number ≡ 0) × (is_question (parse f) ≡ false)
 unfolding counted
 counted-parts b f out h = go (look (is_question (parse f)))
   where
@@ -370,59 +272,16 @@ last-of-all b c j u l = go (look (ltb (length out) answer_size)) (look (counted 
     }
 
 -- Only the line is written.
-after-before : (j l : List ℕ) (u : ℕ) → u + length l ≤ length j → take u (sets j u l) ≡ take u j
+pub after-before : (j l : List ℕ) (u : ℕ) → u + length l ≤ length j → take u (sets j u l) ≡ take u j
 after-before j l u h =
     let n : length (take u j) ≡ u = length-take-le u j (omega arith) in
     ap (take u) (sets-eq l j u (omega arith) ∙ append_assoc (take u j) l (drop (u + length l) j)) ∙ take_at (take u j) (l ++ drop (u + length l) j) u n
 
-after-behind : (j l : List ℕ) (u : ℕ) → u + length l ≤ length j → drop (u + length l) (sets j u l) ≡ drop (u + length l) j
+pub after-behind : (j l : List ℕ) (u : ℕ) → u + length l ≤ length j → drop (u + length l) (sets j u l) ≡ drop (u + length l) j
 after-behind j l u h =
     let n : length (take u j) ≡ u = length-take-le u j (omega arith) in
     let m : length (take u j ++ l) ≡ u + length l = length-append (take u j) l ∙ ap (λ (x : ℕ). x + length l) n in
     ap (drop (u + length l)) (sets-eq l j u (omega arith)) ∙ drop_at (take u j ++ l) (drop (u + length l) j) (u + length l) m
-
-pub only-the-line : OnlyTheLine
-only-the-line b c j u l = go (appends b c j u) (look (is_question (parse c.frame)))
-  where
-    f : List ℕ
-    f = c.frame
-
-    k : WithJournal
-    k = command_with b f c.buffer j u
-
-    go : Appends b c j u → Seen (is_question (parse f)) → Untouched b c j u k
-    go (unchanged x y z w) a = record {
-      refused = λ n. (y, z, w);
-      asked = λ q. (y, z, w);
-      before = ap (take u) z;
-      behind = rw (z, w) refl;
-      long = ap (λ (i : List ℕ). length i) z;
-    }
-    go (appended x y large room w) (is_true a) = clash (sym a ∙ (counted-parts b f c.buffer y).1)
-    go (appended x y large room w) (is_false a) =
-        let h : u + (2 * length f + 1) ≤ length j = leb-true (u + (2 * length f + 1)) (length j) room in
-        let n : length (answer_line f) ≡ 2 * length f + 1 = line-length f in
-        let z : k.journal ≡ sets j u (answer_line f) = ap (λ (q : WithJournal). q.journal) w ∙ after-room j f u room in
-        let v : k.used ≡ u + (2 * length f + 1) = ap (λ (q : WithJournal). q.used) w in
-        let v' : k.used ≡ u + length (answer_line f) = v ∙ ap (λ (q : ℕ). u + q) (sym n) in
-        let s : u + length (answer_line f) ≤ length j = omega (arith, n) in
-        record {
-          refused = λ q. absurd (q (ap (λ (t : WithJournal). t.done.outcome.number) w ∙ (counted-parts b f c.buffer y).0));
-          asked = λ q. clash (sym q ∙ a);
-          before = ap (take u) z ∙ after-before j (answer_line f) u s;
-          behind = ap₂ (λ (p : ℕ) (i : List ℕ). drop p i) v' z ∙ after-behind j (answer_line f) u s ∙ ap (λ (p : ℕ). drop p j) (sym v');
-          long = ap (λ (i : List ℕ). length i) z ∙ length-sets j u (answer_line f);
-        }
-
--- Any bytes.
-pub runs-bus : RunsBus
-unfolding recovered
-runs-bus old s z = go (replay 0 fresh_bus (lines_in s)) refl
-  where
-    go : (x : Replayed) → replay 0 fresh_bus (lines_in s) ≡ x → (xs : List Exchange) × Ran xs (recovered old s).bus
-    go (whole b n) e = (replay_history fresh_bus (lines_in s), rw (z, e) (replay-ran (lines_in s) 0 n fresh_bus b [] e begins))
-    go (stopped d n) e = ([], rw (z, e) begins)
-    go (unread d n p) e = ([], rw (z, e) begins)
 
 pub stopped-fresh : StoppedFresh
 unfolding recovered

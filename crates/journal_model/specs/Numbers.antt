@@ -10,7 +10,8 @@ use Rattle.frames.specs.declared.Command.TheVariants.{Open, Disconnect, Create, 
 use Rattle.frames.specs.declared.Parsed.{Parsed}
 use Rattle.frames.specs.declared.Parsed.TheVariants.{Read, Refused}
 use Rattle.frames.specs.Frame.{parse, payload_of}
-use Rattle.frames.specs.Legal.{Outcome as Read-as, legal}
+use Rattle.frames.specs.Legal.{Outcome as Read-as}
+use Rattle.frames.proofs.Legal.{legal}
 use Rattle.answers.specs.Answer.{answer_size, outcome_of}
 use Rattle.model.specs.Numbers.{slots, nodes, owner, most_commands}
 use Rattle.model.specs.Lists.{every}

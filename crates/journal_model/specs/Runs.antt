@@ -1,8 +1,7 @@
 -- Runs with a journal are runs without one, but for the commands that were answered 27; so the third demand holds of them.
 -- Assumes nothing.
-use Rattle.std.specs.Prelude.{ℕ, suc, ◌+◌, ◌≤◌, ◌≡◌, refl, Bool, true, false, not, ◌⊎◌, List, [], ◌∷◌, ◌++◌, length, eqb, ltb}
+use Rattle.std.specs.Prelude.{ℕ, suc, ◌≤◌, ◌≡◌, refl, Bool, true, false, not, ◌⊎◌, List, [], ◌∷◌, ◌++◌, length, eqb, ltb}
 use Rattle.std.proofs.Common.{sym, ap, subst, ◌∙◌, append_assoc, append-nil, ltb-false, le-ltb, ne_eqb}
-use Rattle.std.proofs.Math.Logic.◌⊎◌.{inl, inr}
 use Rattle.laws.specs.Tests.{Seen, Seen.is_true, Seen.is_false, look, clash}
 use Rattle.laws.specs.Weights.{keep}
 use Rattle.ids.specs.Refusals.{EFBIG}
@@ -10,14 +9,14 @@ use Rattle.lines.specs.Line.{room_for}
 use Rattle.lines.specs.Chunks.{Found, Found.frame, Found.bad}
 use Rattle.answers.specs.Answer.{answer_size, outcome_of}
 use Rattle.model.specs.Step.{Call}
-use Rattle.model.specs.Book.{Book, empty, feed, feed_all}
+use Rattle.model.specs.Book.{Book, feed, feed_all}
 use Rattle.view.specs.View.{Bus}
 use Rattle.bus_model.specs.Command.{Done, refused_by, command_of}
 use Rattle.bus_model.specs.Ran.{Exchange, fed_of, exchange_of, Ran, Ran.goes}
 use Rattle.bus_model.specs.Histories.{history_of}
-use Rattle.bus_model.specs.Third.{book, Next, Demanded, code-demanded, code-next}
+use Rattle.bus_model.specs.Third.{book, Next, Demanded}
 use Rattle.journal_model.specs.Journal.{counted, appended_of, obeyed_with, command_with, spare, Replayed, Replayed.whole, Replayed.stopped, Replayed.unread, replay}
-use Rattle.journal_model.specs.Exact.{exchange_with, JournalRun, JournalRun.none, JournalRun.next, kept-text}
+use Rattle.journal_model.specs.Exact.{exchange_with}
 use Rattle.journal_model.specs.Numbers.{never-full}
 
 -- What comes of a command with a journal is what comes of it without one; or it is refused with 27, and the bus stays.
@@ -43,10 +42,6 @@ same-or-full b c j u l = go (look (ltb (length c.buffer) answer_size)) (look (co
     go (is_false e) (is_true k) (is_true r) = same (rw (e, in-range, k, r) refl)
     go (is_false e) (is_true k) (is_false r) = full (rw (e, in-range, k, r) refl) (ltb-false (length c.buffer) answer_size e)
 
--- The used length stays within the journal.
-within : (b : Bus) (c : Call) (j : List ℕ) (u : ℕ) → u ≤ length j → (command_with b c.frame c.buffer j u).used ≤ length (command_with b c.frame c.buffer j u).journal
-within b c j u l = (kept-text (next {b = b} {j = j} {u = u} c none) l).within
-
 -- The exchanges but those that were answered 27.
 abbrev pub fits : Exchange → Bool
 fits x = not (eqb x.outcome.number EFBIG)
@@ -54,38 +49,22 @@ fits x = not (eqb x.outcome.number EFBIG)
 abbrev pub fitting : List Exchange → List Exchange
 fitting xs = keep fits xs
 
-full-unfit : (b : Bus) (c : Call) (j : List ℕ) (u : ℕ) → (command_with b c.frame c.buffer j u).done ≡ refused_by EFBIG b c.buffer → answer_size ≤ length c.buffer →
+pub full-unfit : (b : Bus) (c : Call) (j : List ℕ) (u : ℕ) → (command_with b c.frame c.buffer j u).done ≡ refused_by EFBIG b c.buffer → answer_size ≤ length c.buffer →
     fits (exchange_with b j u c) ≡ false
 full-unfit b c j u e l = ap (λ (n : ℕ). not (eqb n EFBIG)) (ap (λ (d : Done). d.outcome.number) e ∙ refused-number EFBIG b c.buffer l)
 
-same-exchange : (b : Bus) (c : Call) (j : List ℕ) (u : ℕ) → (command_with b c.frame c.buffer j u).done ≡ command_of b c.frame c.buffer → exchange_with b j u c ≡ exchange_of b c
+pub same-exchange : (b : Bus) (c : Call) (j : List ℕ) (u : ℕ) → (command_with b c.frame c.buffer j u).done ≡ command_of b c.frame c.buffer → exchange_with b j u c ≡ exchange_of b c
 same-exchange b c j u e = ap (λ (d : Done). record { before = b; call = c; outcome = d.outcome; after = d.out }) e
 
-command-fits : (b : Bus) (c : Call) → fits (exchange_of b c) ≡ true
+pub command-fits : (b : Bus) (c : Call) → fits (exchange_of b c) ≡ true
 command-fits b c = ap not (ne_eqb (command_of b c.frame c.buffer).outcome.number EFBIG (never-full b c.frame c.buffer))
-
--- A run with a journal that goes on from a run.
-pub run_ran : {ys : List Exchange} {b d : Bus} {j i : List ℕ} {u v : ℕ} → JournalRun b j u ys d i v → (zs : List Exchange) → Ran zs b → u ≤ length j → Ran (zs ++ fitting ys) d
-run_ran none zs r l = rw append-nil r
-run_ran {d = d} (next {b = b} {j = j} {u = u} {xs = xs} c k) zs r l = go (same-or-full b c j u l) (λ ts q. run_ran k ts q (within b c j u l))
-  where
-    go : SameOrFull b c j u → ((ts : List Exchange) → Ran ts (command_with b c.frame c.buffer j u).done.bus → Ran (ts ++ fitting xs) d) →
-        Ran (zs ++ fitting (exchange_with b j u c ∷ xs)) d
-    go (full e h) ih =
-        let z : fits (exchange_with b j u c) ≡ false = full-unfit b c j u e h in
-        let same : (command_with b c.frame c.buffer j u).done.bus ≡ b = ap (λ (y : Done). y.bus) e in
-        rw z (ih zs (rw same r))
-    go (same e) ih =
-        let x : exchange_with b j u c ≡ exchange_of b c = same-exchange b c j u e in
-        let z : fits (exchange_of b c) ≡ true = command-fits b c in
-        rw (x, z) (rw (sym (append_assoc zs (exchange_of b c ∷ []) (fitting xs))) (ih (zs ++ (exchange_of b c ∷ [])) (rw e (goes c r))))
 
 -- The book is the same: it is fed nothing of a refused command.
 skipped : (k : Book) (x : Exchange) → fits x ≡ false → feed k (fed_of x) ≡ k
 unfolding feed
 skipped k x e = rw (ne_eqb x.outcome.number 0 (λ z. clash (ap (λ (n : ℕ). not (eqb n EFBIG)) (sym z) ∙ e))) refl
 
-book-same : (ys : List Exchange) (k : Book) → feed_all k (history_of ys) ≡ feed_all k (history_of (fitting ys))
+pub book-same : (ys : List Exchange) (k : Book) → feed_all k (history_of ys) ≡ feed_all k (history_of (fitting ys))
 unfolding feed_all
 book-same [] k = refl
 book-same (x ∷ ys) k = go (look (fits x)) (λ m. book-same ys m)
@@ -101,16 +80,6 @@ pub record DemandThree (xs : List Exchange) (b : Bus) (j : List ℕ) (u : ℕ) :
   pub same : book xs ≡ book (fitting xs)
   -- The next command: it is refused with 27, or demanded is of it what is demanded of one without a journal.
   pub next : (c : Call) → ((command_with b c.frame c.buffer j u).done ≡ refused_by EFBIG b c.buffer) ⊎ Next (fitting xs) (exchange_with b j u c)
-
-pub demand-three : {ys : List Exchange} {b d : Bus} {j i : List ℕ} {u v : ℕ} → JournalRun b j u ys d i v → Ran [] b → u ≤ length j → DemandThree ys d i v
-demand-three {ys = ys} {d = d} {i = i} {v = v} k r l =
-    let q : Ran (fitting ys) d = run_ran k [] r l in
-    record { run = code-demanded (fitting ys) d q; same = book-same ys empty; next = λ c. go c (same-or-full d c i v (kept-text k l).within) (code-next (fitting ys) d q c) }
-  where
-    go : (c : Call) → SameOrFull d c i v → Next (fitting ys) (exchange_of d c) →
-        ((command_with d c.frame c.buffer i v).done ≡ refused_by EFBIG d c.buffer) ⊎ Next (fitting ys) (exchange_with d i v c)
-    go c (full e h) n = inl e
-    go c (same e) n = inr (subst (λ (x : Exchange). Next (fitting ys) x) (sym (same-exchange d c i v e)) n)
 
 -- The history of a recovery: the journal's frames with the answers that carrying them out gives.
 abbrev pub replay_call : List ℕ → Call

@@ -1,7 +1,7 @@
 -- What stops a recovery, and what is kept: by the bytes of a frame, so that no definition above decides it.
 -- Assumes nothing.
-use Rattle.std.specs.Prelude.{ℕ, suc, ◌+◌, ◌≡◌, refl, true, false, List, [], ◌∷◌, ◌++◌}
-use Rattle.std.proofs.Common.{sym, ap, ap₂, ◌∙◌}
+use Rattle.std.specs.Prelude.{ℕ, suc, ◌≡◌, refl, true, false, List, [], ◌∷◌, ◌++◌}
+use Rattle.std.proofs.Common.{sym, ap, ap₂}
 use Rattle.laws.specs.Tests.{Seen, Seen.is_true, Seen.is_false, look, clash}
 use Rattle.frames.specs.Frame.{frame_length, parse_open, parse_quota, parse_rest, parse_other, parse}
 use Rattle.lines.specs.Chunks.{Found, Found.frame, Found.bad}
@@ -33,7 +33,7 @@ pub record Questions : Type 0 where
   pub uncounted : (b : Bus) (f out : List ℕ) → is_question (parse f) ≡ true → counted b f out ≡ false
 
 -- Lines behind lines.
-replay-behind : (ls ks : List Found) (m n : ℕ) (b d : Bus) → replay m b ls ≡ whole d n → replay m b (ls ++ ks) ≡ replay n d ks
+pub replay-behind : (ls ks : List Found) (m n : ℕ) (b d : Bus) → replay m b ls ≡ whole d n → replay m b (ls ++ ks) ≡ replay n d ks
 unfolding replay
 replay-behind [] ks m n b d e =
     let x : b ≡ d = ap (λ (r : Replayed). bus_found r) e in
@@ -51,14 +51,6 @@ replay-behind (frame f ∷ ls) ks m n b d e = go (look (counted b f spare)) (λ 
         replay m b (frame f ∷ (ls ++ ks)) ≡ replay n d ks
     go (is_false k) ih = clash (sym (ap is_whole (rw k at e)))
     go (is_true k) ih = rw k (ih (rw k at e))
-
-pub line-stops : LineStops
-unfolding recovered replay
-line-stops old s f ls ks d n z e h k = let q : replay 0 fresh_bus (lines_in s) ≡ stopped d (suc n) = ap (replay 0 fresh_bus) e ∙ replay-behind ls (frame f ∷ ks) 0 n fresh_bus d h ∙ rw k refl in rw (z, q) refl
-
-pub unread-stops : UnreadStops
-unfolding recovered replay
-unread-stops old s place ls ks d n z e h = let q : replay 0 fresh_bus (lines_in s) ≡ unread d (suc n) place = ap (replay 0 fresh_bus) e ∙ replay-behind ls (bad place ∷ ks) 0 n fresh_bus d h in rw (z, q) refl
 
 pub questions : Questions
 unfolding parse counted parse_other frame_length parse_rest parse_quota parse_open

@@ -24,7 +24,8 @@ use Rattle.tables.specs.PeersView.{status_v, accepted_v, status-is, present-is, 
 use Rattle.tables.specs.Nodes.{live_at}
 use Rattle.tables.specs.NodesView.{live-is}
 use Rattle.tables.specs.Handles.{count_at, lookup, find_at}
-use Rattle.tables.specs.HandlesView.{count-is, lookup-at, lookup-nothing}
+use Rattle.tables.specs.HandlesView.{count-is}
+use Rattle.tables.proofs.HandlesView.{lookup-at, lookup-nothing}
 use Rattle.seeds.specs.Seeds.{area_at, set_at, count_at as seed_count, bytes_at, slots_at, piece_at, seed_v}
 use Rattle.seeds.specs.Code.{slots_length}
 use Rattle.seeds.specs.SeedsView.{seed-set, seed-unset}

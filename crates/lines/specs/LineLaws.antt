@@ -221,9 +221,6 @@ digit-high c d h =
 pub value_low : (c : ℕ) → is_digit c ≡ true → c < 58 → (c - 48 ≡ digit_value c) × (c - 48 < 16)
 value_low c d h = (rw (lt-ltb c 58 h), omega arith)
 
-pub value-high : (c : ℕ) → is_digit c ≡ true → 58 ≤ c → (c - 87 ≡ digit_value c) × (c - 87 < 16)
-value-high c d h = (rw (le-ltb c 58 h), omega (arith, digit-high c d h))
-
 -- room for a line, tested without a sum that may not fit
 pub room-same : (n at m : ℕ) → at < n → leb m ((n - at - 1) / 2) ≡ leb (at + (2 * m + 1)) n
 room-same n at m h = go (look (leb m ((n - at - 1) / 2)))

@@ -2,19 +2,19 @@
 -- Assumes nothing.
 use Rattle.std.specs.Prelude.{ℕ, zero, suc, ◌+◌, ◌*◌, ◌/◌, ◌%◌, ◌≤◌, ◌<◌, min, ◌≡◌, true, not, List, [], ◌∷◌, ◌++◌, get_or, ltb}
 use Rattle.std.proofs.Math.Path.{refl, sym, ap}
-use Rattle.std.proofs.Common.{ap₂, ◌∙◌, arith, not-suc-le-zero, le_of_suc-le-suc}
+use Rattle.std.proofs.Common.{◌∙◌, arith, not-suc-le-zero, le_of_suc-le-suc}
 use Rattle.std.proofs.Math.Bool.{false}
 use Rattle.std.proofs.Math.ListN.{length, take, length-append, get_or-append}
-use Rattle.std.proofs.Math.Seq.{append_snoc, take_at}
+use Rattle.std.proofs.Math.Seq.{take_at}
 use Rattle.std.proofs.lemmas.List.{get_or_at}
 use Rattle.std.proofs.Math.Dec.{eqb}
 use borrow.Author.Tests.{ltb-true, ltb-false, eq-eqb, ne_eqb, lt-ltb, le-ltb, le-leb}
 use Rattle.laws.specs.Tests.{Seen, Seen.is_true, Seen.is_false, look}
 use Rattle.laws.specs.Weights.{All, all-at}
 use Rattle.laws.specs.Search.{first-is}
-use Rattle.laws.specs.Build.{build, build-ext, build-list}
-use Rattle.lines.specs.Line.{lf, most_digits, is_digit, digit_value, fault_place, line_length, pair_at, line_read, read_line, digit_of, digits_of, answer_line}
-use Rattle.lines.specs.LineLaws.{bad_at, lf_at, fault-is, digit-no-lf, digits-length}
+use Rattle.laws.specs.Build.{build}
+use Rattle.lines.specs.Line.{lf, most_digits, is_digit, digit_value, fault_place, line_length, pair_at, line_read, read_line, digit_of, digits_of}
+use Rattle.lines.specs.LineLaws.{bad_at, lf_at, fault-is, digit-no-lf}
 use Rattle.lines.specs.declared.LineRead.TheVariants.{Frame, Bad}
 
 pub record ReadBack (f s : List ℕ) : Type 0 where
@@ -47,11 +47,6 @@ Byte b = b < 256
 
 abbrev pub IsDigit : ℕ → Type 0
 IsDigit c = is_digit c ≡ true
-
-pub digits-all : (f : List ℕ) → All Byte f → All IsDigit (digits_of f)
-unfolding digits_of
-digits-all [] h = tt
-digits-all (b ∷ f) h = ((digit-back (b / 16) (omega (arith, h.0))).is, ((digit-back (b % 16) (omega arith)).is, digits-all f h.1))
 
 -- a list of digits with an LF behind it
 module _ (l r : List ℕ) (h : All IsDigit l) where
@@ -99,38 +94,7 @@ digits-lower [] k h = absurd (not-suc-le-zero h)
 digits-lower (b ∷ f) zero h = refl
 digits-lower (b ∷ f) (suc k) h = let e : 2 * suc k + 1 ≡ suc (suc (2 * k + 1)) = omega arith in rw e (digits-lower f k (le_of_suc-le-suc h))
 
-pub round_trip : (f r : List ℕ) → length f ≤ 646 → All (λ b. b < 256) f → ReadBack f (answer_line f ++ r)
-round_trip f r h all = rw (append_snoc (digits_of f) lf r) record { read = reads; bytes = same }
-  where
-    n : length (digits_of f) ≡ 2 * length f
-    n = digits-length f
-
-    s : List ℕ
-    s = digits_of f ++ lf ∷ r
-
-    reads : read_line s ≡ Frame (length f) (2 * length f + 1)
-    reads =
-        digits-read (digits_of f) r (digits-all f all) (omega (arith, n)) (omega (arith, n))
-        ∙ ap₂ Frame (omega (arith, n)) (omega (arith, n))
-
-    pair : (j : ℕ) → j < length f → pair_at s j ≡ get_or f j 0
-    pair j k =
-        let b : get_or f j 0 < 256 = all-at Byte f j 0 all k in
-        let x : digit_value (get_or s (2 * j) 0) ≡ get_or f j 0 / 16 =
-        ap digit_value (get_or-append (digits_of f) (lf ∷ r) 0 (2 * j) (omega (arith, n)) ∙ digits-high f j k)
-        ∙ (digit-back (get_or f j 0 / 16) (omega arith)).value in
-        let y : digit_value (get_or s (2 * j + 1) 0) ≡ get_or f j 0 % 16 =
-        ap digit_value (get_or-append (digits_of f) (lf ∷ r) 0 (2 * j + 1) (omega (arith, n)) ∙ digits-lower f j k)
-        ∙ (digit-back (get_or f j 0 % 16) (omega arith)).value in
-        rw (x, y) (omega arith)
-
-    same : build (pair_at s) (length f) ≡ f
-    same = build-ext (pair_at s) (λ j. get_or f j 0) (length f) pair ∙ build-list 0 f
-
 -- The digits of bytes have no LF among them.
-plain-all : (l : List ℕ) → All IsDigit l → All (λ c. eqb c lf ≡ false) l
+pub plain-all : (l : List ℕ) → All IsDigit l → All (λ c. eqb c lf ≡ false) l
 plain-all [] h = tt
 plain-all (c ∷ l) h = (digit-no-lf (c ∷ []) 0 (ap not h.0), plain-all l h.1)
-
-pub digits-plain : (f : List ℕ) → All Byte f → All (λ c. eqb c lf ≡ false) (digits_of f)
-digits-plain f h = plain-all (digits_of f) (digits-all f h)

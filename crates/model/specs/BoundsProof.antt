@@ -1,30 +1,20 @@
 -- Bounds of the counts and of the given IDs in every run.
 -- Assumes nothing.
-use Rattle.model.specs.Founded.{Founded}
-use Rattle.std.specs.Prelude.{ℕ, suc, ◌+◌, ◌-◌, ◌*◌, ◌≤◌, ◌<◌, ◌≡◌, false, List, [], ◌∷◌, length, eqb}
+use Rattle.std.specs.Prelude.{ℕ, suc, ◌+◌, ◌-◌, ◌*◌, ◌≤◌, ◌<◌, ◌≡◌, List, [], ◌∷◌, length, eqb}
 use Rattle.std.proofs.Math.Path.{refl}
 use Rattle.std.proofs.Common.{◌∙◌, arith}
-use Rattle.laws.specs.Tests.{pick, Seen, Seen.is_true, Seen.is_false, look, clash, pick_all}
+use Rattle.laws.specs.Tests.{pick, Seen, Seen.is_true, Seen.is_false, look, pick_all}
 use Rattle.laws.specs.Tables.{upd, upd_same, upd_other, upd-all}
 use Rattle.laws.specs.Weights.{All}
-use Rattle.frames.specs.declared.Command.{Command}
-use Rattle.frames.specs.declared.Command.TheVariants.{Open, Disconnect, Create, Destroy, Release, Transfer, Send, Receive, Quota, Holders, ShowSeed}
 use Rattle.frames.specs.Frame.{most_ids}
-use Rattle.frames.specs.Legal.{Legal}
-use Rattle.model.specs.Numbers.{peers, slots, most_commands, invalid, next_id}
-use Rattle.model.specs.State.{Handle, Handle.none, Handle.some, handle_of, held, count, Entry, Entry.message, Entry.destroyed, Entry.released, State, start, slot, total, free_place, seed_carries, Seed, Seed.unset}
-use Rattle.model.specs.Refusals.{refusal}
-use Rattle.model.specs.Tables.{accept, with_status, with_user, with_handles, with_handle, with_given, with_queues, with_charges, with_lives, with_seed}
-use Rattle.model.specs.Changes.{push, push_all, take_out, withdraw, shown, given_after, give, give_all, forget, fell, notify, notify_all, destroy_all, deliver, valid, settled}
-use Rattle.model.specs.Effects.{opens, creates, destroys, releases, releases_handle, disconnects, receives, effect}
-use Rattle.model.specs.Step.{Call, run}
-use Rattle.model.specs.Tested.{tested}
-use Rattle.model.specs.Accepted.{Kept, induction}
+use Rattle.model.specs.Numbers.{peers, slots, most_commands}
+use Rattle.model.specs.State.{Handle, Handle.none, Handle.some, handle_of, count, Entry, Entry.message, Entry.destroyed, Entry.released, State, start, total, free_place, Seed}
+use Rattle.model.specs.Tables.{accept, with_status, with_handles, with_handle, with_given, with_queues, with_charges, with_lives, with_seed}
+use Rattle.model.specs.Changes.{push, push_all, take_out, withdraw, shown, given_after, give, give_all, forget, fell, notify, notify_all, destroy_all, valid, settled}
+use Rattle.model.specs.Effects.{creates, releases, releases_handle, disconnects, receives}
 use Rattle.model.specs.Notices.{Stands, Noted}
 use Rattle.model.specs.Occurs.{sum-zero, sum_more}
-use Rattle.model.specs.Counts.{put, total-one, total-more, count-handle}
-use Rattle.model.specs.NoticesFree.{holder-peer}
-use Rattle.model.specs.NoticesProof.{noted, sound-start, sound-kept}
+use Rattle.model.specs.Counts.{put, total-more, count-handle}
 use Rattle.model.specs.Bounds.{Bounded}
 
 -- Numbers that a change raises by at most d.
@@ -40,14 +30,14 @@ raised-trans a b c d e x y =
 raised-more : (b c : State) (d e : ℕ) → Raised b c d → d ≤ e → Raised b c e
 raised-more b c d e x l = record { accepted = x.accepted; sums = λ s. omega (arith, x.sums s); given = λ p. omega (arith, x.given p) }
 
-raised-none : (b c : State) → c.accepted ≡ b.accepted → c.handle ≡ b.handle → c.given ≡ b.given → Raised b c 0
+pub raised-none : (b c : State) → c.accepted ≡ b.accepted → c.handle ≡ b.handle → c.given ≡ b.given → Raised b c 0
 raised-none b c e h g = record { accepted = e; sums = λ s. rw h (omega arith); given = λ p. rw g (omega arith) }
 
 given-more : (x : Handle) (n : ℕ) → given_after x n ≤ n + 1
 given-more none n = omega arith
 given-more (some i c) n = omega arith
 
-raised-give : (b : State) (p as_of s : ℕ) → Raised b (give b p as_of s) 1
+pub raised-give : (b : State) (p as_of s : ℕ) → Raised b (give b p as_of s) 1
 unfolding give withdraw with_queues with_handles with_given
 raised-give b p as_of s = go (look (valid b p as_of s))
   where
@@ -61,13 +51,13 @@ raised-give b p as_of s = go (look (valid b p as_of s))
           given = upd-all (λ q n. n ≤ b.given q + 1) b.given p (given_after (b.handle p s) (b.given p)) (λ q. omega arith) (given-more (b.handle p s) (b.given p));
         })
 
-raised-give_all : (b : State) (p as_of : ℕ) (ss : List ℕ) → Raised b (give_all b p as_of ss) (length ss)
+pub raised-give_all : (b : State) (p as_of : ℕ) (ss : List ℕ) → Raised b (give_all b p as_of ss) (length ss)
 raised-give_all b p as_of [] = raised-none b b refl refl refl
 raised-give_all b p as_of (s ∷ ss) =
     raised-more b (give_all (give b p as_of s) p as_of ss) (1 + length ss) (suc (length ss))
     (raised-trans b (give b p as_of s) (give_all (give b p as_of s) p as_of ss) 1 (length ss) (raised-give b p as_of s) (raised-give_all (give b p as_of s) p as_of ss)) (omega arith)
 
-raised-receive : (b : State) (p : ℕ) (q : List Entry) → Noted b → b.queue p ≡ q → Raised b (receives b p q) most_ids
+pub raised-receive : (b : State) (p : ℕ) (q : List Entry) → Noted b → b.queue p ≡ q → Raised b (receives b p q) most_ids
 unfolding take_out with_charges with_queues
 raised-receive b p [] n e = raised-more b b 0 most_ids (raised-none b b refl refl refl) (omega arith)
 raised-receive b p (destroyed k s ∷ q) n e = raised-more b (take_out b p [] q) 0 most_ids (raised-none b (take_out b p [] q) refl refl refl) (omega arith)
@@ -81,7 +71,7 @@ raised-receive b p (message k m ∷ q) n e =
     (raised-trans b c d 0 (length m.carried) (raised-none b c refl refl refl) (raised-give_all c p k m.carried))
     (unfold settled in raised-none d _ refl refl refl)) (omega (arith, a.0.2.0))
 
-raised-create : (b : State) (p i : ℕ) → Raised b (creates b p i) 1
+pub raised-create : (b : State) (p i : ℕ) → Raised b (creates b p i) 1
 unfolding creates with_handles with_lives
 raised-create b p i =
     record { accepted = refl; given = λ q. omega arith; sums = total-more b.handle p (p * slots + free_place b p) (handle_of i 1) 1 (omega arith) }
@@ -109,11 +99,11 @@ raised-release b p s i c e = raised-trans b now (notify b now s) 0 0 less (raise
         pick_all (λ x. Raised b x 0) (eqb c 1) (forget down p s) down (record { accepted = refl; sums = under; given = λ p. omega arith })
         (record { accepted = refl; sums = under; given = λ p. omega arith })
 
-raised-releases : (b : State) (p s : ℕ) (x : Handle) → b.handle p s ≡ x → Raised b (releases_handle b p s x) 0
+pub raised-releases : (b : State) (p s : ℕ) (x : Handle) → b.handle p s ≡ x → Raised b (releases_handle b p s x) 0
 raised-releases b p s none e = raised-none b b refl refl refl
 raised-releases b p s (some i c) e = raised-release b p s i c e
 
-raised-disconnect : (b : State) (p : ℕ) → Raised b (disconnects b p) 0
+pub raised-disconnect : (b : State) (p : ℕ) → Raised b (disconnects b p) 0
 unfolding disconnects notify_all push_all with_status with_handles take_out with_charges with_queues destroy_all with_lives withdraw
 raised-disconnect b p = record { accepted = refl; given = λ q. omega arith; sums = less }
   where
@@ -123,72 +113,17 @@ raised-disconnect b p = record { accepted = refl; given = λ q. omega arith; sum
         sum_more (λ q. count (upd b.handle p (λ s. none) q s)) (λ q. count (b.handle q s)) p 0 peers
         (λ q z. rw (upd_other b.handle p q (λ s. none) z) (omega arith)) (rw upd_same (omega arith))
 
-raised-seed : (b c : State) (p : ℕ) (x : Seed) (d : ℕ) → Raised b c d → Raised b (with_seed c p x) d
+pub raised-seed : (b c : State) (p : ℕ) (x : Seed) (d : ℕ) → Raised b c d → Raised b (with_seed c p x) d
 unfolding with_seed
 raised-seed b c p x d r = record { accepted = r.accepted; sums = r.sums; given = r.given }
 
 -- One more command, that raises the numbers by at most 8.
-bounded-next : (b c : State) (d : ℕ) → Bounded b → b.accepted < most_commands → Raised (accept b) c d → d ≤ most_ids → Bounded c
+pub bounded-next : (b c : State) (d : ℕ) → Bounded b → b.accepted < most_commands → Raised (accept b) c d → d ≤ most_ids → Bounded c
 unfolding accept
 bounded-next b c d n l r m =
     let e : c.accepted ≡ suc b.accepted = r.accepted in
     record { few = omega arith; sums = λ s. rw e (omega (arith, n.sums s, r.sums s)); given = λ p. rw e (omega (arith, n.given p, r.given p)) }
 
-bounded-start : Bounded start
+pub bounded-start : Bounded start
 unfolding start total
 bounded-start = record { few = omega arith; given = λ p. omega arith; sums = λ s. omega (arith, sum-zero peers) }
-
-bounded-kept : Kept (λ b. (Noted b × Founded b) × Bounded b)
-unfolding effect
-bounded-kept b f k x g e = (sound-kept b f k x.0 g e, go k g e)
-  where
-    go : (k : Command) → Legal f k → refusal b f k ≡ 0 → Bounded (effect b f k)
-    go (Open p u) g e =
-        bounded-next b (opens (accept b) p.0 u.0) 0 x.1 (tested b f (Open p u) e).room
-        (unfold opens with_user with_status in raised-none (accept b) _ refl refl refl) (omega arith)
-    go (Disconnect p) g e = bounded-next b _ 0 x.1 (tested b f (Disconnect p) e).room (raised-seed (accept b) _ p.0 unset 0 (raised-disconnect (accept b) p.0)) (omega arith)
-    go (Create p i) g e = bounded-next b _ 1 x.1 (tested b f (Create p i) e).acting.room (raised-create (accept b) p.0 i.0) (omega arith)
-    go (Destroy p i) g e =
-        bounded-next b (destroys (accept b) p.0 (slot b p.0 i.0)) 0 x.1 (tested b f (Destroy p i) e).acting.room
-        (unfold destroys destroy_all push_all with_queues with_lives withdraw in raised-none (accept b) _ refl refl refl) (omega arith)
-    go (Release p i) g e =
-        bounded-next b _ 0 x.1 (tested b f (Release p i) e).acting.room
-        (raised-releases (accept b) p.0 (slot b p.0 i.0) (b.handle p.0 (slot b p.0 i.0)) (unfold accept in refl)) (omega arith)
-    go (Transfer p i q) g e = bounded-next b _ 1 x.1 (tested b f (Transfer p i q) e).acting.room (raised-give (accept b) q.0 (suc b.accepted) (slot b p.0 i.0)) (omega arith)
-    go (Send p z) g e =
-        bounded-next b (effect b f (Send p z)) 0 x.1 (tested b f (Send p z) e).acting.room
-        (pick_all (λ y. Raised (accept b) y 0) (eqb z.nd 0) _ _ (unfold with_seed deliver with_charges push_all with_queues in raised-none (accept b) _ refl refl refl)
-        (unfold deliver with_charges push_all with_queues in raised-none (accept b) _ refl refl refl))
-        (omega arith)
-    go (Receive p room) g e =
-        bounded-next b _ most_ids x.1 (tested b f (Receive p room) e).acting.room
-        (raised-receive (accept b) p.0 (b.queue p.0) (unfold accept in x.0.0) (unfold accept in refl)) (omega arith)
-    go (Quota p u) g e = x.1
-    go (Holders p i) g e = x.1
-    go (ShowSeed p room) g e =
-        bounded-next b _ (length (seed_carries (b.seed p.0))) x.1 (tested b f (ShowSeed p room) e).acting.room
-        (raised-give_all (accept b) p.0 (suc b.accepted) (seed_carries (b.seed p.0))) (x.0.0.seeds p.0).0
-
-pub bounded : (cs : List Call) → Bounded (run cs)
-bounded cs = (induction (λ b. (Noted b × Founded b) × Bounded b) (sound-start, bounded-start) bounded-kept cs).1
-
--- In plain numbers: 8 * (2^40 - 1) for a node's sum of counts and for a peer's given IDs, and so for one count; the next ID is below the invalid one.
-pub sum_bound : (cs : List Call) (s : ℕ) → total (run cs).handle s ≤ 8796093022200
-sum_bound cs s = omega (arith, (bounded cs).few, (bounded cs).sums s)
-
-pub given-bound : (cs : List Call) (p : ℕ) → (run cs).given p ≤ 8796093022200
-given-bound cs p = omega (arith, (bounded cs).few, (bounded cs).given p)
-
-pub next-bound : (cs : List Call) (p : ℕ) → next_id ((run cs).given p) < invalid
-next-bound cs p = omega (arith, given-bound cs p)
-
-pub count-bound : (cs : List Call) (p s : ℕ) → count ((run cs).handle p s) ≤ 8796093022200
-count-bound cs p s = go (look (held ((run cs).handle p s)))
-  where
-    unheld : (x : Handle) → held x ≡ false → count x ≡ 0
-    unheld none e = refl
-    unheld (some i c) e = clash e
-
-    go : Seen (held ((run cs).handle p s)) → count ((run cs).handle p s) ≤ 8796093022200
-    go (is_false e) = omega (arith, unheld ((run cs).handle p s) e)
-    go (is_true e) = omega (arith, total-one (run cs).handle s p (holder-peer (run cs) p s (noted cs) e), sum_bound cs s)

@@ -1,8 +1,7 @@
 -- The statements about the order, met by a history: peer 0 sends its node 8 to peer 1, which has no handle to it, and destroys it. Peer 1 is told: it takes out the message, which installs the
 -- handle, and then the notice with the ID that the message showed.
 -- Assumes nothing.
-use Rattle.std.specs.Prelude.{◌≡◌, refl, ◌⊎◌, List, [], ◌∷◌, ◌++◌, map}
-use Rattle.std.proofs.Common.{arith}
+use Rattle.std.specs.Prelude.{refl, List, [], ◌∷◌, ◌++◌, map}
 use Rattle.laws.specs.Tables.{upd}
 use Rattle.laws.specs.Sums.{sum_to}
 use Rattle.laws.specs.Build.{build}
@@ -23,15 +22,9 @@ use Rattle.model.specs.Book.{Node, Fed, empty, put_handle, to_received, to_dropp
 use Rattle.model.specs.Claim.{history_from}
 use Rattle.model.specs.Ledger.{blank_ledger, ledger_create, ledger_destroy, ledger_release, cleared, valid_at, due_id, ledger_give, ledger_queues, ledger_counted, enter, with_book, feed_ledger, feed_ledger_all, ledger_seed}
 use Rattle.model.specs.Scripts.{opening, create, destroy, send, receive, transfer, number, gives, takes, destroyed_at, calls}
-use Rattle.model.specs.Rows.{ledger_of}
-use Rattle.model.specs.Happened.{Happened, happened-front}
+use Rattle.model.specs.Happened.{Happened}
 use Rattle.model.specs.ShowsWorked.{accepted}
-use Rattle.model.specs.Delivered.{Delivered}
-use Rattle.model.specs.DeliveredProof.{delivers}
-use Rattle.model.specs.Waiting.{notices_of}
-use Rattle.model.specs.ByOrder.{ShownByOrder, Told, Destruction, BeenTold}
-use Rattle.model.specs.ByOrderProof.{shows-by-order}
-use Rattle.model.specs.ByOrderTold.{nobody-untold, told-of-it}
+use Rattle.model.specs.ByOrder.{Told}
 
 abbrev pub before : List Fed
 before =
@@ -52,22 +45,7 @@ pub happened : Happened ((before ++ (taking ∷ [])) ++ (telling ∷ []))
 unfolding upd sum_to build first be num_at id_at short_at parse_sizes parse_send frame_length parse_open parse_create parse_transfer parse_rest parse_other parse send_id payload_of others_all allows_all id_bytes header_bytes message_bytes notice_bytes received_bytes contents_of answer_bytes answer_after outcome_of least rising start slot_of total held_by_any named seeded counts free_place by_owner_id places_at fits refuses_open refuses_create refuses_destroy refuses_release refuses_transfer refuses_send refuses_receive refusal with_status with_user with_given with_handles with_queues with_charges with_seed with_lives accept push_all take_out withdraw valid shown give settle settled forget fell notify destroy_notices destroy_all arriving deliver opens creates destroys releases effect shows_message reply carry_out finish step run_from history_from
 happened = record { calls = calls (map (λ (x : Fed). x.frame) ((before ++ (taking ∷ [])) ++ (telling ∷ []))); same = refl }
 
--- (a) The message that peer 1 takes out.
-pub delivered : Delivered before taking
-delivered = delivers before [] taking (happened-front (before ++ (taking ∷ [])) (telling ∷ []) happened) refl refl refl
-
-pub installs : ShownByOrder before taking 1 delivered
-installs = shows-by-order before [] taking (happened-front (before ++ (taking ∷ [])) (telling ∷ []) happened) delivered
-
--- (c) Peer 1 holds no handle to the destroyed node when it is told.
-pub is-told : (notices_of 0 ((ledger_of before).queue 1) ≡ 1) ⊎ BeenTold before 1 0
-unfolding upd sum_to build be num_at id_at short_at parse_sizes parse_send frame_length parse_open parse_create parse_transfer parse_rest parse_other parse send_id payload_of id_bytes total empty put_handle to_received to_dropped note_open note_create incoming note_send note_seed drop_for note feed feed_all blank_ledger ledger_create ledger_destroy ledger_release cleared valid_at due_id ledger_give ledger_queues ledger_seed ledger_counted enter with_book feed_ledger feed_ledger_all
-is-told = nobody-untold before (happened-front before (taking ∷ (telling ∷ [])) happened) 1 (omega arith) 0 (omega arith) refl refl
-
 -- (d) The notice behind the message.
 pub told : Told (before ++ (taking ∷ [])) telling 1 7 eight
 unfolding upd sum_to build be num_at id_at short_at parse_sizes parse_send frame_length parse_open parse_create parse_transfer parse_rest parse_other parse send_id payload_of id_bytes total empty put_handle to_received to_dropped note_open note_create incoming note_send note_seed drop_for note feed feed_all blank_ledger ledger_create ledger_destroy ledger_release cleared valid_at due_id ledger_give ledger_queues ledger_seed ledger_counted enter with_book feed_ledger feed_ledger_all
 told = record { takes = record { number = refl; byte = refl; peer = refl; says = refl }; rest = []; first = refl }
-
-pub of-destroy : Destruction (before ++ (taking ∷ [])) 7 eight
-of-destroy = told-of-it (before ++ (taking ∷ [])) [] telling happened 1 7 eight told

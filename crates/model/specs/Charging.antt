@@ -1,21 +1,20 @@
 -- The users' charges at one peer, over any resource: what a charge and discharges leave of a user's own number, and when a charge keeps them within the share theorem.
 -- Assumes nothing.
-use Rattle.std.specs.Prelude.{ℕ, ◌+◌, ◌-◌, ◌≤◌, ◌<◌, min, ◌≡◌, refl, true, List, [], ◌∷◌, length, get_or, set, eqb}
-use Rattle.std.proofs.Common.{sym, ap, ◌∙◌, arith, length-set, get_or-set_same, get_or-set_other, eq-eqb, ne_eqb, leb-true}
+use Rattle.std.specs.Prelude.{ℕ, ◌+◌, ◌≤◌, ◌<◌, ◌≡◌, true, List, [], ◌∷◌, length, get_or}
+use Rattle.std.proofs.Common.{sym, ap, ◌∙◌, arith, leb-true}
 use Rattle.std.proofs.lemmas.List.{length-map, get_or-replicate}
 use Rattle.std.proofs.Math.Seq.{map-set_same}
-use Rattle.laws.specs.Tests.{pick, Same, Same.same, Same.other, same?}
 use Rattle.ids.specs.declared.User.{User}
 use Rattle.quota.specs.declared.Charge.{Charge}
 use Rattle.quota.specs.declared.Charges.{Charges}
 use Rattle.quota.specs.Charges.{users, nothing, plus, own, fresh_charges, charged, discharged, others_of, allows1, allows_all}
 use Rattle.quota.specs.Rule.{half}
 use Rattle.quota.specs.Share.{Reach, reach-length}
-use Rattle.quota.specs.Step.{Resource as IsResource, Every, every, each, Reached, messages-resource, bytes-resource, handles-resource, own-at-most-half, allows-every, reached-charged, reached-discharged}
+use Rattle.quota.specs.Step.{Resource as IsResource, Every, every, each, Reached, messages-resource, bytes-resource, handles-resource, allows-every}
+use Rattle.quota.proofs.Step.{own-at-most-half, reached-charged, reached-discharged}
 use Rattle.model.specs.Resources.{Resource, Resource.messages, Resource.bytes, Resource.handles, limit, amount}
 use Rattle.model.specs.State.{Message}
 use Rattle.model.specs.Changes.{charge_of, discharged_all}
-use Rattle.model.specs.Charged.{weight_of, queued_by}
 
 -- A fact of each resource is one of the three, and the other way round.
 pub at-resource : (P : ℕ → (Charge → ℕ) → Type 0) → Every P → (r : Resource) → P (limit r) (amount r)
@@ -46,42 +45,6 @@ reached-length c h = sym (length-map c.by (λ (x : Charge). x.messages)) ∙ rea
 -- Nothing is charged at first.
 pub fresh_at : (r : Resource) (u : ℕ) → u < users → amount r (own fresh_charges (record { 0 = u })) ≡ 0
 fresh_at r u l = ap (amount r) (get_or-replicate users u nothing nothing l) ∙ (is-resource r).of-nothing
-
--- A user's own number after a change of one user's charge.
-module _ (r : Resource) where
-  changed-at : (c : Charges) (u v : ℕ) (x : Charge) → v < length c.by →
-      amount r (get_or (set c.by u x) v nothing) ≡ pick (eqb u v) (amount r x) (amount r (own c (record { 0 = v })))
-  changed-at c u v x l = go (same? u v)
-    where
-      go : Same u v → amount r (get_or (set c.by u x) v nothing) ≡ pick (eqb u v) (amount r x) (amount r (own c (record { 0 = v })))
-      go (same e) = rw (e, get_or-set_same c.by v x nothing l, eq-eqb v v refl)
-      go (other e) = rw (get_or-set_other c.by u v x nothing (λ z. e (sym z)), ne_eqb u v e)
-
-  charge-of : (m : Message) → amount r (charge_of m) ≡ weight_of r m
-  charge-of m = go r
-    where
-      go : (r : Resource) → amount r (charge_of m) ≡ weight_of r m
-      go messages = refl
-      go bytes = refl
-      go handles = refl
-
-  discharged-at : (c : Charges) (u v : ℕ) (a : Charge) → v < length c.by →
-      amount r (own (discharged c (record { 0 = u }) a) (record { 0 = v })) ≡ amount r (own c (record { 0 = v })) - pick (eqb u v) (amount r a) 0
-  discharged-at c u v a l = rw (changed-at c u v _ l, (is-resource r).of-less) (go (same? u v))
-    where
-      go : Same u v →
-          pick (eqb u v) (amount r (own c (record { 0 = u })) - amount r a) (amount r (own c (record { 0 = v })))
-          ≡ amount r (own c (record { 0 = v })) - pick (eqb u v) (amount r a) 0
-      go (same e) = rw (e, eq-eqb v v refl)
-      go (other e) = rw (ne_eqb u v e) (omega arith)
-
-  -- What leaves a queue is taken off.
-  pub discharged-all-at : (c : Charges) (ms : List Message) (v : ℕ) → v < length c.by →
-      amount r (own (discharged_all c ms) (record { 0 = v })) ≡ amount r (own c (record { 0 = v })) - queued_by r v ms
-  discharged-all-at c [] v l = omega arith
-  discharged-all-at c (m ∷ ms) v l =
-      discharged-all-at (discharged c (record { 0 = m.user }) (charge_of m)) ms v (rw length-set l)
-      ∙ rw (discharged-at c m.user v (charge_of m) l, charge-of m) (omega arith)
 
 pub reached-discharged-all : (c : Charges) (ms : List Message) → Reached c → Reached (discharged_all c ms)
 reached-discharged-all c [] h = h
@@ -114,14 +77,3 @@ room-nothing c u a h z =
           h (of-resource (λ L f. f a ≡ 0) z);
       small = λ r. omega (arith, z r, small-limit r, own-at-most-half (is-resource r) c u (reached-at c h r));
     }
-
--- What such a charge leaves.
-pub charged-at : (r : Resource) (c : Charges) (u v : ℕ) (a : Charge) → v < length c.by → Room c (record { 0 = u }) a →
-    amount r (own (charged c (record { 0 = u }) a) (record { 0 = v })) ≡ amount r (own c (record { 0 = v })) + pick (eqb u v) (amount r a) 0
-charged-at r c u v a l room = rw (changed-at r c u v _ l, (is-resource r).of-plus) (go (same? u v))
-  where
-    go : Same u v →
-        pick (eqb u v) (min (amount r (own c (record { 0 = u })) + amount r a) 65535) (amount r (own c (record { 0 = v })))
-        ≡ amount r (own c (record { 0 = v })) + pick (eqb u v) (amount r a) 0
-    go (same e) = rw (← e, eq-eqb u u refl) (omega (arith, room.small r))
-    go (other e) = rw (ne_eqb u v e) (omega arith)

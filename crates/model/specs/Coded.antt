@@ -11,7 +11,8 @@ use Rattle.frames.specs.declared.Parsed.{Parsed}
 use Rattle.frames.specs.declared.Parsed.TheVariants.{Read, Refused}
 use Rattle.ids.specs.Refusals.{EINVAL, ENOTTY, EMSGSIZE}
 use Rattle.frames.specs.Frame.{last_peer, last_user, peer_at, opcode, id_at, short_at, oversized, known, send_length, frame_length, parse_sizes, parse_send, parse_open, parse_create, parse_transfer, parse_quota, parse_rest, parse_other, parse}
-use Rattle.frames.specs.Fields.{Fields, fields-command}
+use Rattle.frames.specs.Fields.{Fields}
+use Rattle.frames.proofs.Fields.{fields-command}
 
 -- The byte of each command, and its acting peer.
 abbrev pub code : Command → ℕ

@@ -1,9 +1,9 @@
 -- A run without its refused commands and its questions, with any answer buffers of at least 591 bytes, leads to the same state. Its history is that of the run with these left
 -- out, each other command answered as it was; and its commands are as many as were accepted ("Questions change nothing and are not counted").
 -- Assumes nothing.
-use Rattle.std.specs.Prelude.{ℕ, suc, ◌≤◌, ◌≡◌, refl, true, false, not, List, [], ◌∷◌, ◌++◌, length, take, drop, eqb}
-use Rattle.std.proofs.Common.{sym, ap, ◌∙◌, take_at, eqb-true, le-ltb}
-use Rattle.laws.specs.Tests.{pick, clash, Seen, Seen.is_true, Seen.is_false, look}
+use Rattle.std.specs.Prelude.{ℕ, ◌≤◌, ◌≡◌, refl, false, not, List, [], ◌∷◌, ◌++◌, length, take, drop, eqb}
+use Rattle.std.proofs.Common.{take_at, le-ltb}
+use Rattle.laws.specs.Tests.{pick, clash}
 use Rattle.laws.specs.Weights.{keep}
 use Rattle.frames.specs.declared.Command.{Command}
 use Rattle.frames.specs.declared.Command.TheVariants.{Open, Disconnect, Create, Destroy, Release, Transfer, Send, Receive, Quota, Holders, ShowSeed}
@@ -14,9 +14,8 @@ use Rattle.model.specs.State.{State, start}
 use Rattle.model.specs.Effects.{effect}
 use Rattle.model.specs.Step.{Verdict, judge, Call, finish, step, run_from, run}
 use Rattle.model.specs.Claim.{fed, history_from}
-use Rattle.model.specs.Accepted.{Came, Came.left, Came.done, came, accepted-call}
-use Rattle.model.specs.Coded.{code, coded}
-use Rattle.model.specs.Tally.{is_counted, tally, tallied}
+use Rattle.model.specs.Coded.{code}
+use Rattle.model.specs.Tally.{is_counted, tally}
 
 -- The calls of a run that were accepted and are no questions.
 unfoldable pub counted_from : State → List Call → List Call
@@ -68,7 +67,7 @@ unfolding step
 any-buffer b c d e l m = rw e (finish-any b (judge b c.frame (parse c.frame)) c.frame c.buffer d.buffer l m)
 
 -- A call that is not counted leaves the state alone: it was refused, or is a question.
-asked-leaves : (b : State) (f : List ℕ) (k : Command) → not (either (eqb (code k) 9) (eqb (code k) 10)) ≡ false → effect b f k ≡ b
+pub asked-leaves : (b : State) (f : List ℕ) (k : Command) → not (either (eqb (code k) 9) (eqb (code k) 10)) ≡ false → effect b f k ≡ b
 unfolding effect
 asked-leaves b f (Open p u) e = clash e
 asked-leaves b f (Disconnect p) e = clash e
@@ -81,68 +80,3 @@ asked-leaves b f (Receive p room) e = clash e
 asked-leaves b f (Quota p u) e = refl
 asked-leaves b f (Holders p i) e = refl
 asked-leaves b f (ShowSeed p room) e = clash e
-
-left_alone : (b : State) (c : Call) → is_counted (fed c (step b c)) ≡ false → (step b c).state ≡ b
-left_alone b c h = go (came b c)
-  where
-    go : Came b c → (step b c).state ≡ b
-    go (left e n) = e
-    go (done k a) =
-        let z : not (either (eqb (code k) 9) (eqb (code k) 10)) ≡ false = rw (a.number, (coded c.frame k a.read).byte) at h in
-        a.after ∙ asked-leaves b c.frame k z
-
--- One that is counted had a long answer buffer.
-counted-large : (b : State) (c : Call) → is_counted (fed c (step b c)) ≡ true → answer_size ≤ length c.buffer
-counted-large b c h = go (look (eqb (step b c).outcome.number 0))
-  where
-    go : Seen (eqb (step b c).outcome.number 0) → answer_size ≤ length c.buffer
-    go (is_true e) = (accepted-call b c (eqb-true (step b c).outcome.number 0 e)).1.large
-    go (is_false e) = absurd (clash (sym (rw e at h)))
-
-beside : (cs : List Call) (b : State) (ds : List Call) → SameFrames (counted_from b cs) ds → Beside b cs ds
-unfolding run_from history_from counted_from
-beside [] b [] s = record { state = refl; history = refl; number = refl }
-beside [] b (d ∷ ds) s = absurd s
-beside (c ∷ cs) b ds s = go (look (is_counted (fed c (step b c)))) ds s (λ es. beside cs (step b c).state es)
-  where
-    taken : (ds : List Call) → SameFrames (c ∷ counted_from (step b c).state cs) ds → is_counted (fed c (step b c)) ≡ true →
-        ((es : List Call) → SameFrames (counted_from (step b c).state cs) es → Beside (step b c).state cs es) → Beside b (c ∷ cs) ds
-    taken [] s e h = absurd s
-    taken (d ∷ ds) s e h =
-        let a = any-buffer b c d s.0 (counted-large b c e) s.1 in
-        let r = h ds s.2 in
-        record {
-          state = rw a.0 r.state;
-          history = rw (a.0, a.1, e) (ap (◌∷◌ (fed c (step b c))) r.history);
-          number = rw e (ap suc r.number);
-        }
-
-    go : Seen (is_counted (fed c (step b c))) → (ds : List Call) → SameFrames (counted_from b (c ∷ cs)) ds →
-        ((es : List Call) → SameFrames (counted_from (step b c).state cs) es → Beside (step b c).state cs es) → Beside b (c ∷ cs) ds
-    go (is_true e) ds s h = taken ds (rw e at s) e h
-    go (is_false e) ds s h =
-        let r = h ds (rw e at s) in
-        let l : (step b c).state ≡ b = left_alone b c e in
-        record { state = rw l (rw l at r.state); history = rw (e, l) (rw l at r.history); number = rw e r.number }
-
-pub without-the-rest : WithoutTheRest
-without-the-rest cs ds s =
-    let r = beside cs start ds s in
-    record { state = r.state; history = r.history; number = r.number ∙ sym (tallied cs) }
-
--- With the answer buffers that they had.
-same-frames : (cs : List Call) (b : State) → SameFrames (counted_from b cs) (counted_from b cs)
-unfolding counted_from
-same-frames [] b = tt
-same-frames (c ∷ cs) b = go (look (is_counted (fed c (step b c)))) (same-frames cs (step b c).state)
-  where
-    go : Seen (is_counted (fed c (step b c))) → SameFrames (counted_from (step b c).state cs) (counted_from (step b c).state cs) →
-        SameFrames (counted_from b (c ∷ cs)) (counted_from b (c ∷ cs))
-    go (is_true e) ih = rw e (refl, counted-large b c e, ih)
-    go (is_false e) ih = rw e ih
-
-pub counted-run : (cs : List Call) → run (counted cs) ≡ run cs
-counted-run cs = (without-the-rest cs (counted cs) (same-frames cs start)).state
-
-pub counted-length : (cs : List Call) → length (counted cs) ≡ (run cs).accepted
-counted-length cs = (without-the-rest cs (counted cs) (same-frames cs start)).number

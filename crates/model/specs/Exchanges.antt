@@ -6,33 +6,26 @@ use Rattle.std.proofs.Common.{ap, ◌∙◌, arith}
 use Rattle.std.proofs.lemmas.List.{length-map}
 use Rattle.laws.specs.Tests.{pick}
 use Rattle.laws.specs.Weights.{All}
-use Rattle.laws.specs.Build.{build-length}
 use Rattle.ids.specs.declared.HandleId.{HandleId}
 use Rattle.ids.specs.declared.Peer.{Peer}
 use Rattle.frames.specs.declared.Sizes.{Sizes}
 use Rattle.frames.specs.declared.Command.{Command}
 use Rattle.frames.specs.declared.Command.TheVariants.{Open, Disconnect, Create, Destroy, Release, Transfer, Send, Receive, Quota, Holders, ShowSeed}
 use Rattle.frames.specs.declared.Parsed.TheVariants.{Read}
-use Rattle.frames.specs.Frame.{send_id, parse}
+use Rattle.frames.specs.Frame.{parse}
 use Rattle.frames.specs.Legal.{Legal}
 use Rattle.model.specs.Numbers.{nodes}
-use Rattle.model.specs.State.{State, start, slot}
+use Rattle.model.specs.State.{State, slot}
 use Rattle.model.specs.Requests.{destinations, attached}
-use Rattle.model.specs.Step.{Call, step, run}
 use Rattle.model.specs.Book.{Book, nodes_of, Fed, feed}
-use Rattle.model.specs.Claim.{fed, history_from, book_after}
-use Rattle.model.specs.Accepted.{Accepted, Came, Came.left, Came.done, came}
 use Rattle.model.specs.Coded.{code}
-use Rattle.model.specs.Tested.{tested}
 use Rattle.model.specs.Sim.{called, Sim}
 use Rattle.model.specs.SimSend.{nodes-of-slots}
-use Rattle.model.specs.Tally.{is_counted, tally, tallied}
+use Rattle.model.specs.Tally.{is_counted, tally}
 use Rattle.model.specs.Ledger.{blank_ledger, enter, with_book, feed_ledger, feed_ledger_all}
-use Rattle.model.specs.LedgerPassed.{Passed, passed}
-use Rattle.model.specs.History.{feed-book, feed-ledger-append, fed-enters}
-use Rattle.model.specs.Sources.{story}
+use Rattle.model.specs.LedgerPassed.{Passed}
+use Rattle.model.specs.History.{feed-book, feed-ledger-append}
 use Rattle.model.specs.Rows.{book_of, ledger_of}
-use Rattle.model.specs.Happened.{Happened, At, happened-at}
 
 -- Of a send each destination ID and each attached ID names a node in the book: "6 ENXIO an ID the acting peer does not hold".
 abbrev pub AllNamed : Book → List ℕ → Command → Type 0
@@ -48,41 +41,14 @@ AllNamed b f (Quota p u) = Unit {0}
 AllNamed b f (Holders p i) = Unit {0}
 AllNamed b f (ShowSeed p room) = Unit {0}
 
-as_many : {N : ℕ} (name : ℕ → ℕ) (b : State) (k : Book) → Sim N name b k → (p : ℕ) (is : List ℕ) → All (λ i. slot b p i < nodes) is → length (nodes_of k p is) ≡ length is
+pub as_many : {N : ℕ} (name : ℕ → ℕ) (b : State) (k : Book) → Sim N name b k → (p : ℕ) (is : List ℕ) → All (λ i. slot b p i < nodes) is → length (nodes_of k p is) ≡ length is
 as_many name b k w p is h = ap length (nodes-of-slots name b k w p is h) ∙ length-map (map (slot b p) is) (called name) ∙ length-map is (slot b p)
-
-all_named : (cs : List Call) (c : Call) (d : Command) → Accepted (run cs) c d → AllNamed (book_after cs) c.frame d
-all_named cs c (Open p u) a = tt
-all_named cs c (Disconnect p) a = tt
-all_named cs c (Create p i) a = tt
-all_named cs c (Destroy p i) a = tt
-all_named cs c (Release p i) a = tt
-all_named cs c (Transfer p i q) a = tt
-all_named cs c (Send p z) a =
-    let w = story (length cs) cs (omega arith) in
-    let t = tested (run cs) c.frame (Send p z) a.unrefused in (
-      as_many w.name (run cs) (book_after cs) w.sim p.0 (destinations c.frame z) t.holds ∙ build-length (λ j. (send_id c.frame j).0) z.nd,
-      as_many w.name (run cs) (book_after cs) w.sim p.0 (attached c.frame z) t.holds-attached ∙ build-length (λ j. (send_id c.frame (z.nd + j)).0) z.nh,
-    )
-all_named cs c (Receive p room) a = tt
-all_named cs c (Quota p u) a = tt
-all_named cs c (Holders p i) a = tt
-all_named cs c (ShowSeed p room) a = tt
 
 -- After the history xs: a refused command, or an accepted one.
 pub data Exchange (xs : List Fed) (x : Fed) : Type 0 where
   refused : (x.number ≡ 0 → ⊥) → Exchange xs x
   accepted : (c : Command) → x.number ≡ 0 → parse x.frame ≡ Read c → Legal x.frame c → Passed (ledger_of xs) x.frame c → AllNamed (book_of xs) x.frame c →
       Exchange xs x
-
-pub exchange : (xs : List Fed) (x : Fed) → At xs x → Exchange xs x
-exchange xs x w =
-    let z : Exchange (history_from start w.before) (fed w.call (step (run w.before) w.call)) = go (came (run w.before) w.call) in
-    rw (w.gives, w.first) at z
-  where
-    go : Came (run w.before) w.call → Exchange (history_from start w.before) (fed w.call (step (run w.before) w.call))
-    go (left e n) = refused n
-    go (done c a) = accepted c a.number a.read a.legal (passed w.before w.call c a) (all_named w.before w.call c a)
 
 -- Book and ledger after one more exchange; the ledger's book is the book.
 pub ledger-more : (xs : List Fed) (x : Fed) → ledger_of (xs ++ (x ∷ [])) ≡ feed_ledger (ledger_of xs) x
@@ -91,10 +57,6 @@ ledger-more xs x = feed-ledger-append xs (x ∷ []) blank_ledger ∙ unfold feed
 pub book-in-ledger : (xs : List Fed) → (ledger_of xs).book ≡ book_of xs
 unfolding blank_ledger
 book-in-ledger xs = feed-book xs blank_ledger
-
--- The ledger counts the accepted commands, questions not counted.
-pub ledger-tally : (xs : List Fed) → Happened xs → (ledger_of xs).accepted ≡ tally xs
-ledger-tally xs h = let w = story (length h.calls) h.calls (omega arith) in rw h.same at (w.follows.accepted ∙ tallied h.calls)
 
 pub tally-append : (xs ys : List Fed) → tally (xs ++ ys) ≡ tally xs + tally ys
 tally-append [] ys = omega arith
@@ -111,13 +73,6 @@ pub record Entered (xs : List Fed) (x : Fed) (c : Command) : Type 0 where
   pub passes : Passed (ledger_of xs) x.frame c
   pub named : AllNamed (book_of xs) x.frame c
   pub after : ledger_of (xs ++ (x ∷ [])) ≡ with_book (enter (ledger_of xs) x.frame c) (feed (ledger_of xs).book x)
-
-pub entered : (xs : List Fed) (x : Fed) → Happened (xs ++ (x ∷ [])) → x.number ≡ 0 → (c : Command) × Entered xs x c
-entered xs x h z = go (exchange xs x (happened-at xs [] x h))
-  where
-    go : Exchange xs x → (c : Command) × Entered xs x c
-    go (refused n) = absurd (n z)
-    go (accepted c e g l t m) = (c, record { read = g; legal = l; passes = t; named = m; after = ledger-more xs x ∙ fed-enters (ledger_of xs) x c e g })
 
 -- A command by its byte.
 pub is-disconnect : (c : Command) → code c ≡ 2 → (p : Peer) × (c ≡ Disconnect p)

@@ -1,22 +1,20 @@
 -- The new IDs that a command's reply shows to a peer are the next ones of 7, 11, 15, ...
 -- Assumes nothing.
-use Rattle.std.specs.Prelude.{ℕ, suc, ◌+◌, ◌≤◌, ◌<◌, ◌≡◌, refl, Bool, true, false, List, [], ◌∷◌, ◌++◌, length, eqb, ltb}
-use Rattle.std.proofs.Common.{sym, ap, ◌∙◌, append-nil, append_assoc, arith, eqb-true, eq-eqb, ne_eqb, ltb-true, ltb-false}
+use Rattle.std.specs.Prelude.{ℕ, suc, ◌≤◌, ◌<◌, ◌≡◌, refl, Bool, true, false, [], ◌∷◌, ◌++◌, eqb, ltb}
+use Rattle.std.proofs.Common.{sym, ap, ◌∙◌, append-nil, arith, eqb-true, eq-eqb, ne_eqb, ltb-true, ltb-false}
 use Rattle.laws.specs.Tests.{pick, Seen, Seen.is_true, Seen.is_false, look, clash, Same, Same.same, Same.other, same?}
 use Rattle.laws.specs.Tables.{upd, upd_same, upd_other}
 use Rattle.laws.specs.Search.{first-before}
-use Rattle.laws.specs.Weights.{All}
 use Rattle.laws.specs.Build.{build, build-snoc}
 use Rattle.model.specs.Numbers.{nodes, owner, invalid, next_id}
 use Rattle.model.specs.Lists.{either}
 use Rattle.model.specs.State.{Handle, Handle.none, Handle.some, handle_of, count, has_id, State, slot_of, slot}
 use Rattle.model.specs.Tables.{with_given, with_handles, with_queues}
-use Rattle.model.specs.Changes.{withdraw, shown, shown_all, given_after, give, give_all, valid}
-use Rattle.model.specs.IdsLaws.{Holding, holding-give, next-free, Changed, Changed.here, Changed.there, changed}
-use Rattle.model.specs.SimGive.{given-give}
+use Rattle.model.specs.Changes.{withdraw, shown, given_after, give, valid}
+use Rattle.model.specs.IdsLaws.{Holding, next-free, Changed, Changed.here, Changed.there, changed}
 use Rattle.model.specs.SimSend.{held-at-slot}
 use Rattle.model.specs.QueuesProof.{give-handle, give-dead}
-use Rattle.model.specs.Given.{holds_id, new_of}
+use Rattle.model.specs.Given.{holds_id}
 
 -- Two tests with the same facts.
 same_test : (a b : Bool) → (a ≡ true → b ≡ true) → (b ≡ true → a ≡ true) → a ≡ b
@@ -110,7 +108,7 @@ id-valid x p t i c v l e z = go (same? (owner t) p)
     go (other o) = let r = (v.handles p).given t i c e o in omega (arith, r.1, r.2)
 
 -- One ID shown.
-first-new : (x : State) (p as_of s : ℕ) (known : ℕ → Bool) → Holding x → s < nodes → x.given p < most_given → ((j : ℕ) → (j ≡ invalid → ⊥) → known j ≡ holds_id x p j) →
+pub first-new : (x : State) (p as_of s : ℕ) (known : ℕ → Bool) → Holding x → s < nodes → x.given p < most_given → ((j : ℕ) → (j ≡ invalid → ⊥) → known j ≡ holds_id x p j) →
     build next_id (x.given p) ++ pick (either (eqb (shown x p as_of s) invalid) (known (shown x p as_of s))) [] (shown x p as_of s ∷ []) ≡ build next_id ((give x p as_of s).given p)
 first-new x p as_of s known v l few same-ids = go (look (valid x p as_of s)) (x.handle p s) refl
   where
@@ -130,24 +128,10 @@ first-new x p as_of s known v l few same-ids = go (look (valid x p as_of s)) (x.
         unheld (is_false z) = z
         unheld (is_true z) = let r = holds_at x p (next_id (x.given p)) z in absurd (next-free p (x.given p) (x.handle p) r.0 r.1 (v.handles p) r.2)
 
-next_known : (x : State) (p as_of s : ℕ) (known : ℕ → Bool) → Holding x → s < nodes → ((j : ℕ) → (j ≡ invalid → ⊥) → known j ≡ holds_id x p j) →
+pub next_known : (x : State) (p as_of s : ℕ) (known : ℕ → Bool) → Holding x → s < nodes → ((j : ℕ) → (j ≡ invalid → ⊥) → known j ≡ holds_id x p j) →
     (j : ℕ) → (j ≡ invalid → ⊥) → either (eqb (shown x p as_of s) j) (known j) ≡ holds_id (give x p as_of s) p j
 next_known x p as_of s known v l same-ids j n = go (look (valid x p as_of s))
   where
     go : Seen (valid x p as_of s) → either (eqb (shown x p as_of s) j) (known j) ≡ holds_id (give x p as_of s) p j
     go (is_false e) = rw (give-dead x p as_of s e, dead-shown x p as_of s e, ne_eqb invalid j (λ z. n (sym z))) (same-ids j n)
     go (is_true e) = ap (either (eqb (shown x p as_of s) j)) (same-ids j n) ∙ sym (holds_after x p as_of s v l e j)
-
--- All IDs shown by one answer.
-pub all_new : (x : State) (p as_of : ℕ) (ss : List ℕ) (known : ℕ → Bool) → Holding x → All (λ s. s < nodes) ss → x.given p + length ss ≤ most_given →
-    ((j : ℕ) → (j ≡ invalid → ⊥) → known j ≡ holds_id x p j) →
-    build next_id (x.given p) ++ new_of known (shown_all x p as_of ss) ≡ build next_id ((give_all x p as_of ss).given p)
-all_new x p as_of [] known v a l same-ids = append-nil (build next_id (x.given p))
-all_new x p as_of (s ∷ ss) known v a l same-ids =
-    let i : ℕ = shown x p as_of s in
-    let y = give x p as_of s in
-    let known' : ℕ → Bool = λ j. either (eqb i j) (known j) in
-    let rest : List ℕ = new_of known' (shown_all y p as_of ss) in
-    sym (append_assoc (build next_id (x.given p)) (pick (either (eqb i invalid) (known i)) [] (i ∷ [])) rest)
-    ∙ ap (λ (z : List ℕ). z ++ rest) (first-new x p as_of s known v a.0 (omega arith) same-ids)
-    ∙ all_new y p as_of ss known' (holding-give x p as_of s v a.0) a.1 (omega (arith, given-give x p as_of s p)) (next_known x p as_of s known v a.0 same-ids)

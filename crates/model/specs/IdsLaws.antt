@@ -1,14 +1,12 @@
 -- What the changes of handles do to `Handles` and `Holding`.
 -- Assumes nothing.
 use Rattle.std.proofs.Common.{eq-eqb, sym, ap, ◌∙◌, arith}
-use Rattle.std.specs.Prelude.{ℕ, zero, suc, ◌%◌, ◌≤◌, ◌<◌, ◌≡◌, refl, Bool, true, false, List, [], ◌∷◌}
+use Rattle.std.specs.Prelude.{ℕ, zero, suc, ◌%◌, ◌≤◌, ◌<◌, ◌≡◌, refl, Bool, true, false}
 use Rattle.laws.specs.Tests.{Seen, Seen.is_true, Seen.is_false, look, clash, Same, Same.same, Same.other, same?}
-use Rattle.laws.specs.Tables.{upd, upd_same, upd_other, upd-rel}
-use Rattle.laws.specs.Weights.{All}
+use Rattle.laws.specs.Tables.{upd, upd_same, upd_other}
 use Rattle.model.specs.Numbers.{nodes, owner, next_id}
 use Rattle.model.specs.State.{is_live, Handle, Handle.none, Handle.some, handle_of, held, count, id_or, State, lived_at}
-use Rattle.model.specs.Tables.{with_given, with_handles, with_queues}
-use Rattle.model.specs.Changes.{withdraw, shown, given_after, give, give_all, valid}
+use Rattle.model.specs.Changes.{given_after, valid}
 use Rattle.model.specs.Counts.{put_all}
 use Rattle.model.specs.SimHandles.{some-none}
 use Rattle.model.specs.Ids.{Handles, Ids}
@@ -110,7 +108,7 @@ pub record Holding (b : State) : Type 0 where
   pub owned : (s : ℕ) → is_live (b.life s) ≡ true → held (b.handle (owner s) s) ≡ true
 
 -- A handle to a live node is given: the one that stands there, or a new one with the next ID.
-give-one : (p g : ℕ) (h : ℕ → Handle) (s : ℕ) → Handles p g h → s < nodes → (held (h s) ≡ false → owner s ≡ p → ⊥) → (x : Handle) → h s ≡ x →
+pub give-one : (p g : ℕ) (h : ℕ → Handle) (s : ℕ) → Handles p g h → s < nodes → (held (h s) ≡ false → owner s ≡ p → ⊥) → (x : Handle) → h s ≡ x →
     Handles p (given_after x g) (upd h s (handle_of (id_or (next_id g) x) (suc (count x))))
 give-one p g h s v l strange none e =
     handles-set p g (suc g) h s (next_id g) 1 v (omega arith) l
@@ -120,7 +118,7 @@ give-one p g h s v l strange (some i c) e =
     handles-set p g g h s i (suc c) v (omega arith) l (fit_of p g h s i c v e) (λ t d f. v.distinct t s i d c f e)
 
 -- What is shown to the owner of its own node, it holds.
-valid-held : (x : State) (p as_of s : ℕ) → (is_live (x.life s) ≡ true → held (x.handle (owner s) s) ≡ true) → valid x p as_of s ≡ true → held (x.handle p s) ≡ false → owner s ≡ p → ⊥
+pub valid-held : (x : State) (p as_of s : ℕ) → (is_live (x.life s) ≡ true → held (x.handle (owner s) s) ≡ true) → valid x p as_of s ≡ true → held (x.handle p s) ≡ false → owner s ≡ p → ⊥
 unfolding valid
 valid-held x p as_of s v e f o = go (look (is_live (x.life s))) (look (lived_at as_of (x.life s)))
   where
@@ -128,31 +126,3 @@ valid-held x p as_of s v e f o = go (look (is_live (x.life s))) (look (lived_at 
     go (is_true z) y = let w : ◌≡◌ {A = Bool} true false = sym (rw o at (v z)) ∙ f in clash w
     go (is_false z) (is_false y) = clash (sym (rw y at e))
     go (is_false z) (is_true y) = clash (sym (rw (y, z, eq-eqb (owner s) p o, f) at e))
-
-pub holding-give : (x : State) (p as_of s : ℕ) → Holding x → s < nodes → Holding (give x p as_of s)
-unfolding give withdraw with_handles with_given with_queues shown
-holding-give x p as_of s v l = go (look (valid x p as_of s))
-  where
-    hd : Handle
-    hd = x.handle p s
-
-    strange : valid x p as_of s ≡ true → held hd ≡ false → owner s ≡ p → ⊥
-    strange e f o = valid-held x p as_of s (v.owned s) e f o
-
-    go : Seen (valid x p as_of s) → Holding (give x p as_of s)
-    go (is_false e) = rw e v
-    go (is_true e) =
-        rw e
-        (record {
-          handles =
-              upd-rel (λ q g h. Handles q g h) x.given x.handle p (given_after hd (x.given p))
-              (upd (x.handle p) s (handle_of (id_or (next_id (x.given p)) hd) (suc (count hd)))) v.handles
-              (give-one p (x.given p) (x.handle p) s (v.handles p) l (strange e) hd refl);
-          owned =
-              λ t k. held_kept x.handle p s (handle_of (id_or (next_id (x.given p)) hd) (suc (count hd)))
-              (held_of (id_or (next_id (x.given p)) hd) (count hd)) (owner t) t (v.owned t k);
-        })
-
-pub holding-gives : (x : State) (p as_of : ℕ) (ss : List ℕ) → Holding x → All (λ s. s < nodes) ss → Holding (give_all x p as_of ss)
-holding-gives x p as_of [] v a = v
-holding-gives x p as_of (s ∷ ss) v a = holding-gives (give x p as_of s) p as_of ss (holding-give x p as_of s v a.0) a.1

@@ -2,7 +2,7 @@
 -- may then be chosen again", and "release of a live node's owner handle at count 1" is refused.
 -- Assumes nothing.
 use Prim.Native.Nat.{ℕ, zero, suc, ◌-◌, ◌<◌}
-use Rattle.std.specs.Prelude.{◌≡◌, not, ◌⊎◌, List, [], ◌∷◌, ◌++◌, length, eqb, ltb}
+use Rattle.std.specs.Prelude.{◌≡◌, not, ◌⊎◌, List, [], ◌∷◌, ◌++◌, eqb, ltb}
 use Rattle.std.proofs.Math.Path.{refl}
 use Rattle.std.proofs.Common.{sym, ap, ap₂, ◌∙◌, arith}
 use Rattle.std.proofs.Math.Bool.{Bool, true, false}
@@ -17,13 +17,10 @@ use Rattle.model.specs.Lists.{both}
 use Rattle.model.specs.State.{Handle, Handle.none, Handle.some, handle_of, count, id_or}
 use Rattle.model.specs.Step.{Call}
 use Rattle.model.specs.Book.{Node, Book}
-use Rattle.model.specs.Claim.{book_after}
 use Rattle.model.specs.SimHandles.{some-none}
-use Rattle.model.specs.Sources.{story}
 use Rattle.model.specs.Ledger.{Item, Item.message as message_item, Item.destroyed as destroyed_item, Item.released as released_item, Ledger, ledger_create, ledger_destroy, ledger_release, valid_at, due_id, ledger_give, ledger_give_all, ledger_queues, ledger_receive, ledger_disconnect, ledger_counted, enter, with_book, ledger_after, LedgerSeed, seed_nodes, ledger_seed}
-use Rattle.model.specs.LedgerSim.{below}
 use Rattle.model.specs.LedgerPassed.{Passed}
-use Rattle.model.specs.LedgerGone.{cell_other, kept-of-node}
+use Rattle.model.specs.LedgerGone.{cell_other}
 
 -- p holds its node n under the ID i, or the node is destroyed and the handle gone.
 abbrev pub StillOr : Ledger → ℕ → ℕ → ℕ → Type 0
@@ -42,7 +39,7 @@ module _ (p n i : ℕ) where
   unfolding ledger_counted
   owns-counted l h = record { maker = h.maker; holds = h.holds }
 
-  owns-book : (l : Ledger) (k : Book) → Owns l p n i → Owns (with_book l k) p n i
+  pub owns-book : (l : Ledger) (k : Book) → Owns l p n i → Owns (with_book l k) p n i
   unfolding with_book
   owns-book l k h = record { maker = h.maker; holds = h.holds }
 
@@ -176,7 +173,7 @@ module _ (p n i : ℕ) where
       go (other z) = still l living _ h.holds (λ d. rw d (nothing (not (eqb (l.maker n) q)))) (ap (λ (g : ℕ → Handle). g n) (upd_other l.handle q p (λ m. none) z))
 
   -- Every accepted command.
-  owns-command : (l : Ledger) (f : List ℕ) (c : Command) → Passed l f c → n < l.book.entered → Owns l p n i → Owns (enter l f c) p n i
+  pub owns-command : (l : Ledger) (f : List ℕ) (c : Command) → Passed l f c → n < l.book.entered → Owns l p n i → Owns (enter l f c) p n i
   unfolding enter
   owns-command l f (Open q u) t less h = owns-counted l h
   owns-command l f (Disconnect q) t less h = owns-disconnect (ledger_counted l) q.0 (owns-counted l h)
@@ -192,9 +189,3 @@ module _ (p n i : ℕ) where
   owns-command l f (Quota q u) t less h = h
   owns-command l f (Holders q j) t less h = h
   owns-command l f (ShowSeed q room) t less h = owns-gives (ledger_counted l) q.0 (suc l.accepted) (seed_nodes (l.seed q.0)) (owns-counted l h)
-
-pub own-keeps : OwnKeeps
-own-keeps cs ds p n i c e f =
-    let w = story (length cs) cs (omega arith) in
-    let created : n < (book_after cs).entered = below n (book_after cs).entered (λ z. some-none (sym f ∙ w.follows.handles.fresh p n z)) in
-    (kept-of-node (λ l. Owns l p n i) n (owns-book p n i) (λ l f c g. owns-command p n i l f c) cs ds created (record { maker = e; holds = inl (c, f) })).holds

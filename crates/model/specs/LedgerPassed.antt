@@ -1,8 +1,8 @@
 -- What an accepted command passed, in the ledger's words: the rows of the table that speak of IDs and nodes. And induction over the ledgers of a run.
 -- Assumes nothing.
-use Rattle.std.specs.Prelude.{ℕ, ◌<◌, ◌≡◌, refl, List, [], ◌∷◌, ◌++◌, map, length}
+use Rattle.std.specs.Prelude.{ℕ, ◌<◌, ◌≡◌, refl, List, map}
 use Rattle.std.proofs.Math.Path.{sym}
-use Rattle.std.proofs.Common.{ap, ◌∙◌, append_assoc, append-nil, arith}
+use Rattle.std.proofs.Common.{ap, ◌∙◌}
 use Rattle.std.proofs.Math.Bool.{true}
 use borrow.Author.Tests.{eq-eqb}
 use Rattle.laws.specs.Tests.{clash}
@@ -13,18 +13,12 @@ use Rattle.frames.specs.declared.Command.TheVariants.{Open, Disconnect, Create, 
 use Rattle.model.specs.Numbers.{nodes, owner}
 use Rattle.model.specs.Requests.{destinations}
 use Rattle.model.specs.State.{is_live, Handle.some, held, State, slot}
-use Rattle.model.specs.Step.{Call, step, run}
 use Rattle.model.specs.Book.{Node, Noted.noted, nodes_of}
-use Rattle.model.specs.Claim.{fed}
-use Rattle.model.specs.Accepted.{Accepted, Came, Came.left, Came.done, came}
-use Rattle.model.specs.Tested.{Tested, tested}
+use Rattle.model.specs.Tested.{Tested}
 use Rattle.model.specs.IdsLaws.{Holding}
-use Rattle.model.specs.IdsProof.{holding}
 use Rattle.model.specs.Sim.{called, Sim}
 use Rattle.model.specs.SimSend.{held-at-slot, nodes-of-slots}
-use Rattle.model.specs.History.{ledger-next, ledger-book, ledger-left}
-use Rattle.model.specs.Sources.{story}
-use Rattle.model.specs.Ledger.{Ledger, ledger_after}
+use Rattle.model.specs.Ledger.{Ledger}
 use Rattle.model.specs.LedgerSim.{Follows, held-entered}
 
 -- An ID that the peer holds: in the book it names a node, and the ledger has the handle under that node.
@@ -70,7 +64,7 @@ module _ {N : ℕ} (name : ℕ → ℕ) {E : ℕ} (b : State) (l : Ledger) (w : 
   lives_at : (s : ℕ) → is_live (b.life s) ≡ true → l.lives (name s) ≡ true
   lives_at s e = r.lives.same s ∙ e
 
-  passed-bus : (f : List ℕ) (c : Command) → Tested b f c → Passed l f c
+  pub passed-bus : (f : List ℕ) (c : Command) → Tested b f c → Passed l f c
   unfolding names
   passed-bus f (Open p u) t = tt
   passed-bus f (Disconnect p) t = tt
@@ -93,21 +87,3 @@ module _ {N : ℕ} (name : ℕ → ℕ) {E : ℕ} (b : State) (l : Ledger) (w : 
   passed-bus f (Quota p u) t = tt
   passed-bus f (Holders p i) t = let x = names p.0 i.0 t.holds in (x.0, t.owns)
   passed-bus f (ShowSeed p room) t = tt
-
-pub passed : (cs : List Call) (c : Call) (d : Command) → Accepted (run cs) c d → Passed (ledger_after cs) c.frame d
-passed cs c d a =
-    let b = run cs in
-    let w = story (length cs) cs (omega arith) in
-    let s : Sim (length cs) w.name b (ledger_after cs).book = rw (ledger-book cs) w.sim in
-    passed-bus w.name b (ledger_after cs) s w.follows (holding cs) c.frame d (tested b c.frame d a.unrefused)
-
--- What every accepted call keeps of the ledger, every list of calls keeps.
-pub ledger-kept : (P : Ledger → Type 0) →
-    ((cs : List Call) (c : Call) (d : Command) → Accepted (run cs) c d → P (ledger_after cs) → P (ledger_after (cs ++ (c ∷ [])))) →
-    (cs ds : List Call) → P (ledger_after cs) → P (ledger_after (cs ++ ds))
-ledger-kept P keep cs [] h = rw (append-nil cs) h
-ledger-kept P keep cs (c ∷ ds) h = rw (append_assoc cs (c ∷ []) ds) at (ledger-kept P keep (cs ++ (c ∷ [])) ds (go (came (run cs) c)))
-  where
-    go : Came (run cs) c → P (ledger_after (cs ++ (c ∷ [])))
-    go (left e n) = rw (ledger-next cs c ∙ ledger-left (ledger_after cs) (fed c (step (run cs) c)) n) h
-    go (done d a) = keep cs c d a h

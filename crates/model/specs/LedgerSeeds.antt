@@ -17,11 +17,9 @@ use Rattle.frames.specs.Legal.{Legal, payload-length}
 use Rattle.model.specs.Requests.{attached}
 use Rattle.model.specs.Step.{Call, run}
 use Rattle.model.specs.Book.{Node, Noted, Noted.blank, Noted.noted, nodes_of}
-use Rattle.model.specs.Claim.{history_from}
 use Rattle.model.specs.Accepted.{Accepted}
 use Rattle.model.specs.History.{ledger-entered}
-use Rattle.model.specs.Ledger.{Item, Item.message, Item.destroyed, Item.released, LedgerSeed, LedgerSeed.unset, LedgerSeed.kept, seed_nodes, Ledger, blank_ledger, feed_ledger_all, ledger_create, ledger_destroy, ledger_release, valid_at, ledger_give, ledger_give_all, ledger_queues, ledger_seed, ledger_receive, ledger_disconnect, ledger_counted, on_node, enter, with_book, ledger_after}
-use Rattle.model.specs.LedgerPassed.{ledger-kept}
+use Rattle.model.specs.Ledger.{Item, Item.message, Item.destroyed, Item.released, LedgerSeed, LedgerSeed.unset, LedgerSeed.kept, seed_nodes, Ledger, ledger_create, ledger_destroy, ledger_release, valid_at, ledger_give, ledger_give_all, ledger_queues, ledger_seed, ledger_receive, ledger_disconnect, ledger_counted, on_node, enter, with_book, ledger_after}
 
 abbrev pub seeds_after : Ledger → List ℕ → Command → ℕ → LedgerSeed
 seeds_after l f (Send p z) = pick (eqb z.nd 0) (upd l.seed p.0 (kept (payload_of f) (nodes_of l.book p.0 (attached f z)))) l.seed
@@ -94,14 +92,5 @@ abbrev pub seed_payload : LedgerSeed → List ℕ
 seed_payload unset = []
 seed_payload (kept payload ns) = payload
 
-small-set : (f : List ℕ) (c : Command) → Legal f c → (p : Peer) (z : Sizes) → c ≡ Send p z → length (payload_of f) ≤ most_bytes
+pub small-set : (f : List ℕ) (c : Command) → Legal f c → (p : Peer) (z : Sizes) → c ≡ Send p z → length (payload_of f) ≤ most_bytes
 small-set f c legal p z e = let g : Legal f (Send p z) = rw e at legal in omega (arith, payload-length f z g.1, g.1.small)
-
-pub seeds-small : (cs : List Call) (p : ℕ) → length (seed_payload ((ledger_after cs).seed p)) ≤ most_bytes
-seeds-small cs = ledger-kept (λ l. (p : ℕ) → length (seed_payload (l.seed p)) ≤ most_bytes) next [] cs (unfold history_from feed_ledger_all blank_ledger in λ p. omega arith)
-  where
-    next : (cs : List Call) (c : Call) (d : Command) → Accepted (run cs) c d → ((p : ℕ) → length (seed_payload ((ledger_after cs).seed p)) ≤ most_bytes) →
-        (p : ℕ) → length (seed_payload ((ledger_after (cs ++ (c ∷ []))).seed p)) ≤ most_bytes
-    next cs c d a h p =
-        rw (seeds-next cs c d a)
-        (seeds-kept (λ x. length (seed_payload x) ≤ most_bytes) (ledger_after cs) c.frame d h (omega arith) (λ q z e. small-set c.frame d a.legal q z e) p)

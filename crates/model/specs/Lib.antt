@@ -110,7 +110,6 @@ pub mod Lives
 pub mod ShowsNames
 pub mod ShowsOnce
 pub mod ShowsAnew
-pub mod ShowsHeld
 pub mod ShowsWorked
 pub mod Waits
 pub mod LedgerMoves

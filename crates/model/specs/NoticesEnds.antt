@@ -9,13 +9,11 @@ use Rattle.laws.specs.Weights.{All, all-imp}
 use Rattle.quota.specs.Charges.{users}
 use Rattle.model.specs.Numbers.{peers, nodes, owner}
 use Rattle.model.specs.Lists.{both}
-use Rattle.model.specs.State.{Status, Status.unopened, Status.opened, Status.disconnected, Life, Life.dead, is_live, Handle, Handle.none, held, count, Entry, Entry.message, Entry.destroyed, Entry.released, State, no_user, total, by_owner_id, concerned}
-use Rattle.model.specs.Tables.{with_status, with_user, with_handles, with_queues, with_lives}
-use Rattle.model.specs.Changes.{withdraw, destroy_notices, destroy_all}
+use Rattle.model.specs.State.{Status, Status.unopened, Status.opened, Status.disconnected, Life, Life.dead, is_live, Handle, Handle.none, held, count, Entry, Entry.message, Entry.destroyed, Entry.released, State, no_user, total}
+use Rattle.model.specs.Tables.{with_status, with_user, with_handles, with_lives}
 use Rattle.model.specs.Notices.{notice_for, notices_for, Stands, Noted}
 use Rattle.model.specs.Occurs.{no, both_true, all_both, load-none}
-use Rattle.model.specs.Rising.{owner-pass, owner-once}
-use Rattle.model.specs.NoticesQueues.{noted-withdraw, Without, withdraw-without, noted-push_all}
+use Rattle.model.specs.NoticesQueues.{Without}
 use Rattle.model.specs.Counts.{total_ext, total-two}
 
 pub unopened-opened : {A : Type 0} → ◌≡◌ {A = Status} unopened opened → A
@@ -74,7 +72,7 @@ module _ (b : State) (p : ℕ) (t : ℕ → Bool) (k : ℕ) where
       one q (released j s) z = (rw (lives-kept s z.1) z.0.0, z.0.1, z.0.2)
 
 -- No notice stands for a live node whose release notice was withdrawn.
-none-stands : (b : State) (p : ℕ) (t : ℕ → Bool) (q s : ℕ) → Noted b → All (Without p t) (b.queue q) → is_live (b.life s) ≡ true → owner s ≡ p →
+pub none-stands : (b : State) (p : ℕ) (t : ℕ → Bool) (q s : ℕ) → Noted b → All (Without p t) (b.queue q) → is_live (b.life s) ≡ true → owner s ≡ p →
     t s ≡ true → notices_for s (b.queue q) ≡ 0
 none-stands b p t q s n a l o e =
     load-none (notice_for s) (λ x. 1) (b.queue q)
@@ -86,36 +84,6 @@ none-stands b p t q s n a l o e =
     one (message j m) z (is_true y) = clash (sym y)
     one (destroyed j u) z (is_true y) = no (rw (← eqb-true u s y) (rw z.0.0)) l
     one (released j u) z (is_true y) = let v : u ≡ s = eqb-true u s y in absurd (z.1 (rw v o) (rw v e))
-
--- Live nodes of the owner p are destroyed.
-pub noted-destroy_all : (b : State) (p : ℕ) (t : ℕ → Bool) → Noted b → ((s : ℕ) → owner s ≡ p → t s ≡ true → is_live (b.life s) ≡ true) → Noted (destroy_all b p t)
-unfolding destroy_all destroy_notices
-noted-destroy_all b p t n alive =
-    noted-push_all c (destroyed b.accepted) (λ q. by_owner_id b.handle p (λ s. both (t s) (concerned (b.handle q) (b.queue q) b.accepted s))) m (λ s u. refl)
-    (λ q. all-imp (λ s. (both (t s) (concerned (b.handle q) (b.queue q) b.accepted s) ≡ true) × (owner s ≡ p))
-    (λ s. Stands c.handle c.life q (destroyed b.accepted s) × (notices_for s (c.queue q) ≡ 0))
-    (λ s z. fresh q s (both_true (t s) (concerned (b.handle q) (b.queue q) b.accepted s) z.0).0 z.1) (by_owner_id b.handle p (λ s. both (t s) (concerned (b.handle q) (b.queue q) b.accepted s)))
-    (owner-pass b.handle p (λ s. both (t s) (concerned (b.handle q) (b.queue q) b.accepted s))))
-    (λ q. owner-once b.handle p (λ s. both (t s) (concerned (b.handle q) (b.queue q) b.accepted s)))
-  where
-    w : State
-    w = withdraw b p t
-
-    c : State
-    c = with_lives w (lives b p t b.accepted)
-
-    v : Noted w
-    v = noted-withdraw b p t n
-
-    without : (q : ℕ) → All (Without p t) (w.queue q)
-    without = withdraw-without b p t n
-
-    m : Noted c
-    m = unfold withdraw with_queues in noted-lives w p t b.accepted v alive without
-
-    fresh : (q s : ℕ) → t s ≡ true → owner s ≡ p →
-        Stands c.handle c.life q (destroyed b.accepted s) × (notices_for s (c.queue q) ≡ 0)
-    fresh q s z o = unfold with_lives withdraw with_queues in ((rw (eq-eqb (owner s) p o, z) refl, (n.holders (owner s) s (n.owned s (alive s o z))).1), none-stands w p t q s v (without q) (alive s o z) o z)
 
 -- A peer with an empty queue and no live node of its own leaves.
 pub noted-leave : (b : State) (p : ℕ) → Noted b → b.status p ≡ opened → b.queue p ≡ [] → ((s : ℕ) → is_live (b.life s) ≡ true → owner s ≡ p → ⊥) →

@@ -1,18 +1,17 @@
 -- A peer that is not open has an empty queue; a slot that does not count is named by nothing, and a created node takes such a slot.
 -- Assumes nothing.
-use Rattle.model.specs.Founded.{Founded}
 use Rattle.model.specs.Changes.{stays}
 use Rattle.std.specs.Prelude.{ℕ, ◌+◌, ◌*◌, ◌≤◌, ◌<◌, ◌≡◌, refl, true, false, not, List, [], ◌∷◌, eqb, ltb}
-use Rattle.std.proofs.Common.{sym, ◌∙◌, arith, eqb-true, ltb-true, ltb-false}
+use Rattle.std.proofs.Common.{sym, ◌∙◌, arith}
 use Rattle.std.proofs.lemmas.Bool.{not-true}
 use Rattle.laws.specs.Tests.{Seen, Seen.is_true, Seen.is_false, look, clash}
 use Rattle.laws.specs.Search.{first, first_found}
 use Rattle.laws.specs.Weights.{All}
 use Rattle.model.specs.Numbers.{peers, slots}
-use Rattle.model.specs.Lists.{either, any, both}
-use Rattle.model.specs.State.{Status, Status.unopened, Status.opened, is_live, held, Entry, Entry.message, Entry.destroyed, Entry.released, messages_in, State, held_by_any, names, named, seeded, counts, free_place, earlier}
-use Rattle.model.specs.Notices.{Stands, Noted, mentions, Unnamed}
-use Rattle.model.specs.Occurs.{no, either-false, any_below_lem, both_true}
+use Rattle.model.specs.Lists.{any, both}
+use Rattle.model.specs.State.{Status, Status.unopened, Status.opened, held, Entry, Entry.message, Entry.destroyed, Entry.released, messages_in, State, names, counts, free_place, earlier}
+use Rattle.model.specs.Notices.{Stands, Noted}
+use Rattle.model.specs.Occurs.{no, either-false, both_true}
 use Rattle.model.specs.NoticesEnds.{unopened-opened}
 
 -- A holder is a peer.
@@ -26,7 +25,7 @@ carrier-held b q k s (message j m ∷ es) a f = (m.to, a.0.1)
 carrier-held b q k s (destroyed j t ∷ es) a f = carrier-held b q k s es a.1 f
 carrier-held b q k s (released j t ∷ es) a f = carrier-held b q k s es a.1 f
 
-carrier-names : (k s : ℕ) (es : List Entry) → any (earlier k s) es ≡ true → any (names s) (messages_in es) ≡ false → ⊥
+pub carrier-names : (k s : ℕ) (es : List Entry) → any (earlier k s) es ≡ true → any (names s) (messages_in es) ≡ false → ⊥
 carrier-names k s [] f g = clash (sym f)
 carrier-names k s (message j m ∷ es) f g = go (look (both (ltb j k) (any (eqb s) m.carried))) (either-false (names s m) (any (names s) (messages_in es)) g) (carrier-names k s es)
   where
@@ -46,14 +45,6 @@ stands-held b q (destroyed k s) n a f = go (look (held (b.handle q s)))
     go (is_false z) = carrier-held b q k s (b.queue q) (n.stands q) (rw z at f)
 stands-held b q (released k s) n a f = (s, rw a.1 at (n.owned s a.0))
 
--- A queue of which no entry can stand.
-pub quiet : (b : State) (q : ℕ) → Noted b → Founded b → ((s : ℕ) → held (b.handle q s) ≡ true → ⊥) → b.queue q ≡ []
-quiet b q n d h = go (b.queue q) (n.stands q) (d q)
-  where
-    go : (x : List Entry) → All (Stands b.handle b.life q) x → All (λ e. stays (b.handle q) (b.queue q) e ≡ true) x → x ≡ []
-    go [] a f = refl
-    go (e ∷ x) a f = let z = stands-held b q e n a.0 f.0 in absurd (h z.0 z.1)
-
 -- "a peer never opened or disconnected has no handles and an empty queue"; nor has a number past the last peer.
 pub closed-unheld : (b : State) (p : ℕ) → Noted b → (b.status p ≡ opened → ⊥) → (s : ℕ) → held (b.handle p s) ≡ false
 closed-unheld b p n c s = go (look (held (b.handle p s)))
@@ -61,9 +52,6 @@ closed-unheld b p n c s = go (look (held (b.handle p s)))
     go : Seen (held (b.handle p s)) → held (b.handle p s) ≡ false
     go (is_true e) = absurd (c (n.holders p s e).0)
     go (is_false e) = e
-
-pub closed-empty : (b : State) (p : ℕ) → Noted b → Founded b → (b.status p ≡ opened → ⊥) → b.queue p ≡ []
-closed-empty b p n d c = quiet b p n d (λ s e. c (n.holders p s e).0)
 
 pub past-unopened : (b : State) (p : ℕ) → Noted b → peers ≤ p → b.status p ≡ unopened
 past-unopened b p n l = go (b.status p) refl
@@ -76,52 +64,7 @@ past-unopened b p n l = go (b.status p) refl
 pub past-unheld : (b : State) (p : ℕ) → Noted b → peers ≤ p → (s : ℕ) → held (b.handle p s) ≡ false
 past-unheld b p n l = closed-unheld b p n (λ z. unopened-opened (sym (past-unopened b p n l) ∙ z))
 
-pub past-empty : (b : State) (p : ℕ) → Noted b → Founded b → peers ≤ p → b.queue p ≡ []
-past-empty b p n d l = closed-empty b p n d (λ z. unopened-opened (sym (past-unopened b p n l) ∙ z))
-
--- A slot that does not count.
-pub free-unnamed : (b : State) (s : ℕ) → Noted b → Founded b → counts b s ≡ false → Unnamed b s
-unfolding counts held_by_any named
-free-unnamed b s n d e = record { dead = x.0; unheld = un; unqueued = λ q. go q (look (ltb q peers)); unseeded = w.1 }
-  where
-    x : (is_live (b.life s) ≡ false) × (either (held_by_any b.handle s) (either (named b.queue s) (seeded b.seed s)) ≡ false)
-    x = either-false (is_live (b.life s)) (either (held_by_any b.handle s) (either (named b.queue s) (seeded b.seed s))) e
-
-    y : (held_by_any b.handle s ≡ false) × (either (named b.queue s) (seeded b.seed s) ≡ false)
-    y = either-false (held_by_any b.handle s) (either (named b.queue s) (seeded b.seed s)) x.1
-
-    w : (named b.queue s ≡ false) × (seeded b.seed s ≡ false)
-    w = either-false (named b.queue s) (seeded b.seed s) y.1
-
-    un : (p : ℕ) → held (b.handle p s) ≡ false
-    un p = at (look (held (b.handle p s)))
-      where
-        at : Seen (held (b.handle p s)) → held (b.handle p s) ≡ false
-        at (is_false z) = z
-        at (is_true z) = any_below_lem (λ q. held (b.handle q s)) peers p (holder-peer b p s n z) y.0
-
-    each : (q : ℕ) (xs : List Entry) → any (names s) (messages_in (b.queue q)) ≡ false → any (names s) (messages_in xs) ≡ false → All (Stands b.handle b.life q) xs → All (λ e. stays (b.handle q) (b.queue q) e ≡ true) xs → All (λ z. mentions s z ≡ false) xs
-    each q [] w f a c = tt
-    each q (message k m ∷ xs) w f a c = let r = either-false (names s m) (any (names s) (messages_in xs)) f in (r.0, each q xs w r.1 a.1 c.1)
-    each q (destroyed k t ∷ xs) w f a c = (on (look (eqb s t)), each q xs w f a.1 c.1)
-      where
-        on : Seen (eqb s t) → eqb s t ≡ false
-        on (is_false z) = z
-        on (is_true z) = absurd (carrier-names k s (b.queue q) (rw (un q) at (rw (← eqb-true s t z) at c.0)) w)
-    each q (released k t ∷ xs) w f a c = (on (look (eqb s t)), each q xs w f a.1 c.1)
-      where
-        on : Seen (eqb s t) → eqb s t ≡ false
-        on (is_false z) = z
-        on (is_true z) = no x.0 (rw (← eqb-true s t z) at a.0.0)
-
-    go : (q : ℕ) → Seen (ltb q peers) → All (λ z. mentions s z ≡ false) (b.queue q)
-    go q (is_true z) = let f = any_below_lem (λ q. any (names s) (messages_in (b.queue q))) peers q (ltb-true q peers z) w.0 in each q (b.queue q) f f (n.stands q) (d q)
-    go q (is_false z) = rw (past-empty b q n d (ltb-false q peers z)) tt
-
 -- The slot that create takes.
 pub free-slot : (b : State) (p : ℕ) → free_place b p < slots → counts b (p * slots + free_place b p) ≡ false
 unfolding free_place
 free-slot b p l = not-true (counts b (p * slots + first (λ k. not (counts b (p * slots + k))) slots)) (first_found (λ k. not (counts b (p * slots + k))) slots l)
-
-pub created-unnamed : (b : State) (p : ℕ) → Noted b → Founded b → free_place b p < slots → Unnamed b (p * slots + free_place b p)
-created-unnamed b p n d l = free-unnamed b (p * slots + free_place b p) n d (free-slot b p l)

@@ -10,12 +10,11 @@ use Rattle.laws.specs.Loads.{all_map}
 use Rattle.laws.specs.Weights.{keep, All, load-append, all_append, all-imp, all_keep}
 use Rattle.model.specs.Numbers.{peers, owner}
 use Rattle.model.specs.Lists.{both}
-use Rattle.model.specs.State.{is_live, Handle, held, Message, Entry, Entry.message, Entry.destroyed, Entry.released, messages_in, State, total, by_owner_id}
+use Rattle.model.specs.State.{is_live, Handle, held, Message, Entry, Entry.message, Entry.destroyed, Entry.released, messages_in, State, total}
 use Rattle.model.specs.Tables.{with_queues, with_queue, with_charges, accept}
-use Rattle.model.specs.Changes.{push, push_all, at_peers, take_out, not_released, withdraw, dropped, remains, forget, fell, notify, release_notices, notify_all, arriving, deliver, stays, settle, settled}
+use Rattle.model.specs.Changes.{push, push_all, at_peers, take_out, not_released, withdraw, dropped, remains, forget, fell, notify, arriving, deliver, stays, settle, settled}
 use Rattle.model.specs.Notices.{times, notice_for, notices_for, Carried, Stands, Noted}
 use Rattle.model.specs.Occurs.{no, both_true, keep-imp, load-none, load-keep, times-all}
-use Rattle.model.specs.Rising.{owner-pass, owner-once}
 
 pub noted-accept : (b : State) → Noted b → Noted (accept b)
 unfolding accept
@@ -134,7 +133,7 @@ fell-facts a b s e =
     (x.0, ltb-true 1 (total a.handle s) y.0, eqb-true (total b.handle s) 1 y.1)
 
 -- No notice stands for it.
-fell-none : (a b : State) (s q : ℕ) → Noted b → All (Lone a.handle) (b.queue q) → fell a b s ≡ true → notices_for s (b.queue q) ≡ 0
+pub fell-none : (a b : State) (s q : ℕ) → Noted b → All (Lone a.handle) (b.queue q) → fell a b s ≡ true → notices_for s (b.queue q) ≡ 0
 fell-none a b s q n old e = load-none (notice_for s) (λ x. 1) (b.queue q) (go (b.queue q) (n.stands q) old)
   where
     f : (is_live (b.life s) ≡ true) × (1 < total a.handle s) × (total b.handle s ≡ 1)
@@ -189,15 +188,6 @@ noted-push_all b make new n same-slot a u = noted-queues b (λ q. b.queue q ++ a
         go (is_true e) =
             rw e (once-append make same-slot (b.queue q) (new q) (n.once q) (u q)
             (all-imp (λ s. Stands b.handle b.life q (make s) × (notices_for s (b.queue q) ≡ 0)) (λ s. notices_for s (b.queue q) ≡ 0) (λ s z. z.1) (new q) (a q)) s)
-
-pub noted-notify_all : (a b : State) → Noted b → ((q : ℕ) → All (Lone a.handle) (b.queue q)) → Noted (notify_all a b)
-unfolding notify_all release_notices
-noted-notify_all a b n old =
-    noted-push_all b (released b.accepted) (λ q. by_owner_id b.handle q (fell a b)) n (λ s t. refl)
-    (λ q. all-imp (λ s. (fell a b s ≡ true) × (owner s ≡ q)) (λ s. Stands b.handle b.life q (released b.accepted s) × (notices_for s (b.queue q) ≡ 0))
-    (λ s z. let f = fell-facts a b s z.0 in ((f.0, z.1, f.2), fell-none a b s q n (old q) z.0))
-    (by_owner_id b.handle q (fell a b)) (owner-pass b.handle q (fell a b)))
-    (λ q. owner-once b.handle q (fell a b))
 
 -- Messages sent.
 arriving-stand : (b : State) (u : ℕ) (ds hs payload : List ℕ) (q : ℕ) → Noted b → All (λ d. is_live (b.life d) ≡ true) ds → Carried hs →

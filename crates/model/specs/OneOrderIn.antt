@@ -2,18 +2,14 @@
 -- took from came out in the same order. That the answer shows just that item is `due-of-history` (Due.antt).
 -- Assumes nothing.
 use Rattle.std.specs.Prelude.{ℕ, ◌≤◌, ◌≡◌, List, [], ◌∷◌, ◌++◌}
-use Rattle.std.proofs.Common.{subst, arith}
+use Rattle.std.proofs.Common.{arith}
 use Rattle.laws.specs.Weights.{All}
 use Rattle.frames.specs.Frame.{opcode}
 use Rattle.model.specs.Book.{Fed, acting_peer}
-use Rattle.model.specs.QueuesLaws.{later-all, all-behind}
 use Rattle.model.specs.Ledger.{Item, item_number}
-use Rattle.model.specs.Tally.{tally}
 use Rattle.model.specs.Rows.{ledger_of}
-use Rattle.model.specs.Happened.{Happened, happened-front}
-use Rattle.model.specs.Waits.{taken_in}
-use Rattle.model.specs.WaitsProof.{followed-in}
-use Rattle.model.specs.HandlesIn.{ItemsInOrder, order-in}
+use Rattle.model.specs.Happened.{Happened}
+use Rattle.model.specs.HandlesIn.{ItemsInOrder}
 
 -- The first of some items was queued by the command n.
 abbrev pub FirstFrom : ℕ → List Item → Type 0
@@ -38,7 +34,7 @@ TookOneOrder =
     Took xs x p n → Took (xs ++ (x ∷ ys)) y p m → Took us z q m → Took (us ++ (z ∷ vs)) w q n → n ≡ m
 
 -- Every item of a queue whose first one is of the command n is of n or of a later one.
-from_first : (n : ℕ) (q : List Item) → FirstFrom n q → ItemsInOrder q → All (λ e. n ≤ item_number e) q
+pub from_first : (n : ℕ) (q : List Item) → FirstFrom n q → ItemsInOrder q → All (λ e. n ≤ item_number e) q
 from_first n [] f o = absurd f
 from_first n (e ∷ q) f o = (omega (arith, f), below q o.0)
   where
@@ -46,25 +42,10 @@ from_first n (e ∷ q) f o = (omega (arith, f), below q o.0)
     below [] a = tt
     below (d ∷ q) a = (omega (arith, a.0, f), below q a.1)
 
-first-number : (n : ℕ) (q : List Item) → FirstFrom n q → (t : ℕ) → All (λ e. item_number e ≤ t) q → n ≤ t
+pub first-number : (n : ℕ) (q : List Item) → FirstFrom n q → (t : ℕ) → All (λ e. item_number e ≤ t) q → n ≤ t
 first-number n [] f t a = absurd f
 first-number n (e ∷ q) f t a = omega (arith, f, a.0)
 
-first-at-least : (n m : ℕ) (q : List Item) → FirstFrom m q → All (λ e. n ≤ item_number e) q → n ≤ m
+pub first-at-least : (n m : ℕ) (q : List Item) → FirstFrom m q → All (λ e. n ≤ item_number e) q → n ≤ m
 first-at-least n m [] f a = absurd f
 first-at-least n m (e ∷ q) f a = omega (arith, f, a.0)
-
-pub took-in-order : TookInOrder
-took-in-order xs ys zs x y h p n m t u =
-    let front = happened-front (xs ++ (x ∷ ys)) (y ∷ zs) h in
-    let o = order-in xs (happened-front xs (x ∷ ys) front) p in
-    let small : n ≤ tally xs = first-number n ((ledger_of xs).queue p) t.first (tally xs) o.numbered in
-    let a : All (λ e. n ≤ item_number e) ((ledger_of xs).queue p) = from_first n ((ledger_of xs).queue p) t.first o.in_order in
-    let l = later-all (λ e. n ≤ item_number e) (λ e z. omega (arith, z, small)) (followed-in xs (x ∷ ys) front p) a in
-    first-at-least n m ((ledger_of (xs ++ (x ∷ ys))).queue p) u.first (all-behind (λ e. n ≤ item_number e) (taken_in xs (x ∷ ys) p) ((ledger_of (xs ++ (x ∷ ys))).queue p) l)
-
-pub took-one-order : TookOneOrder
-took-one-order hs h xs ys zs us vs ws x y z w p q n m e f t u s r =
-    let a = took-in-order xs ys zs x y (subst Happened e h) p n m t u in
-    let b = took-in-order us vs ws z w (subst Happened f h) q m n s r in
-    omega arith

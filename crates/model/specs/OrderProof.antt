@@ -1,16 +1,12 @@
 -- Each queue is in the order of accepted commands: the proof.
 -- Assumes nothing.
-use Rattle.std.specs.Prelude.{ℕ, suc, ◌≤◌, ◌≡◌, List, [], ◌∷◌, ◌++◌}
+use Rattle.std.specs.Prelude.{ℕ, ◌≤◌, ◌≡◌, List, [], ◌∷◌, ◌++◌}
 use Rattle.std.proofs.Common.{arith}
 use Rattle.laws.specs.Weights.{All, all-imp}
-use Rattle.model.specs.State.{Entry, start}
-use Rattle.model.specs.Effects.{effect}
-use Rattle.model.specs.Accepted.{Kept, induction}
-use Rattle.model.specs.Unchanged.{Count, Count.one_more, Count.nothing, effect-count}
-use Rattle.model.specs.Queues.{stamp, Later, Later.behind, Later.stays, Later.leaves, taken_by}
-use Rattle.model.specs.QueuesLaws.{all-behind, later-all}
-use Rattle.model.specs.QueuesProof.{moved}
-use Rattle.model.specs.Order.{InOrder, Ordered, Order}
+use Rattle.model.specs.State.{Entry}
+use Rattle.model.specs.Queues.{stamp, Later, Later.behind, Later.stays, Later.leaves}
+use Rattle.model.specs.QueuesLaws.{later-all}
+use Rattle.model.specs.Order.{InOrder}
 
 -- Entries of one command are in order.
 one_number : (n : ℕ) (q : List Entry) → All (λ e. stamp e ≡ n) q → InOrder q
@@ -27,25 +23,6 @@ later-order n (stays {e} l) b o =
     (later-all (λ d. stamp e ≤ stamp d) (λ d z. omega arith) l o.0, later-order n l b.1 o.1)
 later-order n (leaves g l) b o = later-order n l b.1 o.1
 
-behind-order : (t q : List Entry) → InOrder (t ++ q) → InOrder q
+pub behind-order : (t q : List Entry) → InOrder (t ++ q) → InOrder q
 behind-order [] q o = o
 behind-order (e ∷ t) q o = behind-order t q o.1
-
-pub ordered-kept : Kept (λ b. (p : ℕ) → Ordered b.accepted (b.queue p))
-ordered-kept b f k h l e p = go (effect-count b f k) (h p)
-  where
-    go : Count b (effect b f k) → Ordered b.accepted (b.queue p) → Ordered (effect b f k).accepted ((effect b f k).queue p)
-    go (nothing z) o = rw z o
-    go (one_more z) o =
-        let n : ℕ = suc b.accepted in
-        let low : All (λ d. stamp d ≤ n) (b.queue p) = all-imp (λ d. stamp d ≤ b.accepted) (λ d. stamp d ≤ n) (λ d y. omega arith) (b.queue p) o.numbered in
-        let m = moved b f k l e p in
-        let t = taken_by b p k in
-        let a = (effect b f k).queue p in
-        record {
-          in_order = behind-order t a (later-order n m low o.in_order);
-          numbered = rw z (all-behind (λ d. stamp d ≤ n) t a (later-all (λ d. stamp d ≤ n) (λ d y. omega arith) m low));
-        }
-
-pub order : Order
-order = induction (λ b. (p : ℕ) → Ordered b.accepted (b.queue p)) (λ p. unfold start in record { in_order = tt; numbered = tt }) ordered-kept

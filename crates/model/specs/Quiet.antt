@@ -7,10 +7,9 @@ use Rattle.laws.specs.Tables.{upd-all}
 use Rattle.laws.specs.Weights.{keep}
 use Rattle.laws.specs.Loads.{keep-every}
 use Rattle.model.specs.Numbers.{peers, owner}
-use Rattle.model.specs.Lists.{both}
-use Rattle.model.specs.State.{Life, Handle, Message, Entry, Entry.message, Entry.destroyed, Entry.released, messages_in, State, by_owner_id, concerned}
+use Rattle.model.specs.State.{Life, Handle, Message, Entry, Entry.message, Entry.destroyed, Entry.released, messages_in, State}
 use Rattle.model.specs.Tables.{accept, with_given, with_handles, with_queues, with_queue, with_lives}
-use Rattle.model.specs.Changes.{push_all, at_peers, not_released, withdraw, give, give_all, fell, notify, release_notices, notify_all, destroy_notices, destroy_all, valid, stays, settle, settled}
+use Rattle.model.specs.Changes.{push_all, at_peers, not_released, withdraw, give, fell, notify, valid, stays, settle, settled}
 
 pub record Quiet (b c : State) : Type 0 where
   pub messages : (q : ℕ) → messages_in (c.queue q) ≡ messages_in (b.queue q)
@@ -44,11 +43,11 @@ messages-keep t d h (message n m ∷ q) = go (look (d m)) (messages-keep t d h q
 messages-keep t d h (destroyed n s ∷ q) = pick_all (λ x. messages_in x ≡ keep d (messages_in q)) (t (destroyed n s)) _ _ (messages-keep t d h q) (messages-keep t d h q)
 messages-keep t d h (released n s ∷ q) = pick_all (λ x. messages_in x ≡ keep d (messages_in q)) (t (released n s)) _ _ (messages-keep t d h q) (messages-keep t d h q)
 
-destroyed-silent : (n : ℕ) (ss : List ℕ) → messages_in (map (destroyed n) ss) ≡ []
+pub destroyed-silent : (n : ℕ) (ss : List ℕ) → messages_in (map (destroyed n) ss) ≡ []
 destroyed-silent n [] = refl
 destroyed-silent n (s ∷ ss) = destroyed-silent n ss
 
-released-silent : (n : ℕ) (ss : List ℕ) → messages_in (map (released n) ss) ≡ []
+pub released-silent : (n : ℕ) (ss : List ℕ) → messages_in (map (released n) ss) ≡ []
 released-silent n [] = refl
 released-silent n (s ∷ ss) = released-silent n ss
 
@@ -101,24 +100,9 @@ unfolding give
 quiet-give b p as_of s =
     pick_all (Quiet b) (valid b p as_of s) _ b (quiet_then (quiet_then (quiet-given b _) (quiet-handles _ p _)) (quiet-withdraw _ (owner s) (eqb s))) (quiet_same b)
 
-pub quiet-give_all : (b : State) (p as_of : ℕ) (ss : List ℕ) → Quiet b (give_all b p as_of ss)
-quiet-give_all b p as_of [] = quiet_same b
-quiet-give_all b p as_of (s ∷ ss) = quiet_then (quiet-give b p as_of s) (quiet-give_all (give b p as_of s) p as_of ss)
-
 pub quiet-notify : (a b : State) (s : ℕ) → Quiet b (notify a b s)
 unfolding notify
 quiet-notify a b s = pick_all (Quiet b) (fell a b s) _ b (quiet-push b (owner s) (released b.accepted s ∷ []) refl) (quiet_same b)
 
-at-peers-silent : (new : ℕ → List Entry) (q : ℕ) → messages_in (new q) ≡ [] → messages_in (at_peers new q) ≡ []
+pub at-peers-silent : (new : ℕ → List Entry) (q : ℕ) → messages_in (new q) ≡ [] → messages_in (at_peers new q) ≡ []
 at-peers-silent new q e = pick_all (λ x. messages_in x ≡ []) (ltb q peers) (new q) [] e refl
-
-pub quiet-notify_all : (a b : State) → Quiet b (notify_all a b)
-unfolding notify_all release_notices
-quiet-notify_all a b = quiet-push_all b (at_peers (release_notices a b)) (λ q. at-peers-silent (release_notices a b) q (released-silent b.accepted (by_owner_id b.handle q (fell a b))))
-
-pub quiet-destroy_all : (b : State) (p : ℕ) (t : ℕ → Bool) → Quiet b (destroy_all b p t)
-unfolding destroy_all destroy_notices
-quiet-destroy_all b p t =
-    quiet_then (quiet_then (quiet-withdraw b p t) (quiet-lives _ _))
-    (quiet-push_all _ (at_peers (destroy_notices b p t)) (λ q.
-    at-peers-silent (destroy_notices b p t) q (destroyed-silent b.accepted (by_owner_id b.handle p (λ s. both (t s) (concerned (b.handle q) (b.queue q) b.accepted s))))))

@@ -6,11 +6,8 @@ use Rattle.laws.specs.Sums.{sum_to, sum-ext}
 use Rattle.laws.specs.Weights.{All, all-imp}
 use Rattle.model.specs.Numbers.{nodes}
 use Rattle.model.specs.State.{Entry, Entry.message, Entry.destroyed, Entry.released, messages_in, State}
-use Rattle.model.specs.Step.{Call, run}
 use Rattle.model.specs.Notices.{notices_for, Stands, Noted}
 use Rattle.model.specs.Occurs.{sum_ones, sum-zero, sum-next}
-use Rattle.model.specs.NoticesProof.{noted}
-use Rattle.model.specs.ChargedBounds.{at-most-60-messages}
 use Rattle.model.specs.Rooms.{notices, most_messages, most_entries}
 
 -- A queue is its messages and its notices.
@@ -47,11 +44,3 @@ notices-few b q n = omega (arith, notices-sum nodes (b.queue q) within, sum_ones
 
 pub queue-few : (b : State) (q : ℕ) → Noted b → length (messages_in (b.queue q)) ≤ most_messages → length (b.queue q) ≤ most_entries
 queue-few b q n l = omega (arith, queue-split (b.queue q), notices-few b q n)
-
--- Every run.
-pub queue-bound : (cs : List Call) (q : ℕ) → length (messages_in ((run cs).queue q)) ≤ most_messages → length ((run cs).queue q) ≤ most_entries
-queue-bound cs q l = queue-few (run cs) q (noted cs) l
-
--- At most 188 entries stand in a queue of a run: 60 messages, and a notice for each node.
-pub at-most-188-entries : (cs : List Call) (q : ℕ) → length ((run cs).queue q) ≤ 188
-at-most-188-entries cs q = queue-bound cs q (at-most-60-messages cs q)

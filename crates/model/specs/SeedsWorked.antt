@@ -20,14 +20,12 @@ use Rattle.model.specs.Changes.{push_all, take_out, withdraw, valid, shown, give
 use Rattle.model.specs.Effects.{opens, creates, destroys, releases, effect}
 use Rattle.model.specs.Replies.{shows_seed, reply}
 use Rattle.model.specs.Step.{carry_out, finish, step, run_from}
-use Rattle.model.specs.Book.{Node, Fed, shown_ids}
+use Rattle.model.specs.Book.{Fed}
 use Rattle.model.specs.Claim.{history_from}
 use Rattle.model.specs.Scripts.{opening, create, destroy, release, receive, set_seed, show_seed, number, destroyed_at, shows_as, calls}
 use Rattle.model.specs.Happened.{Happened}
-use Rattle.model.specs.Shows.{AtOnePlace}
 use Rattle.model.specs.ShowsWorked.{accepted}
-use Rattle.model.specs.Seeds.{LastSeed, nodes_then, SeedShown}
-use Rattle.model.specs.SeedsProof.{shows-last-seed}
+use Rattle.model.specs.Seeds.{LastSeed}
 
 abbrev pub before : List Fed
 before = accepted (opening 0 0) (number 0) ∷ accepted (create 0 8) (number 0) ∷ accepted (create 0 12) (number 0) ∷ []
@@ -53,10 +51,3 @@ happened = record { calls = calls (map (λ (x : Fed). x.frame) (history ++ (read
 
 abbrev pub last : LastSeed history 0
 last = record { before = before; set = set; after = ends ++ (anew ∷ []); place = refl; sets = refl; last = (refl, (refl, (refl, (refl, tt)))) }
-
-pub shown-whole : SeedShown history reading 0 last
-shown-whole = (shows-last-seed history [] reading happened refl refl).1 last
-
--- The ID that was chosen again.
-pub never-eight : (n : Node) → AtOnePlace 8 n (shown_ids reading.answer) (nodes_then history 0 last) → ⊥
-never-eight n at = shown-whole.chosen-again 8 n at ends [] anew refl (record { number = refl; byte = refl; peer = refl; id = unfold id_at num_at be in refl })

@@ -8,7 +8,8 @@ use Rattle.laws.specs.Tests.{pick, Seen, Seen.is_true, Seen.is_false, look}
 use Rattle.laws.specs.Weights.{keep, All, all-imp, all_keep}
 use Rattle.frames.specs.Frame.{most_ids, most_bytes}
 use Rattle.quota.specs.Charges.{users, own, allows_all}
-use Rattle.quota.specs.Step.{Reached, reached-share}
+use Rattle.quota.specs.Step.{Reached}
+use Rattle.quota.proofs.Step.{reached-share}
 use Rattle.model.specs.Numbers.{nodes, owner}
 use Rattle.model.specs.Resources.{Resource, Resource.messages, Resource.bytes, Resource.handles, weigh, amount, share}
 use Rattle.model.specs.Lists.{every}

@@ -1,38 +1,27 @@
 -- What the answer of an accepted call says, in the words of the book: the bytes of its reply, and what the book and the third demand read off them.
 -- Assumes nothing.
-use Rattle.ids.specs.Refusals.{EAGAIN}
-use Rattle.model.specs.Tested.{tested}
-use Rattle.std.specs.Prelude.{ℕ, suc, ◌^◌, ◌≤◌, ◌<◌, ◌≡◌, refl, true, false, drop}
+use Rattle.std.specs.Prelude.{ℕ, suc, ◌^◌, ◌≤◌, ◌<◌, ◌≡◌, refl, drop}
 use Rattle.std.proofs.Math.Path.{sym, ap}
-use Rattle.std.proofs.Common.{◌∙◌, le-ltb}
+use Rattle.std.proofs.Common.{le-ltb}
 use mathlib.Core.List.{List, [], ◌∷◌}
 use native.Mathlib.Omega.{arith}
 use Rattle.std.proofs.Math.ListN.{length}
 use Rattle.std.proofs.Math.Seq.{take-append_seam}
 use Rattle.laws.specs.Weights.{All}
-use Rattle.ids.specs.declared.HandleId.{HandleId}
-use Rattle.ids.specs.declared.Peer.{Peer}
-use Rattle.ids.specs.declared.User.{User}
-use Rattle.frames.specs.declared.Command.{Command}
-use Rattle.frames.specs.declared.Command.TheVariants.{Transfer, Receive, Quota, ShowSeed}
-use Rattle.quota.specs.Charges.{own, balance_of}
 use Rattle.answers.specs.Answer.{answer_size, answer_bytes, answer_after, outcome_of}
-use Rattle.answers.specs.AnswerLaws.{transferred-id, message-kind, destroyed-kind, released-kind, message-count, message-ids, quota-messages, quota-bytes, quota-handles, seed-count, seed-ids-at}
-use Rattle.model.specs.Resources.{Resource, Resource.messages, Resource.bytes, Resource.handles, amount}
-use Rattle.model.specs.State.{Message, Entry, Entry.message, Entry.destroyed, Entry.released, State, slot, Seed, Seed.unset, Seed.kept, seed_carries}
-use Rattle.model.specs.Changes.{take_out, shown, give, shown_all}
-use Rattle.model.specs.Replies.{Reply, shows_message, shows, reply, shows_seed}
-use Rattle.model.specs.Step.{Verdict, Call, finish, step, answer_of}
-use Rattle.model.specs.Book.{answered_id, answers_message, shown_ids}
-use Rattle.model.specs.Claim.{reported}
-use Rattle.model.specs.Accepted.{Accepted}
+use Rattle.answers.specs.AnswerLaws.{seed-count, seed-ids-at}
+use Rattle.model.specs.State.{State, Seed, Seed.unset, Seed.kept, seed_carries}
+use Rattle.model.specs.Changes.{give, shown_all}
+use Rattle.model.specs.Replies.{Reply, shows_seed}
+use Rattle.model.specs.Step.{Verdict, finish, answer_of}
+use Rattle.model.specs.Book.{shown_ids}
 
 -- The bytes of a reply.
 abbrev pub bytes_of : Reply → List ℕ
 bytes_of r = answer_bytes r.answer r.ids r.payload
 
 -- Into a buffer that is long enough the reply is written whole, and the outcome's length is its length.
-finish-answer : (b : State) (out : List ℕ) (v : Verdict) → answer_size ≤ length out → answer_of (finish b out v) ≡ bytes_of v.reply
+pub finish-answer : (b : State) (out : List ℕ) (v : Verdict) → answer_size ≤ length out → answer_of (finish b out v) ≡ bytes_of v.reply
 unfolding finish outcome_of answer_after
 finish-answer b out v h =
     rw (le-ltb (length out) answer_size h) (take-append_seam (bytes_of v.reply) (drop (length (bytes_of v.reply)) out))
@@ -42,7 +31,7 @@ pub shown-length : (b : State) (p as_of : ℕ) (ss : List ℕ) → length (shown
 shown-length b p as_of [] = refl
 shown-length b p as_of (s ∷ ss) = ap suc (shown-length (give b p as_of s) p as_of ss)
 
-seed-ids : (b : State) (p : ℕ) (x : Seed) → (x ≡ unset → ⊥) → length (seed_carries x) ≤ 8 → All (λ i. i < 256 ^ 8) (shown_all b p (suc b.accepted) (seed_carries x)) →
+pub seed-ids : (b : State) (p : ℕ) (x : Seed) → (x ≡ unset → ⊥) → length (seed_carries x) ≤ 8 → All (λ i. i < 256 ^ 8) (shown_all b p (suc b.accepted) (seed_carries x)) →
     shown_ids (bytes_of (shows_seed b p x)) ≡ shown_all b p (suc b.accepted) (seed_carries x)
 unfolding shows_seed
 seed-ids b p unset d few h = absurd (d refl)
@@ -51,58 +40,3 @@ seed-ids b p (kept payload carried) d few h =
     let k : length carried ≡ length ids = sym (shown-length b p (suc b.accepted) carried) in
     let few8 : length ids ≤ 8 = omega arith in
     rw seed-count (seed-ids-at _ ids payload few8 h)
-
-module _ (b : State) (c : Call) where
-  -- The answer of an accepted call is the bytes of its reply.
-  pub answer-bytes : (k : Command) → Accepted b c k → answer_of (step b c) ≡ bytes_of (reply b c.frame k)
-  answer-bytes k a = ap answer_of a.result ∙ finish-answer b c.buffer _ a.large
-
-  -- Transfer answers the ID shown at the destination.
-  pub transfer-answers : (p : Peer) (i : HandleId) (q : Peer) → Accepted b c (Transfer p i q) → shown b q.0 (suc b.accepted) (slot b p.0 i.0) < 256 ^ 8 →
-      answered_id (answer_of (step b c)) ≡ shown b q.0 (suc b.accepted) (slot b p.0 i.0)
-  unfolding reply
-  transfer-answers p i q a h = rw (answer-bytes (Transfer p i q) a) (transferred-id _ [] [] h)
-
-  module _ (p : Peer) (room : ℕ) (a : Accepted b c (Receive p room)) where
-    -- Receive answers what stands first in the queue.
-    pub receive-bytes : (q : List Entry) → b.queue p.0 ≡ q → answer_of (step b c) ≡ bytes_of (shows b p.0 q)
-    unfolding reply
-    receive-bytes q e = answer-bytes (Receive p room) a ∙ ap (λ (q : List Entry). bytes_of (shows b p.0 q)) e
-
-    module _ (n : ℕ) (m : Message) (rest : List Entry) (e : b.queue p.0 ≡ message n m ∷ rest) where
-      pub receive-message : answers_message (answer_of (step b c)) ≡ true
-      unfolding shows_message
-      receive-message = rw (receive-bytes (message n m ∷ rest) e, message-kind)
-
-      pub receive-shows : length m.carried ≤ 8 → All (λ i. i < 256 ^ 8) (shown_all (take_out b p.0 (m ∷ []) rest) p.0 n m.carried) →
-          shown_ids (answer_of (step b c)) ≡ shown_all (take_out b p.0 (m ∷ []) rest) p.0 n m.carried
-      unfolding shows_message
-      receive-shows l h =
-          let ids = shown_all (take_out b p.0 (m ∷ []) rest) p.0 n m.carried in
-          let k : length m.carried ≡ length ids = sym (shown-length (take_out b p.0 (m ∷ []) rest) p.0 n m.carried) in
-          let few : length ids ≤ 8 = omega arith in
-          rw (receive-bytes (message n m ∷ rest) e, message-count) (message-ids _ ids m.payload few h)
-
-    module _ (n s : ℕ) (rest : List Entry) where
-      pub receive-destroyed : b.queue p.0 ≡ destroyed n s ∷ rest → answers_message (answer_of (step b c)) ≡ false
-      receive-destroyed e = rw (receive-bytes (destroyed n s ∷ rest) e, destroyed-kind)
-
-      pub receive-released : b.queue p.0 ≡ released n s ∷ rest → answers_message (answer_of (step b c)) ≡ false
-      receive-released e = rw (receive-bytes (released n s ∷ rest) e, released-kind)
-
-  -- A seed reading answers the IDs of what the seed carries.
-  pub seed-shows : (p : Peer) (room : ℕ) → Accepted b c (ShowSeed p room) → length (seed_carries (b.seed p.0)) ≤ 8 →
-      All (λ i. i < 256 ^ 8) (shown_all b p.0 (suc b.accepted) (seed_carries (b.seed p.0))) → shown_ids (answer_of (step b c)) ≡ shown_all b p.0 (suc b.accepted) (seed_carries (b.seed p.0))
-  unfolding reply
-  seed-shows p room a few h = ap shown_ids (answer-bytes (ShowSeed p room) a) ∙ seed-ids b p.0 (b.seed p.0) (λ e. absurd (unset-refused e)) few h
-    where
-      unset-refused : b.seed p.0 ≡ unset → ⊥
-      unset-refused e = let z : EAGAIN ≡ 0 = rw e at (tested b c.frame (ShowSeed p room) a.unrefused).next in omega arith
-
-  -- The quota question reports what the user has queued.
-  pub quota-reports : (p : Peer) (u : User) → Accepted b c (Quota p u) → (r : Resource) → amount r (own (b.charges p.0) u) < 65536 →
-      reported r (answer_of (step b c)) ≡ amount r (own (b.charges p.0) u)
-  unfolding reply balance_of
-  quota-reports p u a messages h = rw (answer-bytes (Quota p u) a) (quota-messages (balance_of (b.charges p.0) u) [] [] h)
-  quota-reports p u a bytes h = rw (answer-bytes (Quota p u) a) (quota-bytes (balance_of (b.charges p.0) u) [] [] h)
-  quota-reports p u a handles h = rw (answer-bytes (Quota p u) a) (quota-handles (balance_of (b.charges p.0) u) [] [] h)

@@ -24,8 +24,7 @@ use Rattle.model.specs.Claim.{history_from}
 use Rattle.model.specs.Ledger.{blank_ledger, ledger_create, ledger_destroy, ledger_release, cleared, valid_at, due_id, ledger_give, ledger_queues, ledger_counted, enter, with_book, feed_ledger, feed_ledger_all, ledger_seed}
 use Rattle.model.specs.Scripts.{opening, create, destroy, release, send, receive, transfer, number, gives, takes, destroyed_at, calls}
 use Rattle.model.specs.Happened.{Happened}
-use Rattle.model.specs.Shows.{Shows, Shows.destination, CreatedAnew}
-use Rattle.model.specs.ShowsAnew.{chosen-for-another}
+use Rattle.model.specs.Shows.{Shows, Shows.destination}
 
 -- A command that came back with 0, and its answer.
 abbrev pub accepted : List ℕ → List ℕ → Fed
@@ -71,8 +70,5 @@ unfolding upd sum_to build be num_at id_at short_at parse_sizes parse_send frame
 shown-again =
     destination 11 (record { user = 0; to = second-node; payload = 52 ∷ []; carried = [] }) [] (record { number = refl; byte = refl; peer = refl; says = refl }) refl refl refl
 
-two-nodes : first-node ≡ second-node → ⊥
+pub two-nodes : first-node ≡ second-node → ⊥
 two-nodes e = let z : ◌≡◌ {A = ℕ} 0 1 = ap (λ (n : Node). n.number) e in omega arith
-
-pub created-anew : CreatedAnew before once between again [] 0 8 first-node
-created-anew = chosen-for-another before between [] once again happened 0 8 first-node second-node shown-once shown-again two-nodes

@@ -7,12 +7,11 @@ use mathlib.Core.List.{List, [], ◌∷◌, map}
 use borrow.Author.Tests.{ne_eqb}
 use Rattle.laws.specs.Tests.{pick, Seen, Seen.is_true, Seen.is_false, look, Same, Same.same, Same.other, same?, clash}
 use Rattle.laws.specs.Tables.{upd, upd_same, upd_other, upd-rel, upd-all}
-use Rattle.laws.specs.Weights.{All}
 use Rattle.model.specs.Numbers.{nodes, owner, invalid, next_id}
 use Rattle.model.specs.State.{is_live, Handle, Handle.none, Handle.some, handle_of, count, id_or, messages_in, State, Life, Life.live, Life.dead, lived_at}
 use Rattle.model.specs.Tables.{with_given, with_handles, with_queues}
-use Rattle.model.specs.Changes.{not_released, withdraw, shown, given_after, give, give_all, shown_all, valid}
-use Rattle.model.specs.Book.{Noted, Noted.blank, Noted.noted, count_of, Book, put_handle, raise, learn}
+use Rattle.model.specs.Changes.{not_released, withdraw, shown, given_after, give, give_all, valid}
+use Rattle.model.specs.Book.{Noted, Noted.blank, Noted.noted, count_of, Book, put_handle, raise}
 use Rattle.model.specs.Sim.{called, told, Handles, Sim}
 use Rattle.model.specs.SimHandles.{some-none, handles-set, one-slot}
 use Rattle.model.specs.SimQueues.{messages-kept}
@@ -119,30 +118,16 @@ shown-small b p as_of s ok low = go (look (valid b p as_of s)) (b.handle p s) re
     go (is_true f) none e = rw (f, e) (omega arith)
     go (is_true f) (some i c) e = rw (f, e) (omega (arith, (ok p s i c e).1))
 
-given-le : (x : Handle) (n : ℕ) → (n ≤ given_after x n) × (given_after x n ≤ n + 1)
+pub given-le : (x : Handle) (n : ℕ) → (n ≤ given_after x n) × (given_after x n ≤ n + 1)
 given-le none n = (omega arith, omega arith)
 given-le (some i c) n = (omega arith, omega arith)
 
-id-given : (h : ℕ → Handle) (n s : ℕ) → IdsAt h n → n < enough → ((j : ℕ) → id_or (next_id n) (h s) ≡ 4 * j + 3 → j ≤ given_after (h s) n) × (id_or (next_id n) (h s) < 18446744073709551615)
+pub id-given : (h : ℕ → Handle) (n s : ℕ) → IdsAt h n → n < enough → ((j : ℕ) → id_or (next_id n) (h s) ≡ 4 * j + 3 → j ≤ given_after (h s) n) × (id_or (next_id n) (h s) < 18446744073709551615)
 id-given h n s ok low = go (h s) refl
   where
     go : (x : Handle) → h s ≡ x → ((j : ℕ) → id_or (next_id n) x ≡ 4 * j + 3 → j ≤ given_after x n) × (id_or (next_id n) x < 18446744073709551615)
     go none e = ((λ j f. omega arith), omega arith)
     go (some i c) e = ok s i c e
-
--- The IDs after a handle was given, and how many have been.
-pub ids-give : (b : State) (p as_of s : ℕ) → Ids b → b.given p < enough → Ids (give b p as_of s)
-unfolding give shown withdraw with_given with_handles with_queues
-ids-give b p as_of s ok low = go (look (valid b p as_of s))
-  where
-    go : Seen (valid b p as_of s) → Ids (give b p as_of s)
-    go (is_false e) = rw e ok
-    go (is_true e) =
-        let x = id-given (b.handle p) (b.given p) s (ok p) low in
-        rw e
-        (upd-rel (λ _ h n. IdsAt h n) b.handle b.given p _ _ ok
-        (ids_set (b.handle p) (b.given p) (given_after (b.handle p s) (b.given p)) s (id_or (next_id (b.given p)) (b.handle p s)) (suc (count (b.handle p s))) (ok p)
-        (given-le (b.handle p s) (b.given p)).0 x.0 x.1))
 
 pub given-give : (b : State) (p as_of s q : ℕ) → (give b p as_of s).given q ≤ b.given q + 1
 unfolding give shown withdraw with_given with_handles with_queues
@@ -151,22 +136,6 @@ given-give b p as_of s q = go (look (valid b p as_of s))
     go : Seen (valid b p as_of s) → (give b p as_of s).given q ≤ b.given q + 1
     go (is_false e) = rw e (omega arith)
     go (is_true e) = rw e (upd-all (λ q n. n ≤ b.given q + 1) b.given p _ (λ q. omega arith) (given-le (b.handle p s) (b.given p)).1 q)
-
--- Handles given one after another.
-pub sim-gives : {N : ℕ} (name : ℕ → ℕ) (b : State) (k : Book) (p as_of : ℕ) (ss : List ℕ) → Sim N name b k → Ids b → All (λ s. s < nodes) ss →
-    b.given p + length ss < enough → Sim N name (give_all b p as_of ss) (learn k p (shown_all b p as_of ss) (map (called name) ss))
-sim-gives name b k p as_of [] r ok l low = r
-sim-gives name b k p as_of (s ∷ ss) r ok l low =
-    sim-gives name (give b p as_of s) _ p as_of ss (sim-give name b k p as_of s r ok l.0 (omega arith)) (ids-give b p as_of s ok (omega arith)) l.1 (omega (arith, given-give b p as_of s p))
-
-pub shown-all-small : (b : State) (p as_of : ℕ) (ss : List ℕ) → Ids b → b.given p + length ss < enough → All (λ i. i < 18446744073709551616) (shown_all b p as_of ss)
-shown-all-small b p as_of [] ok low = tt
-shown-all-small b p as_of (s ∷ ss) ok low =
-    (shown-small b p as_of s ok (omega arith), shown-all-small (give b p as_of s) p as_of ss (ids-give b p as_of s ok (omega arith)) (omega (arith, given-give b p as_of s p)))
-
-pub ids-gives : (b : State) (p as_of : ℕ) (ss : List ℕ) → Ids b → b.given p + length ss < enough → Ids (give_all b p as_of ss)
-ids-gives b p as_of [] ok low = ok
-ids-gives b p as_of (s ∷ ss) ok low = ids-gives (give b p as_of s) p as_of ss (ids-give b p as_of s ok (omega arith)) (omega (arith, given-give b p as_of s p))
 
 pub given-gives : (b : State) (p as_of : ℕ) (ss : List ℕ) (q : ℕ) → (give_all b p as_of ss).given q ≤ b.given q + length ss
 given-gives b p as_of [] q = omega arith

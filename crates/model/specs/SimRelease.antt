@@ -1,20 +1,20 @@
 -- Release, destroy, disconnect, open and notices, alike on the bus and in the book.
 -- Assumes nothing.
-use Rattle.std.specs.Prelude.{ℕ, ◌-◌, ◌<◌, ◌≡◌, refl, Bool, not, [], map, eqb}
-use Rattle.std.proofs.Common.{ap, ◌∙◌, arith, eqb-true, eq-eqb, ne_eqb}
+use Rattle.std.specs.Prelude.{ℕ, ◌-◌, ◌<◌, ◌≡◌, refl, Bool, not, map, eqb}
+use Rattle.std.proofs.Common.{ap, ◌∙◌, eqb-true, eq-eqb, ne_eqb}
 use Rattle.std.proofs.lemmas.Bool.{eqb-false}
 use Rattle.laws.specs.Tests.{pick, pick_all, Seen, Seen.is_true, Seen.is_false, look}
 use Rattle.laws.specs.Tables.{upd-rel}
 use Rattle.laws.specs.Weights.{load_split, keep, keep-map}
 use Rattle.model.specs.Numbers.{nodes}
-use Rattle.model.specs.State.{is_live, Status.disconnected, Handle.none, Handle.some, handle_of, Message, messages_in, State}
+use Rattle.model.specs.State.{Status.disconnected, Handle.none, Handle.some, handle_of, Message, messages_in, State}
 use Rattle.model.specs.Tables.{with_status, with_user, with_handles, with_handle, with_queues, with_lives, accept}
-use Rattle.model.specs.Changes.{push_all, take_out, withdraw, dropped, remains, forget, fell, notify, notify_all, destroy_all, settle}
-use Rattle.model.specs.Effects.{opens, destroys, releases, disconnects}
-use Rattle.model.specs.Book.{noted_of, Book, weight, by, put_handle, to_dropped, note_open, drops, drop_for, note_release, drop_handles, note_disconnect}
+use Rattle.model.specs.Changes.{push_all, withdraw, dropped, remains, forget, fell, notify, notify_all, destroy_all, settle}
+use Rattle.model.specs.Effects.{opens, releases}
+use Rattle.model.specs.Book.{noted_of, Book, weight, by, put_handle, note_open, drops, drop_for, note_release, drop_handles}
 use Rattle.model.specs.Sim.{called, told, Handles, Sim}
 use Rattle.model.specs.SimHandles.{handles-set, one-slot, handles-none}
-use Rattle.model.specs.Quiet.{messages-keep, quiet-accept, quiet-notify, quiet-notify_all, quiet-destroy_all, settle-messages}
+use Rattle.model.specs.Quiet.{messages-keep, quiet-accept, quiet-notify, settle-messages}
 use Rattle.model.specs.SimQueues.{sim-quiet, sim-dropped}
 
 -- One more command is accepted.
@@ -27,7 +27,7 @@ notify-handles : (a b : State) (s : ℕ) → (notify a b s).handle ≡ b.handle
 unfolding notify with_queues
 notify-handles a b s = pick_all (λ (x : State). x.handle ≡ b.handle) (fell a b s) _ b refl refl
 
-destroy-handles : (b : State) (p : ℕ) (t : ℕ → Bool) → (destroy_all b p t).handle ≡ b.handle
+pub destroy-handles : (b : State) (p : ℕ) (t : ℕ → Bool) → (destroy_all b p t).handle ≡ b.handle
 unfolding destroy_all push_all withdraw with_lives with_queues
 destroy-handles b p t = refl
 
@@ -91,11 +91,6 @@ sim-release {N} name b k p s i c r l e =
     go (is_true f) = rw f (sim_forget name _ _ p s put)
     go (is_false f) = rw f put
 
--- Destroy: the book sees nothing.
-pub sim-destroy : {N : ℕ} {name : ℕ → ℕ} {k : Book} (b : State) (p s : ℕ) → Sim N name b k → Sim N name (destroys b p s) k
-unfolding destroys
-sim-destroy b p s r = sim-quiet b _ r (quiet-destroy_all b p (eqb s)) (destroy-handles b p (eqb s))
-
 -- Open notes the user.
 pub sim-open : {N : ℕ} (name : ℕ → ℕ) (b : State) (k : Book) (p u : ℕ) → Sim N name b k → Sim N name (opens b p u) (note_open k p u)
 unfolding opens with_status with_user note_open
@@ -111,7 +106,7 @@ sim-open name b k p u r =
     }
 
 -- Disconnect: all messages dropped, all handles gone.
-sim-no-handles : {N : ℕ} (name : ℕ → ℕ) (b : State) (k : Book) (p : ℕ) → Sim N name b k → Sim N name (with_handles b p (λ s. none)) (drop_handles k p)
+pub sim-no-handles : {N : ℕ} (name : ℕ → ℕ) (b : State) (k : Book) (p : ℕ) → Sim N name b k → Sim N name (with_handles b p (λ s. none)) (drop_handles k p)
 unfolding with_handles drop_handles
 sim-no-handles name b k p r =
     record {
@@ -124,22 +119,10 @@ sim-no-handles name b k p r =
       handles = upd-rel (λ _ h g. Handles name h g) b.handle k.handle p _ _ r.handles (handles-none name);
     }
 
-sim-status : {N : ℕ} {name : ℕ → ℕ} {k : Book} (b : State) (p : ℕ) → Sim N name b k → Sim N name (with_status b p disconnected) k
+pub sim-status : {N : ℕ} {name : ℕ → ℕ} {k : Book} (b : State) (p : ℕ) → Sim N name b k → Sim N name (with_status b p disconnected) k
 unfolding with_status
 sim-status b p r = record { apart = r.apart; known = r.known; users = r.users; sums = r.sums; queues = r.queues; handles = r.handles; seeds = r.seeds }
 
-notify-all-handles : (a b : State) → (notify_all a b).handle ≡ b.handle
+pub notify-all-handles : (a b : State) → (notify_all a b).handle ≡ b.handle
 unfolding notify_all push_all with_queues
 notify-all-handles a b = refl
-
-pub sim-disconnect : {N : ℕ} (name : ℕ → ℕ) (b : State) (k : Book) (p : ℕ) → Sim N name b k → Sim N name (disconnects b p) (note_disconnect k p)
-unfolding disconnects
-sim-disconnect {N} name b k p r =
-    let died = destroy_all b p (λ s. is_live (b.life s)) in
-    let d = sim-quiet b died r (quiet-destroy_all b p (λ s. is_live (b.life s))) (destroy-handles b p (λ s. is_live (b.life s))) in
-    let emptied = take_out died p (messages_in (b.queue p)) [] in
-    let e : Sim N name emptied (to_dropped k p (k.queue p) [])
-    = rw (r.queues p) (sim-dropped name died k p (messages_in (b.queue p)) [] d (λ u w. rw (← r.queues p) (omega arith))) in
-    let n = sim-no-handles name emptied (to_dropped k p (k.queue p) []) p e in
-    let c = with_status (with_handles emptied p (λ s. none)) p disconnected in
-    sim-quiet c _ (sim-status (with_handles emptied p (λ s. none)) p n) (quiet-notify_all b c) (notify-all-handles b c)

@@ -1,23 +1,19 @@
 -- "2^40 - 1 commands accepted already; not for questions", "Questions change nothing and are not counted": the state's count of accepted commands is the number of frames that came back
 -- with 0 and are no questions.
 -- Assumes nothing.
-use Rattle.std.specs.Prelude.{ℕ, suc, ◌+◌, ◌≡◌, Bool, true, false, not, List, [], ◌∷◌, eqb}
+use Rattle.std.specs.Prelude.{ℕ, suc, ◌≡◌, Bool, not, List, [], ◌∷◌, eqb}
 use Rattle.std.proofs.Math.Path.{refl}
-use Rattle.std.proofs.Common.{◌∙◌, arith, ne_eqb}
 use Rattle.laws.specs.Tests.{pick, pick_all}
 use Rattle.frames.specs.declared.Command.{Command}
 use Rattle.frames.specs.declared.Command.TheVariants.{Open, Disconnect, Create, Destroy, Release, Transfer, Send, Receive, Quota, Holders, ShowSeed}
 use Rattle.frames.specs.Frame.{opcode}
 use Rattle.model.specs.Lists.{both, either}
-use Rattle.model.specs.State.{State, start, slot, seed_carries}
+use Rattle.model.specs.State.{State, slot, seed_carries}
 use Rattle.model.specs.Tables.{accept, with_status, with_user, with_handles, with_queues, with_charges, with_lives, with_seed}
 use Rattle.model.specs.Changes.{push_all, take_out, withdraw, notify_all, destroy_all, deliver}
 use Rattle.model.specs.Effects.{opens, creates, destroys, disconnects, effect}
-use Rattle.model.specs.Step.{Call, step, run_from, run}
 use Rattle.model.specs.Book.{Fed}
-use Rattle.model.specs.Claim.{fed, history_from}
-use Rattle.model.specs.Accepted.{Came, Came.left, Came.done, came}
-use Rattle.model.specs.Coded.{code, coded}
+use Rattle.model.specs.Coded.{code}
 use Rattle.model.specs.Unchanged.{give-accepted, release-count, receive-count, gives-accepted}
 
 -- A command that came back with 0 and is no question: 09 and 0a are; 0c changes counts and is none.
@@ -28,10 +24,10 @@ abbrev pub tally : List Fed → ℕ
 tally [] = 0
 tally (x ∷ xs) = pick (is_counted x) (suc (tally xs)) (tally xs)
 
-abbrev asks : ℕ → Bool
+abbrev pub asks : ℕ → Bool
 asks n = either (eqb n 9) (eqb n 10)
 
-counted-effect : (b : State) (f : List ℕ) (k : Command) → (effect b f k).accepted ≡ pick (not (asks (code k))) (suc b.accepted) b.accepted
+pub counted-effect : (b : State) (f : List ℕ) (k : Command) → (effect b f k).accepted ≡ pick (not (asks (code k))) (suc b.accepted) b.accepted
 unfolding effect
 counted-effect b f (Open p u) = unfold opens with_user with_status accept in refl
 counted-effect b f (Disconnect p) = unfold with_seed disconnects notify_all push_all with_queues with_status with_handles take_out with_charges destroy_all with_lives withdraw accept in refl
@@ -46,23 +42,3 @@ counted-effect b f (Receive p room) = receive-count b p.0 (b.queue p.0)
 counted-effect b f (Quota p u) = refl
 counted-effect b f (Holders p i) = refl
 counted-effect b f (ShowSeed p room) = unfold accept in gives-accepted (accept b) p.0 (suc b.accepted) (seed_carries (b.seed p.0))
-
-counted-call : (b : State) (c : Call) → (step b c).state.accepted ≡ pick (is_counted (fed c (step b c))) (suc b.accepted) b.accepted
-counted-call b c = go (came b c)
-  where
-    go : Came b c → (step b c).state.accepted ≡ pick (is_counted (fed c (step b c))) (suc b.accepted) b.accepted
-    go (left e n) = rw (e, ne_eqb (step b c).outcome.number 0 n) refl
-    go (done k a) = rw (a.after, a.number, (coded c.frame k a.read).byte) (counted-effect b c.frame k)
-
-tallied-from : (cs : List Call) (b : State) → (run_from b cs).accepted ≡ b.accepted + tally (history_from b cs)
-unfolding run_from history_from
-tallied-from [] b = omega arith
-tallied-from (c ∷ cs) b = tallied-from cs (step b c).state ∙ go (is_counted (fed c (step b c))) (counted-call b c)
-  where
-    go : (t : Bool) → (step b c).state.accepted ≡ pick t (suc b.accepted) b.accepted →
-        (step b c).state.accepted + tally (history_from (step b c).state cs) ≡ b.accepted + pick t (suc (tally (history_from (step b c).state cs))) (tally (history_from (step b c).state cs))
-    go true e = omega (arith, e)
-    go false e = omega (arith, e)
-
-pub tallied : (cs : List Call) → (run cs).accepted ≡ tally (history_from start cs)
-tallied cs = let e : start.accepted ≡ 0 = unfold start in refl in omega (arith, tallied-from cs start, e)

@@ -1,9 +1,9 @@
 -- What was tested before a command was accepted: a record for each command, from its refusal number 0. Proofs use these and never the text of the cascade.
 -- Assumes nothing.
 use Rattle.std.specs.Prelude.{ℕ, ◌≤◌, ◌<◌, ◌≡◌, refl, Bool, true, false, List, [], ◌∷◌, ◌++◌, map, length, eqb, ltb}
-use Rattle.std.proofs.Common.{sym, arith, ltb-true, ltb-false, eqb-true}
-use Rattle.ids.specs.Refusals.{EDQUOT, EEXIST, EHOSTUNREACH, ENOSPC, ENXIO, EOVERFLOW, EPERM}
-use Rattle.laws.specs.Tests.{pick, pick-then, pick-else, clash}
+use Rattle.std.proofs.Common.{sym, arith, ltb-true, eqb-true}
+use Rattle.ids.specs.Refusals.{EHOSTUNREACH, ENXIO, EOVERFLOW, EPERM}
+use Rattle.laws.specs.Tests.{pick, pick-then, clash}
 use Rattle.laws.specs.Weights.{All}
 use Rattle.frames.specs.declared.Command.{Command}
 use Rattle.frames.specs.declared.Command.TheVariants.{Open, Disconnect, Create, Destroy, Release, Transfer, Send, Receive, Quota, Holders, ShowSeed}
@@ -12,7 +12,7 @@ use Rattle.model.specs.Numbers.{slots, nodes, owner, most_commands}
 use Rattle.model.specs.Lists.{every}
 use Rattle.model.specs.State.{Status, Status.unopened, Status.opened, Status.disconnected, is_live, State, slot, free_place}
 use Rattle.model.specs.Requests.{destinations, attached}
-use Rattle.model.specs.Refusals.{countable, present, openable, holding, living, pinned, fits, takeable, showable, refuses_open, refuses_disconnect, refuses_create, refuses_destroy, refuses_release, refuses_transfer, refuses_send, refuses_receive, refuses_seed, refuses_quota, refuses_holders, refusal}
+use Rattle.model.specs.Refusals.{countable, present, openable, holding, living, pinned, fits, takeable, showable, refuses_quota, refuses_holders}
 
 -- The peer acts: it is open, and the bus may accept one more command.
 pub record Acting (b : State) (p : ℕ) : Type 0 where
@@ -98,7 +98,7 @@ every-split t (x ∷ xs) ys e =
     (rw r.0 s.0, s.1)
 
 -- One row of the cascade at a time.
-countable-in : (b : State) (r : ℕ) → countable b r ≡ 0 → (b.accepted < most_commands) × (r ≡ 0)
+pub countable-in : (b : State) (r : ℕ) → countable b r ≡ 0 → (b.accepted < most_commands) × (r ≡ 0)
 countable-in b r e =
     let x = pick-then {A = ℕ} (ltb b.accepted most_commands) EOVERFLOW 0 (λ z. omega arith) e in
     (ltb-true b.accepted most_commands x.0, x.1)
@@ -108,122 +108,38 @@ present-in unopened r e = absurd (omega arith)
 present-in opened r e = (refl, e)
 present-in disconnected r e = absurd (omega arith)
 
-openable-in : (s : Status) → openable s ≡ 0 → s ≡ unopened
+pub openable-in : (s : Status) → openable s ≡ 0 → s ≡ unopened
 openable-in unopened e = refl
 openable-in opened e = absurd (omega arith)
 openable-in disconnected e = absurd (omega arith)
 
-pub acting-in : (b : State) (p r : ℕ) → countable b (present (b.status p) r) ≡ 0 → Acting b p × (r ≡ 0)
-acting-in b p r e =
-    let x = countable-in b (present (b.status p) r) e in
-    let y = present-in (b.status p) r x.1 in
-    (record { room = x.0; is_open = y.0 }, y.1)
-
-held_all : (find : ℕ → ℕ) (is : List ℕ) → every (λ i. ltb (find i) nodes) is ≡ true → All (λ i. find i < nodes) is
+pub held_all : (find : ℕ → ℕ) (is : List ℕ) → every (λ i. ltb (find i) nodes) is ≡ true → All (λ i. find i < nodes) is
 held_all find [] e = tt
 held_all find (i ∷ is) e =
     let r = pick-then (ltb (find i) nodes) false true (λ z. clash (sym z)) e in
     (ltb-true (find i) nodes r.0, held_all find is r.1)
 
-holding-in : (find : ℕ → ℕ) (is : List ℕ) (r : ℕ) → holding find is r ≡ 0 → (every (λ i. ltb (find i) nodes) is ≡ true) × (r ≡ 0)
+pub holding-in : (find : ℕ → ℕ) (is : List ℕ) (r : ℕ) → holding find is r ≡ 0 → (every (λ i. ltb (find i) nodes) is ≡ true) × (r ≡ 0)
 holding-in find is r e = pick-then {A = ℕ} (every (λ i. ltb (find i) nodes) is) ENXIO 0 (λ z. omega arith) e
 
 pub held_in : (find : ℕ → ℕ) (i r : ℕ) → holding find (i ∷ []) r ≡ 0 → (find i < nodes) × (r ≡ 0)
 held_in find i r e = let x = holding-in find (i ∷ []) r e in ((held_all find (i ∷ []) x.0).0, x.1)
 
-owning-in : (p s r : ℕ) → pick (eqb (owner s) p) r EPERM ≡ 0 → (owner s ≡ p) × (r ≡ 0)
+pub owning-in : (p s r : ℕ) → pick (eqb (owner s) p) r EPERM ≡ 0 → (owner s ≡ p) × (r ≡ 0)
 owning-in p s r e = let x = pick-then {A = ℕ} (eqb (owner s) p) EPERM 0 (λ z. omega arith) e in (eqb-true (owner s) p x.0, x.1)
 
-living-in : (b : State) (ss : List ℕ) (r : ℕ) → living b ss r ≡ 0 → All (Lives b) ss × (r ≡ 0)
+pub living-in : (b : State) (ss : List ℕ) (r : ℕ) → living b ss r ≡ 0 → All (Lives b) ss × (r ≡ 0)
 living-in b ss r e =
     let x = pick-then {A = ℕ} (every (λ s. is_live (b.life s)) ss) EHOSTUNREACH 0 (λ z. omega arith) e in
     (every-all (λ s. is_live (b.life s)) ss x.0, x.1)
 
--- Each command.
-tested-open : (b : State) (p : ℕ) → refuses_open b p ≡ 0 → TestedOpen b p
-unfolding refuses_open
-tested-open b p e = let x = countable-in b (openable (b.status p)) e in record { room = x.0; fresh = openable-in (b.status p) x.1 }
-
-tested-disconnect : (b : State) (p : ℕ) → refuses_disconnect b p ≡ 0 → Acting b p
-unfolding refuses_disconnect
-tested-disconnect b p e = (acting-in b p 0 e).0
-
-tested-create : (b : State) (p i : ℕ) → refuses_create b p i ≡ 0 → TestedCreate b p i
-unfolding refuses_create
-tested-create b p i e =
-    let x = acting-in b p _ e in
-    let y = pick-else {A = ℕ} (ltb (slot b p i) nodes) EEXIST 0 (λ z. omega arith) x.1 in
-    let z = pick-then {A = ℕ} (ltb (free_place b p) slots) ENOSPC 0 (λ z. omega arith) y.1 in
-    record { acting = x.0; unheld = ltb-false (slot b p i) nodes y.0; free = ltb-true (free_place b p) slots z.0 }
-
-tested-destroy : (b : State) (p i : ℕ) → refuses_destroy b p i ≡ 0 → TestedDestroy b p i
-unfolding refuses_destroy
-tested-destroy b p i e =
-    let x = acting-in b p _ e in
-    let y = held_in (slot b p) i _ x.1 in
-    let z = owning-in p (slot b p i) _ y.1 in
-    record { acting = x.0; holds = y.0; owns = z.0; lives = (living-in b (slot b p i ∷ []) 0 z.1).0.0 }
-
-tested-release : (b : State) (p i : ℕ) → refuses_release b p i ≡ 0 → TestedRelease b p i
-unfolding refuses_release
-tested-release b p i e =
-    let x = acting-in b p _ e in
-    let y = held_in (slot b p) i _ x.1 in
-    record { acting = x.0; holds = y.0; unpinned = (pick-else {A = ℕ} (pinned b p (slot b p i)) EPERM 0 (λ z. omega arith) y.1).0 }
-
-tested-transfer : (b : State) (p i q : ℕ) → refuses_transfer b p i q ≡ 0 → TestedTransfer b p i q
-unfolding refuses_transfer
-tested-transfer b p i q e =
-    let x = acting-in b p _ e in
-    let y = present-in (b.status q) _ x.1 in
-    let z = held_in (slot b p) i _ y.1 in
-    record { acting = x.0; destination = y.0; holds = z.0; lives = (living-in b (slot b p i ∷ []) 0 z.1).0.0 }
-
-tested-send : (b : State) (p : ℕ) (is hs : List ℕ) (nb : ℕ) → refuses_send b p is hs nb ≡ 0 → TestedSend b p is hs nb
-unfolding refuses_send
-tested-send b p is hs nb e =
-    let x = acting-in b p _ e in
-    let y = holding-in (slot b p) (is ++ hs) _ x.1 in
-    let h = every-split (λ i. ltb (slot b p i) nodes) is hs y.0 in
-    let z = living-in b (map (slot b p) is) _ y.1 in
-    record {
-      acting = x.0;
-      holds = held_all (slot b p) is h.0;
-      holds-attached = held_all (slot b p) hs h.1;
-      lives = z.0;
-      fitting = (pick-then {A = ℕ} (fits b (b.user p) (map (slot b p) is) nb (length hs)) EDQUOT 0 (λ z. omega arith) z.1).0;
-    }
-
-tested-receive : (b : State) (p room : ℕ) → refuses_receive b p room ≡ 0 → TestedReceive b p room
-unfolding refuses_receive
-tested-receive b p room e = let x = acting-in b p _ e in record { acting = x.0; next = x.1 }
-
-tested-seed : (b : State) (p room : ℕ) → refuses_seed b p room ≡ 0 → TestedSeed b p room
-unfolding refuses_seed
-tested-seed b p room e = let x = acting-in b p _ e in record { acting = x.0; next = x.1 }
-
-tested-quota : (b : State) (p : ℕ) → refuses_quota b p ≡ 0 → b.status p ≡ opened
+pub tested-quota : (b : State) (p : ℕ) → refuses_quota b p ≡ 0 → b.status p ≡ opened
 unfolding refuses_quota
 tested-quota b p e = (present-in (b.status p) 0 e).0
 
-tested-holders : (b : State) (p i : ℕ) → refuses_holders b p i ≡ 0 → TestedHolders b p i
+pub tested-holders : (b : State) (p i : ℕ) → refuses_holders b p i ≡ 0 → TestedHolders b p i
 unfolding refuses_holders
 tested-holders b p i e =
     let x = present-in (b.status p) _ e in
     let y = held_in (slot b p) i _ x.1 in
     record { is_open = x.0; holds = y.0; owns = (owning-in p (slot b p i) 0 y.1).0 }
-
--- Every command that is not refused.
-pub tested : (b : State) (f : List ℕ) (c : Command) → refusal b f c ≡ 0 → Tested b f c
-unfolding refusal
-tested b f (Open p u) e = tested-open b p.0 e
-tested b f (Disconnect p) e = tested-disconnect b p.0 e
-tested b f (Create p i) e = tested-create b p.0 i.0 e
-tested b f (Destroy p i) e = tested-destroy b p.0 i.0 e
-tested b f (Release p i) e = tested-release b p.0 i.0 e
-tested b f (Transfer p i q) e = tested-transfer b p.0 i.0 q.0 e
-tested b f (Send p z) e = tested-send b p.0 (destinations f z) (attached f z) (length (payload_of f)) e
-tested b f (Receive p room) e = tested-receive b p.0 room e
-tested b f (Quota p u) e = tested-quota b p.0 e
-tested b f (Holders p i) e = tested-holders b p.0 i.0 e
-tested b f (ShowSeed p room) e = tested-seed b p.0 room e

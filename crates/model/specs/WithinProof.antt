@@ -2,32 +2,24 @@
 -- Assumes nothing.
 use Rattle.std.specs.Prelude.{ℕ, suc, ◌<◌, ◌≡◌, Bool, true, false, List, [], ◌∷◌, ◌++◌, map, eqb, ltb}
 use Rattle.std.proofs.Math.Path.{refl}
-use Rattle.std.proofs.Common.{sym, ap, ◌∙◌, append_assoc, eqb-true, eq-eqb, ltb-true, lt-ltb}
+use Rattle.std.proofs.Common.{sym, ap, ◌∙◌, append_assoc, eq-eqb, lt-ltb}
 use Rattle.laws.specs.Tests.{pick_all, Seen, Seen.is_true, Seen.is_false, look, clash}
 use Rattle.laws.specs.Tables.{upd_same, upd_other}
 use Rattle.laws.specs.Weights.{All, keep, all-imp, keep-map}
-use Rattle.frames.specs.declared.Command.TheVariants.{Disconnect}
-use Rattle.frames.specs.Frame.{payload_of}
 use Rattle.model.specs.Numbers.{peers, owner}
-use Rattle.model.specs.Lists.{both}
-use Rattle.model.specs.State.{is_live, Handle, Handle.none, Handle.some, held, id_or, Entry, Entry.message, Entry.destroyed, Entry.released, messages_in, State, Status.disconnected, owner_id, total, slot, by_owner_id, Seed, Seed.unset, concerned}
-use Rattle.model.specs.Requests.{destinations, attached}
+use Rattle.model.specs.State.{is_live, Handle, Handle.none, Handle.some, held, id_or, Entry, Entry.message, messages_in, State, Status.disconnected, owner_id, by_owner_id, Seed, Seed.unset}
 use Rattle.model.specs.Tables.{accept, with_status, with_handles, with_queues, with_charges, with_lives, with_seed}
 use Rattle.model.specs.Changes.{push_all, take_out, withdraw, fell, release_notices, notify_all, destroy_notices, destroy_all, arriving, deliver, reseed}
-use Rattle.model.specs.Effects.{disconnects, effect}
-use Rattle.model.specs.Step.{run}
+use Rattle.model.specs.Effects.{disconnects}
 use Rattle.model.specs.Tested.{Lives}
-use Rattle.model.specs.Occurs.{both_true}
 use Rattle.model.specs.Rising.{owner-sorted, owner-pass}
 use Rattle.model.specs.RisingAll.{owner-all}
 use Rattle.model.specs.NoticesQueues.{fell-facts}
-use Rattle.model.specs.NoticesProof.{noted, noted-kept, founded}
 use Rattle.model.specs.IdsLaws.{Holding}
-use Rattle.model.specs.IdsProof.{ids-kept, holding}
-use Rattle.model.specs.Within.{ById, is_at, SendOrder, DestroyNoticed, ReleaseNoticed, AtDisconnect, DisconnectOrder, DisconnectEmpties}
+use Rattle.model.specs.Within.{ById, is_at, AtDisconnect}
 
 -- Send.
-send-order-at : (b : State) (u : ℕ) (ds hs bytes : List ℕ) (q : ℕ) →
+pub send-order-at : (b : State) (u : ℕ) (ds hs bytes : List ℕ) (q : ℕ) →
     (deliver (accept b) u ds hs bytes).queue q
     ≡ b.queue q ++ keep (is_at q) (map (λ d. message (suc b.accepted) (record { to = d; user = u; payload = bytes; carried = hs })) ds)
 unfolding deliver with_charges push_all with_queues arriving accept
@@ -36,17 +28,10 @@ send-order-at b u ds hs bytes q =
     (sym (keep-map (λ d. message (suc b.accepted) (record { to = d; user = u; payload = bytes; carried = hs })) (is_at q) (λ d. eqb (owner d) q) ds (λ d. refl)))
 
 -- A seed queues nothing.
-seed-queue : (a : State) (t : Bool) (p : ℕ) (x : Seed) (q : ℕ) → (reseed a t p x).queue q ≡ a.queue q
+pub seed-queue : (a : State) (t : Bool) (p : ℕ) (x : Seed) (q : ℕ) → (reseed a t p x).queue q ≡ a.queue q
 unfolding with_seed
 seed-queue a true p x q = refl
 seed-queue a false p x q = refl
-
-pub send-order : SendOrder
-unfolding effect
-send-order cs c p z a q =
-    rw a.after
-    (seed-queue _ (eqb z.nd 0) p.0 _ q ∙ send-order-at (run cs) ((run cs).user p.0) (map (slot (run cs) p.0) (destinations c.frame z)) (map (slot (run cs) p.0) (attached c.frame z))
-    (payload_of c.frame) q)
 
 -- Two live nodes of one owner have two owner IDs.
 held-some : (h : Handle) → held h ≡ true → (i : ℕ) × (c : ℕ) × (h ≡ some i c)
@@ -62,7 +47,7 @@ live-apart b p r s v o k l m e =
     (v.handles p).distinct r s x.0 x.1 y.1 x.2 (rw i y.2)
 
 -- The slots of an owner that pass a test of live nodes.
-by-id : (b : State) (p : ℕ) (t : ℕ → Bool) (P : ℕ → Type 0) → Holding b → ((s : ℕ) → t s ≡ true → owner s ≡ p → P s) → ((s : ℕ) → P s → (t s ≡ true) × (owner s ≡ p)) →
+pub by-id : (b : State) (p : ℕ) (t : ℕ → Bool) (P : ℕ → Type 0) → Holding b → ((s : ℕ) → t s ≡ true → owner s ≡ p → P s) → ((s : ℕ) → P s → (t s ≡ true) × (owner s ≡ p)) →
     ((s : ℕ) → t s ≡ true → Lives b s) → ById b.handle P (by_owner_id b.handle p t)
 by-id b p t P v into out live =
     record {
@@ -74,13 +59,13 @@ by-id b p t P v into out live =
     }
 
 -- Disconnect: the state before its release notices.
-abbrev before-release : State → ℕ → State
+abbrev pub before-release : State → ℕ → State
 before-release b p =
     with_status
     (with_handles (take_out (destroy_all (accept b) p (λ s. is_live (b.life s))) p (messages_in (b.queue p)) []) p (λ s. none))
     p disconnected
 
-disconnect-queue : (b : State) (p q : ℕ) → q < peers → (p ≡ q → ⊥) →
+pub disconnect-queue : (b : State) (p q : ℕ) → q < peers → (p ≡ q → ⊥) →
     (disconnects (accept b) p).queue q
     ≡ b.queue q ++ (destroy_notices (accept b) p (λ s. is_live (b.life s)) q ++ release_notices (accept b) (before-release b p) q)
 unfolding disconnects notify_all with_status with_handles take_out with_charges destroy_all with_lives withdraw push_all with_queues accept
@@ -89,42 +74,7 @@ disconnect-queue b p q l n =
     rw (upd_other, lt-ltb q peers l, upd_other)
     (append_assoc (b.queue q) new (release_notices (accept b) (before-release b p) q))
 
-at-disconnect : (b : State) (p q : ℕ) → Holding b → Holding (disconnects (accept b) p) → q < peers → (p ≡ q → ⊥) → AtDisconnect b (disconnects (accept b) p) p q
-unfolding disconnects notify_all with_status with_handles push_all with_queues
-at-disconnect b p q v w l n =
-    record {
-      destroyed-slots = by_owner_id b.handle p dies;
-      released-slots = by_owner_id a.handle q falls;
-      queue = disconnect-queue b p q l n ∙ ap (λ (x : List Entry). b.queue q ++ x) notices;
-      destroyed-by-id =
-          by-id b p dies (DestroyNoticed b p q) v (λ s e o. let x = both_true (is_live (b.life s)) (concerned (b.handle q) (b.queue q) (suc b.accepted) s) e in (o, x.0, x.1))
-          (λ s z. (rw (z.1, z.2) refl, z.0)) (λ s e. (both_true (is_live (b.life s)) (concerned (b.handle q) (b.queue q) (suc b.accepted) s) e).0);
-      released-by-id = by-id a q falls (ReleaseNoticed b a q) w into out (λ s e. (both_true (is_live (a.life s)) _ e).0);
-    }
-  where
-    a : State
-    a = disconnects (accept b) p
-
-    dies : ℕ → Bool
-    dies s = both (is_live (b.life s)) (concerned (b.handle q) (b.queue q) (suc b.accepted) s)
-
-    falls : ℕ → Bool
-    falls s = both (is_live (a.life s)) (both (ltb 1 (total b.handle s)) (eqb (total a.handle s) 1))
-
-    notices : destroy_notices (accept b) p (λ s. is_live (b.life s)) q ++ release_notices (accept b) (before-release b p) q
-        ≡ map (destroyed (suc b.accepted)) (by_owner_id b.handle p dies) ++ map (released (suc b.accepted)) (by_owner_id a.handle q falls)
-    notices = unfold destroy_notices release_notices fell take_out with_charges destroy_all with_lives withdraw accept in refl
-
-    into : (s : ℕ) → falls s ≡ true → owner s ≡ q → ReleaseNoticed b a q s
-    into s e o =
-        let x = both_true (is_live (a.life s)) (both (ltb 1 (total b.handle s)) (eqb (total a.handle s) 1)) e in
-        let y = both_true (ltb 1 (total b.handle s)) (eqb (total a.handle s) 1) x.1 in
-        (o, x.0, ltb-true 1 (total b.handle s) y.0, eqb-true (total a.handle s) 1 y.1)
-
-    out : (s : ℕ) → ReleaseNoticed b a q s → (falls s ≡ true) × (owner s ≡ q)
-    out s z = (rw (z.1, lt-ltb 1 (total b.handle s) z.2, eq-eqb (total a.handle s) 1 z.3) refl, z.0)
-
-dropped-seed : (b : State) (p q : ℕ) → AtDisconnect b (disconnects (accept b) p) p q → AtDisconnect b (with_seed (disconnects (accept b) p) p unset) p q
+pub dropped-seed : (b : State) (p q : ℕ) → AtDisconnect b (disconnects (accept b) p) p q → AtDisconnect b (with_seed (disconnects (accept b) p) p unset) p q
 unfolding with_seed
 dropped-seed b p q x =
     record {
@@ -134,17 +84,6 @@ dropped-seed b p q x =
       destroyed-by-id = x.destroyed-by-id;
       released-by-id = x.released-by-id;
     }
-
-pub disconnect-order : DisconnectOrder
-unfolding effect
-disconnect-order cs c p a q l n =
-    let v = holding cs in
-    let w : Holding (disconnects (accept (run cs)) p.0) =
-    unfold with_seed in record {
-      handles = ids-kept (run cs) c.frame (Disconnect p) v (noted cs) a.legal a.unrefused;
-      owned = (noted-kept (run cs) c.frame (Disconnect p) (noted cs) (founded cs) a.legal a.unrefused).owned;
-    } in
-    rw a.after (dropped-seed (run cs) p.0 q (at-disconnect (run cs) p.0 q v w l n))
 
 -- At the peer itself: none of its nodes lives, so no release notice is queued.
 none_left : (xs : List ℕ) → All (λ s. ⊥) xs → xs ≡ []
@@ -159,7 +98,7 @@ none-lives b p s o e = go (look (is_live (b.life s)))
     go (is_true z) = clash (sym (rw (eq-eqb (owner s) p o, z) at e))
     go (is_false z) = clash (sym (rw (eq-eqb (owner s) p o, z) at e) ∙ z)
 
-empties : (b : State) (p : ℕ) → (disconnects (accept b) p).queue p ≡ []
+pub empties : (b : State) (p : ℕ) → (disconnects (accept b) p).queue p ≡ []
 unfolding disconnects notify_all with_status with_handles take_out with_charges push_all with_queues release_notices accept
 empties b p =
     let x = before-release b p in
@@ -168,7 +107,3 @@ empties b p =
     (all-imp (λ s. (fell (accept b) x s ≡ true) × (owner s ≡ p)) (λ s. ⊥) (λ s z. none-lives b p s z.1 (fell-facts (accept b) x s z.0).0)
     (by_owner_id x.handle p (fell (accept b) x)) (owner-pass x.handle p (fell (accept b) x))) in
     rw (upd_same, e) (pick_all (λ l. l ≡ []) (ltb p peers) [] [] refl refl)
-
-pub disconnect-empties : DisconnectEmpties
-unfolding effect
-disconnect-empties cs c p a = rw a.after (unfold with_seed in empties (run cs) p.0)

@@ -27,7 +27,8 @@ use Rattle.tables.specs.Charges.{charges_size, charges_at, put_charges}
 use Rattle.tables.specs.ChargesView.{charges_v, charges-is, charges-four, charges-length, charges-stored, charged-length, discharged-length}
 use Rattle.model.specs.Resources.{Resource, Resource.messages, Resource.bytes, Resource.handles, amount}
 use Rattle.model.specs.Changes.{charge_of, discharged_all}
-use Rattle.model.specs.Charging.{reached-length, discharged-all-at}
+use Rattle.model.specs.Charging.{reached-length}
+use Rattle.model.proofs.Charging.{discharged-all-at}
 use Rattle.model.specs.Charged.{weight_of, queued_by, Fine, Sound}
 use Rattle.model.specs.ChargedBounds.{queued_all, sound-within}
 use Rattle.model.specs.State.{Entry, Message, messages_in}

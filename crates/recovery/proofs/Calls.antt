@@ -36,7 +36,8 @@ use Rattle.journal_model.specs.Journal.{is_question, WithJournal, returned_with,
 use Rattle.journal_model.specs.Exact.{exchange_with, frames_of, bus_after_counted}
 use Rattle.journal_model.specs.Runs.{fitting, DemandThree, replay_history}
 use Rattle.journal_model.specs.Journalled.Journalled.{resumed as resumes}
-use Rattle.journal_model.specs.Journalled.{Journalled, Journalled.begun, Journalled.more, UsedText, kept-text-of, recovery-exact-of, journal-demand, last-of-all, happened-journalled, never-five-journalled, Untouched, only-the-line, runs-bus, stopped-fresh, nothing_written}
+use Rattle.journal_model.specs.Journalled.{Journalled, Journalled.begun, Journalled.more, UsedText, last-of-all, Untouched, stopped-fresh, nothing_written}
+use Rattle.journal_model.proofs.Journalled.{kept-text-of, recovery-exact-of, journal-demand, happened-journalled, never-five-journalled, only-the-line, runs-bus}
 use Rattle.journal.specs.contracts.command_with_journal as command
 use Rattle.journal.proofs.command_with_journal.Kinds as command-kinds
 use Rattle.journal.proofs.command_with_journal.Reads as command-reads

@@ -1,7 +1,7 @@
 -- `journal::obey` meets its contract: one law for each return, in the order of the tests. Assumes nothing.
 use mathlib.Core.Path.{sym, ◌∙◌}
 use borrow.Author.Tests.{not-true, not-false}
-use Rattle.frames.specs.Legal.{legal-command}
+use Rattle.frames.proofs.Legal.{legal-command}
 use Rattle.bus.specs.Code.{sound-then}
 use Rattle.journal.specs.Code.{over-used, kept-unsound, kept-unread, kept_read}
 use native.Mathlib.Omega.{arith}

@@ -1,6 +1,7 @@
 -- `lines::digit_value` meets its contract: the test for a digit bounds the character from below on each side, so the difference does not wrap and is below 16.
 -- Assumes nothing.
 use Rattle.lines.specs.LineLaws as law
+use Rattle.lines.proofs.LineLaws.{value-high}
 use native.Mathlib.Omega.{arith}
 use Rattle.lines.proofs.digit_value.Goals as goal
 
@@ -14,4 +15,4 @@ pub returns-then-c-lt58 : goal.returns-then-c-lt58
 returns-then-c-lt58 c = law.value_low _ c.requires c.if-c-lt58.true
 
 pub returns-else-c-lt58 : goal.returns-else-c-lt58
-returns-else-c-lt58 c = law.value-high _ c.requires (omega (arith, c.if-c-lt58.false))
+returns-else-c-lt58 c = value-high _ c.requires (omega (arith, c.if-c-lt58.false))

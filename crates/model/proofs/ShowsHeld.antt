@@ -8,7 +8,7 @@ use Rattle.model.specs.Claim.{fed, history_from}
 use Rattle.model.specs.Ledger.{Item, Item.message, Item.destroyed, Item.released, due_item, ledger_after}
 use Rattle.model.specs.Happened.{of-next}
 use Rattle.model.specs.Shows.{Takes, ShownAsHeld, MessagesAsHeld}
-use Rattle.model.specs.ShowsNames.{takes-due, first-named}
+use Rattle.model.proofs.ShowsNames.{takes-due, first-named}
 
 shown-as-held : (cs : List Call) (c : Call) (p : ℕ) → Takes p 1 (fed c (step (run cs) c)) → ShownAsHeld (history_from start cs) (fed c (step (run cs) c)) p
 shown-as-held cs c p t = go ((ledger_after cs).queue p) refl

@@ -1,0 +1,9 @@
+pub mod Tied
+pub mod Ran
+pub mod Searched
+pub mod Demands
+pub mod Orderly
+pub mod Marked
+pub mod Histories
+pub mod Third
+pub mod Ranges

@@ -1,0 +1,4 @@
+pub mod Exact
+pub mod Runs
+pub mod Journalled
+pub mod Stops

@@ -1,0 +1,4 @@
+pub mod LineLaws
+pub mod RoundTrip
+pub mod Cuts
+pub mod Again

@@ -1,0 +1,3 @@
+pub mod Probes
+pub mod HandlesView
+pub mod Listed
