@@ -1,7 +1,7 @@
 -- The stored numbers that the view does not show stay in their ranges: states, users, given IDs, accepted commands and the heads of the queues.
 -- Assumes nothing.
 use Prim.Native.Nat.{ℕ, zero, suc, ◌+◌, ◌*◌, ◌-◌, ◌/◌, ◌%◌, ◌^◌, ◌≤◌, ◌<◌, min}
-use Rattle.std.specs.Prelude.{◌≡◌, refl, Bool, true, List, [], ◌∷◌, length, replicate, eqb, ltb, leb}
+use Rattle.std.specs.Prelude.{◌≡◌, refl, Bool, true, List, [], ◌∷◌, length, replicate, eqb, ltb, leb, Option, Some, None}
 use Rattle.std.proofs.Common.{◌∙◌, arith, get_or-set_same, ltb-true, ltb-false}
 use Rattle.std.proofs.Math.ListN.{get_or, set}
 use Rattle.std.proofs.Math.Seq.{set_out, get_or-set_other}
@@ -14,8 +14,6 @@ use Rattle.rings.specs.declared.Entry.{Entry as Row}
 use Rattle.rings.specs.declared.Match.{Match}
 use Rattle.rings.specs.Rings.{kind_destroyed, kind_released, message_bit, destroyed_bit, released_bit, all_bits, slots, ring_size, ends_size, Rings, entry_at, row_of, head_of, length_of, popped, cleared, removed, one_slot, first_of}
 use Rattle.rings.specs.Laws.{pop-heads, pop-head, clear-heads, remove-heads}
-use Rattle.tables.specs.declared.Found.{Found}
-use Rattle.tables.specs.declared.Found.TheVariants.{At, Nothing}
 use Rattle.tables.specs.Peers.{modulus, peer_row, accepted_at, state_at, user_at, given_at, set_open, set_disconnected, set_given, next_number, count_command}
 use Rattle.tables.specs.PeersView.{given_is, accepted-is}
 use Rattle.tables.specs.Nodes.{live_at, died_at}
@@ -207,10 +205,10 @@ told-heads (suc f) set hs to q kind n r o = go (least_at hs q set slots) (λ g r
     more : ℕ → Rings
     more j = told hs to q kind n (posted_to r (notice_of kind (q * slots + j % slots) n) (get_or to (j % slots) 0) peers) (bits (above_at hs q set j) slots) f
 
-    go : (x : Found) → ((g : ℕ) (r : Rings) → head_of (told hs to q kind n r g f).ends o ≡ head_of r.ends o) →
+    go : (x : Option ℕ) → ((g : ℕ) (r : Rings) → head_of (told hs to q kind n r g f).ends o ≡ head_of r.ends o) →
         head_of (following x more r).ends o ≡ head_of r.ends o
-    go Nothing ih = refl
-    go (At j) ih =
+    go None ih = refl
+    go (Some j) ih =
         let e = notice_of kind (q * slots + j % slots) n in
         ih (bits (above_at hs q set j) slots) (posted_to r e (get_or to (j % slots) 0) peers) ∙ posted-heads peers (get_or to (j % slots) 0) r e o
 

@@ -1,6 +1,6 @@
 -- The laws that the proofs of a create's judgement cite, one for each return, over plain variables.
 -- Assumes nothing.
-use Rattle.std.specs.Prelude.{ℕ, ◌+◌, ◌*◌, ◌≤◌, ◌<◌, ◌≡◌, refl, Bool, false, List, [], ltb}
+use Rattle.std.specs.Prelude.{ℕ, ◌+◌, ◌*◌, ◌≤◌, ◌<◌, ◌≡◌, refl, Bool, false, List, [], ltb, Option, Some, None}
 use Rattle.std.proofs.Common.{sym, ap, ◌∙◌, arith, below_more}
 use Rattle.std.proofs.Math.Bool.{true, not}
 use borrow.Author.Tests.{ne_eqb, lt-ltb}
@@ -10,8 +10,6 @@ use Rattle.ids.specs.Refusals.{EEXIST, ENOSPC}
 use Rattle.ids.specs.declared.Peer.{Peer}
 use Rattle.ids.specs.declared.HandleId.{HandleId}
 use Rattle.rings.specs.Rings.{Rings}
-use Rattle.tables.specs.declared.Found.{Found}
-use Rattle.tables.specs.declared.Found.TheVariants.{At, Nothing}
 use Rattle.tables.specs.Nodes.{live_at}
 use Rattle.tables.specs.Handles.{lookup, find_at, holders_at}
 use Rattle.seeds.specs.Seeds.{seed_v}
@@ -55,7 +53,7 @@ module _ (ns hs cs : List ℕ) (rs : Rings) (sd : List ℕ) (p : ℕ) where
 
   module _ (k : ℕ) (w : Taken ns hs cs rs sd p k) where
     module _ (h : k < slots) {b : Bool} (eb : b ≡ counts_at ns hs cs rs sd (p * slots + k)) where
-      pub taken_free : b ≡ false → At (p * slots + k) ≡ place_found p (free_at ns hs cs rs sd p)
+      pub taken_free : b ≡ false → Some (p * slots + k) ≡ place_found p (free_at ns hs cs rs sd p)
       unfolding free_at
       taken_free f =
           let here : not (counts_at ns hs cs rs sd (p * slots + k)) ≡ true = rw (← eb, f) in
@@ -69,7 +67,7 @@ module _ (ns hs cs : List ℕ) (rs : Rings) (sd : List ℕ) (p : ℕ) where
         before = below_more (λ j. not (counts_at ns hs cs rs sd (p * slots + j)) ≡ false) k w.before (rw (← eb, f));
       }
 
-    pub taken-all : slots ≤ k → Nothing ≡ place_found p (free_at ns hs cs rs sd p)
+    pub taken-all : slots ≤ k → None ≡ place_found p (free_at ns hs cs rs sd p)
     unfolding free_at
     taken-all h =
         let z : slots ≡ k = omega (arith, w.some) in
@@ -78,29 +76,29 @@ module _ (ns hs cs : List ℕ) (rs : Rings) (sd : List ℕ) (p : ℕ) where
         rw (← e)
 
 -- judge_create
-place_none : (p k : ℕ) → Nothing ≡ place_found p k → ltb k slots ≡ false
+place_none : (p k : ℕ) → None ≡ place_found p k → ltb k slots ≡ false
 place_none p k e = go (look (ltb k slots))
   where
     go : Seen (ltb k slots) → ltb k slots ≡ false
     go (is_true f) =
-        let x : place_found p k ≡ At (p * slots + k) = rw f in
-        let y : Nothing ≡ At (p * slots + k) = e ∙ x in
+        let x : place_found p k ≡ Some (p * slots + k) = rw f in
+        let y : None ≡ Some (p * slots + k) = e ∙ x in
         let z : ◌≡◌ {A = ℕ} 0 1 = cc in
         absurd (omega arith)
     go (is_false f) = f
 
-place_at : (p k s : ℕ) → At s ≡ place_found p k → (ltb k slots ≡ true) × (s ≡ p * slots + k)
+place_at : (p k s : ℕ) → Some s ≡ place_found p k → (ltb k slots ≡ true) × (s ≡ p * slots + k)
 place_at p k s e = go (look (ltb k slots))
   where
     go : Seen (ltb k slots) → (ltb k slots ≡ true) × (s ≡ p * slots + k)
     go (is_true f) =
-        let x : place_found p k ≡ At (p * slots + k) = rw f in
-        let y : At s ≡ At (p * slots + k) = e ∙ x in
+        let x : place_found p k ≡ Some (p * slots + k) = rw f in
+        let y : Some s ≡ Some (p * slots + k) = e ∙ x in
         let z : s ≡ p * slots + k = cc in
         (f, z)
     go (is_false f) =
-        let x : place_found p k ≡ Nothing = rw f in
-        let y : At s ≡ Nothing = e ∙ x in
+        let x : place_found p k ≡ None = rw f in
+        let y : Some s ≡ None = e ∙ x in
         let z : ◌≡◌ {A = ℕ} 0 1 = cc in
         absurd (omega arith)
 
@@ -108,19 +106,19 @@ module _ (ps : List ℕ) (p : Peer) (l : p.0 < peers) {n : ℕ} (e : n ≡ start
   pub create-refused : (n ≡ 0 → ⊥) → order.Refuse n ≡ unless (create_by (find_at hs p.0) (free_at ns hs cs rs sd p.0) (seen ps [] [] [] no_rings) p.0 i.0) (order.Create p i (p.0 * slots + free_at ns hs cs rs sd p.0))
   create-refused ne = refused _ (stop ps p l e ne _) ne
 
-  module _ (z : n ≡ 0) {x : Found} (ex : x ≡ lookup hs p.0 i.0) where
-    pub create-held : (s : ℕ) → x ≡ At s → order.Refuse EEXIST ≡ unless (create_by (find_at hs p.0) (free_at ns hs cs rs sd p.0) (seen ps [] [] [] no_rings) p.0 i.0) (order.Create p i (p.0 * slots + free_at ns hs cs rs sd p.0))
+  module _ (z : n ≡ 0) {x : Option ℕ} (ex : x ≡ lookup hs p.0 i.0) where
+    pub create-held : (s : ℕ) → x ≡ Some s → order.Refuse EEXIST ≡ unless (create_by (find_at hs p.0) (free_at ns hs cs rs sd p.0) (seen ps [] [] [] no_rings) p.0 i.0) (order.Create p i (p.0 * slots + free_at ns hs cs rs sd p.0))
     create-held s f =
         let w = found hs p.0 l i.0 ex s f in
         refused _ (pass ps p l e z _ ∙ rw (← w.0, lt-ltb s nodes w.1)) (λ y. absurd (omega arith))
 
-    module _ (f : x ≡ Nothing) {y : Found} (ey : y ≡ place_found p.0 (free_at ns hs cs rs sd p.0)) where
-      pub create-full : y ≡ Nothing → order.Refuse ENOSPC ≡ unless (create_by (find_at hs p.0) (free_at ns hs cs rs sd p.0) (seen ps [] [] [] no_rings) p.0 i.0) (order.Create p i (p.0 * slots + free_at ns hs cs rs sd p.0))
+    module _ (f : x ≡ None) {y : Option ℕ} (ey : y ≡ place_found p.0 (free_at ns hs cs rs sd p.0)) where
+      pub create-full : y ≡ None → order.Refuse ENOSPC ≡ unless (create_by (find_at hs p.0) (free_at ns hs cs rs sd p.0) (seen ps [] [] [] no_rings) p.0 i.0) (order.Create p i (p.0 * slots + free_at ns hs cs rs sd p.0))
       create-full g =
           let b : ltb (free_at ns hs cs rs sd p.0) slots ≡ false = place_none p.0 (free_at ns hs cs rs sd p.0) (sym g ∙ ey) in
           refused _ (pass ps p l e z _ ∙ rw (missing hs p.0 l i.0 ex f, b)) (λ y. absurd (omega arith))
 
-      pub create-granted : (s : ℕ) → y ≡ At s → order.Create p i s ≡ unless (create_by (find_at hs p.0) (free_at ns hs cs rs sd p.0) (seen ps [] [] [] no_rings) p.0 i.0) (order.Create p i (p.0 * slots + free_at ns hs cs rs sd p.0))
+      pub create-granted : (s : ℕ) → y ≡ Some s → order.Create p i s ≡ unless (create_by (find_at hs p.0) (free_at ns hs cs rs sd p.0) (seen ps [] [] [] no_rings) p.0 i.0) (order.Create p i (p.0 * slots + free_at ns hs cs rs sd p.0))
       create-granted s g =
           let b = place_at p.0 (free_at ns hs cs rs sd p.0) s (sym g ∙ ey) in
           ap (order.Create p i) b.1

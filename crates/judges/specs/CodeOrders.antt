@@ -1,7 +1,7 @@
 -- The laws that the proofs of the judgements cite, one for each return, over plain variables: each is shaped like what the callees ensure.
 -- Assumes nothing.
 use Prim.Native.Nat.{ℕ, ◌+◌, ◌*◌, ◌/◌, min, ◌≤◌, ◌<◌}
-use Rattle.std.specs.Prelude.{◌≡◌, Bool, length, get_or, take, eqb, ltb, leb}
+use Rattle.std.specs.Prelude.{◌≡◌, Bool, length, get_or, take, eqb, ltb, leb, Option, Some, None}
 use Rattle.std.proofs.Math.Path.{refl}
 use Rattle.std.proofs.Common.{sym, ap, ◌∙◌, arith, length-take-le}
 use Rattle.std.proofs.Math.Bool.{true, false}
@@ -17,8 +17,6 @@ use Rattle.rings.specs.declared.Entry.{Entry}
 use Rattle.rings.specs.Rings.{Rings, ends_size, length_of, first_of}
 use Rattle.tables.specs.declared.Status.{Status}
 use Rattle.tables.specs.declared.Status.TheVariants.{Unopened, Open, Disconnected}
-use Rattle.tables.specs.declared.Found.{Found}
-use Rattle.tables.specs.declared.Found.TheVariants.{At, Nothing}
 use Rattle.tables.specs.Peers.{accepted_at, status_at, standing_at}
 use Rattle.tables.specs.PeersView.{status_v, accepted_v, status-is, present-is, accepted-is}
 use Rattle.tables.specs.Nodes.{live_at}
@@ -93,11 +91,11 @@ module _ (ps : List ℕ) (p : Peer) (u : User) (l : p.0 < peers) {a : ℕ} (e : 
     open_gone f = rw (accepted-is ps, ← e, lt-ltb a most_commands h, status-is ps p.0 l, ← ex, f)
 
 -- What a lookup found.
-module _ (hs : List ℕ) (p : ℕ) (l : p < peers) (i : ℕ) {x : Found} (ex : x ≡ lookup hs p i) where
-  pub missing : x ≡ Nothing → find_at hs p i ≡ nodes
+module _ (hs : List ℕ) (p : ℕ) (l : p < peers) (i : ℕ) {x : Option ℕ} (ex : x ≡ lookup hs p i) where
+  pub missing : x ≡ None → find_at hs p i ≡ nodes
   missing f = lookup-nothing hs p i (sym ex ∙ f)
 
-  pub found : (s : ℕ) → x ≡ At s → (s ≡ find_at hs p i) × (s < nodes)
+  pub found : (s : ℕ) → x ≡ Some s → (s ≡ find_at hs p i) × (s < nodes)
   found s f = lookup-at hs p i l s (sym ex ∙ f)
 
 -- pinned
@@ -134,11 +132,11 @@ module _ (ps : List ℕ) (p : Peer) (l : p.0 < peers) {n : ℕ} (e : n ≡ start
     pub destroy-refused : (n ≡ 0 → ⊥) → order.Refuse n ≡ unless (destroy_by (find_at hs p.0) (seen ps ns hs [] no_rings) p.0 i.0) (order.Destroy p (find_at hs p.0 i.0))
     destroy-refused ne = refused _ (stop ne _) ne
 
-    module _ (z : n ≡ 0) {x : Found} (ex : x ≡ lookup hs p.0 i.0) where
-      pub destroy-missing : x ≡ Nothing → order.Refuse ENXIO ≡ unless (destroy_by (find_at hs p.0) (seen ps ns hs [] no_rings) p.0 i.0) (order.Destroy p (find_at hs p.0 i.0))
+    module _ (z : n ≡ 0) {x : Option ℕ} (ex : x ≡ lookup hs p.0 i.0) where
+      pub destroy-missing : x ≡ None → order.Refuse ENXIO ≡ unless (destroy_by (find_at hs p.0) (seen ps ns hs [] no_rings) p.0 i.0) (order.Destroy p (find_at hs p.0 i.0))
       destroy-missing f = refused _ (pass z _ ∙ rw (missing hs p.0 l i.0 ex f)) (λ y. absurd (omega arith))
 
-      module _ (s : ℕ) (f : x ≡ At s) where
+      module _ (s : ℕ) (f : x ≡ Some s) where
         pub destroy-foreign : (s / slots ≡ p.0 → ⊥) → order.Refuse EPERM ≡ unless (destroy_by (find_at hs p.0) (seen ps ns hs [] no_rings) p.0 i.0) (order.Destroy p (find_at hs p.0 i.0))
         destroy-foreign ne =
             let w = found hs p.0 l i.0 ex s f in
@@ -160,11 +158,11 @@ module _ (ps : List ℕ) (p : Peer) (l : p.0 < peers) {n : ℕ} (e : n ≡ start
     pub release-refused : (n ≡ 0 → ⊥) → order.Refuse n ≡ unless (release_by (find_at hs p.0) (seen ps ns hs [] no_rings) p.0 i.0) (order.Release p (find_at hs p.0 i.0))
     release-refused ne = refused _ (stop ne _) ne
 
-    module _ (z : n ≡ 0) {x : Found} (ex : x ≡ lookup hs p.0 i.0) where
-      pub release-missing : x ≡ Nothing → order.Refuse ENXIO ≡ unless (release_by (find_at hs p.0) (seen ps ns hs [] no_rings) p.0 i.0) (order.Release p (find_at hs p.0 i.0))
+    module _ (z : n ≡ 0) {x : Option ℕ} (ex : x ≡ lookup hs p.0 i.0) where
+      pub release-missing : x ≡ None → order.Refuse ENXIO ≡ unless (release_by (find_at hs p.0) (seen ps ns hs [] no_rings) p.0 i.0) (order.Release p (find_at hs p.0 i.0))
       release-missing f = refused _ (pass z _ ∙ rw (missing hs p.0 l i.0 ex f)) (λ y. absurd (omega arith))
 
-      module _ (s : ℕ) (f : x ≡ At s) {b : Bool} (eb : b ≡ pinned (seen [] ns hs [] no_rings) p.0 s) where
+      module _ (s : ℕ) (f : x ≡ Some s) {b : Bool} (eb : b ≡ pinned (seen [] ns hs [] no_rings) p.0 s) where
         pub release-pinned : b ≡ true → order.Refuse EPERM ≡ unless (release_by (find_at hs p.0) (seen ps ns hs [] no_rings) p.0 i.0) (order.Release p (find_at hs p.0 i.0))
         release-pinned g =
             let w = found hs p.0 l i.0 ex s f in
@@ -184,14 +182,14 @@ module _ (ps : List ℕ) (p : Peer) (l : p.0 < peers) {n : ℕ} (e : n ≡ start
         pub transfer-absent : (m ≡ 0 → ⊥) → order.Refuse m ≡ unless (transfer_by (find_at hs p.0) (seen ps ns hs [] no_rings) p.0 i.0 q.0) (order.Transfer q (find_at hs p.0 i.0))
         transfer-absent ne = refused _ (pass z _ ∙ present-is ps q.0 lq _ ∙ rw (← em, ne_eqb m 0 ne)) ne
 
-        module _ (zm : m ≡ 0) {x : Found} (ex : x ≡ lookup hs p.0 i.0) where
+        module _ (zm : m ≡ 0) {x : Option ℕ} (ex : x ≡ lookup hs p.0 i.0) where
           there : (r : ℕ) → present (status_v ps q.0) r ≡ r
           there r = present-is ps q.0 lq r ∙ rw (← em, zm)
 
-          pub transfer-missing : x ≡ Nothing → order.Refuse ENXIO ≡ unless (transfer_by (find_at hs p.0) (seen ps ns hs [] no_rings) p.0 i.0 q.0) (order.Transfer q (find_at hs p.0 i.0))
+          pub transfer-missing : x ≡ None → order.Refuse ENXIO ≡ unless (transfer_by (find_at hs p.0) (seen ps ns hs [] no_rings) p.0 i.0 q.0) (order.Transfer q (find_at hs p.0 i.0))
           transfer-missing f = refused _ (pass z _ ∙ there _ ∙ rw (missing hs p.0 l i.0 ex f)) (λ y. absurd (omega arith))
 
-          module _ (s : ℕ) (f : x ≡ At s) {b : Bool} (eb : b ≡ live_at ns s) where
+          module _ (s : ℕ) (f : x ≡ Some s) {b : Bool} (eb : b ≡ live_at ns s) where
             pub transfer-dead : b ≡ false → order.Refuse EHOSTUNREACH ≡ unless (transfer_by (find_at hs p.0) (seen ps ns hs [] no_rings) p.0 i.0 q.0) (order.Transfer q (find_at hs p.0 i.0))
             transfer-dead g =
                 let w = found hs p.0 l i.0 ex s f in
@@ -279,11 +277,11 @@ module _ (ps : List ℕ) (p : Peer) (l : p.0 < peers) {n : ℕ} (e : n ≡ stand
     pub holders-refused : (n ≡ 0 → ⊥) → order.Refuse n ≡ unless (holders_by (find_at hs p.0) (seen ps [] hs [] no_rings) p.0 i.0) (order.Holders (find_at hs p.0 i.0))
     holders-refused ne = refused _ (absent ne _) ne
 
-    module _ (z : n ≡ 0) {x : Found} (ex : x ≡ lookup hs p.0 i.0) where
-      pub holders-missing : x ≡ Nothing → order.Refuse ENXIO ≡ unless (holders_by (find_at hs p.0) (seen ps [] hs [] no_rings) p.0 i.0) (order.Holders (find_at hs p.0 i.0))
+    module _ (z : n ≡ 0) {x : Option ℕ} (ex : x ≡ lookup hs p.0 i.0) where
+      pub holders-missing : x ≡ None → order.Refuse ENXIO ≡ unless (holders_by (find_at hs p.0) (seen ps [] hs [] no_rings) p.0 i.0) (order.Holders (find_at hs p.0 i.0))
       holders-missing f = refused _ (here z _ ∙ rw (missing hs p.0 l i.0 ex f)) (λ y. absurd (omega arith))
 
-      module _ (s : ℕ) (f : x ≡ At s) where
+      module _ (s : ℕ) (f : x ≡ Some s) where
         pub holders-foreign : (s / slots ≡ p.0 → ⊥) → order.Refuse EPERM ≡ unless (holders_by (find_at hs p.0) (seen ps [] hs [] no_rings) p.0 i.0) (order.Holders (find_at hs p.0 i.0))
         holders-foreign ne =
             let w = found hs p.0 l i.0 ex s f in

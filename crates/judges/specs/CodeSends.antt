@@ -1,7 +1,7 @@
 -- The laws that the proofs of a send's judgement cite: the slots of its IDs, the walks over them, and one law for each return, over plain variables.
 -- Assumes nothing.
 use Prim.Native.Nat.{ℕ, zero, suc, ◌+◌, ◌-◌, ◌*◌, ◌/◌, ◌%◌, ◌≤◌, ◌<◌}
-use Rattle.std.specs.Prelude.{◌≡◌, Bool, List, [], ◌∷◌, ◌++◌, map, length, get_or, set, take, drop, replicate, ltb}
+use Rattle.std.specs.Prelude.{◌≡◌, Bool, List, [], ◌∷◌, ◌++◌, map, length, get_or, set, take, drop, replicate, ltb, Option, Some, None}
 use Rattle.std.proofs.Math.Path.{refl, sym, ap}
 use Rattle.std.proofs.Common.{ap₂, ◌∙◌, arith, zero-add, mul-le-mul_left, add-one, length-append, take_at, drop-cons}
 use Rattle.std.proofs.Math.Bool.{true, false}
@@ -17,8 +17,6 @@ use Rattle.ids.specs.declared.HandleId.{HandleId}
 use Rattle.frames.specs.Frame.{send_id}
 use Rattle.quota.specs.declared.Charges.{Charges}
 use Rattle.quota.specs.Charges.{allows_all}
-use Rattle.tables.specs.declared.Found.{Found}
-use Rattle.tables.specs.declared.Found.TheVariants.{At, Nothing}
 use Rattle.tables.specs.Nodes.{live_at}
 use Rattle.tables.specs.Handles.{lookup, find_at}
 use Rattle.tables.specs.Charges.{charges_at}
@@ -100,18 +98,18 @@ module _ (hs f : List ℕ) (p from n : ℕ) where
   looked-start = record { some = omega arith; held = refl; slots = refl }
 
   module _ (l : p < peers) {at : List ℕ} (k : ℕ) (w : Looked hs f p from n at k) where
-    module _ (h : k < n) {i : HandleId} (ei : i ≡ send_id f (from + k)) {x : Found} (ex : x ≡ lookup hs p i.0) where
+    module _ (h : k < n) {i : HandleId} (ei : i ≡ send_id f (from + k)) {x : Option ℕ} (ex : x ≡ lookup hs p i.0) where
       id : i.0 ≡ (send_id f (from + k)).0
       id = ap (λ (j : HandleId). j.0) ei
 
-      pub looked-missing : x ≡ Nothing → record { number = ENXIO; at = replicate most_ids 0 } ≡ slots_at hs p (ids_from f from n)
+      pub looked-missing : x ≡ None → record { number = ENXIO; at = replicate most_ids 0 } ≡ slots_at hs p (ids_from f from n)
       unfolding slots_at
       looked-missing g =
           let m : find_at hs p (send_id f (from + k)).0 ≡ nodes = ap (find_at hs p) (sym id) ∙ missing hs p l i.0 ex g in
           let b : held_by hs p (send_id f (from + k)).0 ≡ false = rw m in
           rw (every-broken (held_by hs p) (λ j. (send_id f (from + j)).0) n k h b)
 
-      pub looked-more : n ≤ most_ids → (s : ℕ) → x ≡ At s → Looked hs f p from n (set at k s) (k + 1)
+      pub looked-more : n ≤ most_ids → (s : ℕ) → x ≡ Some s → Looked hs f p from n (set at k s) (k + 1)
       looked-more small s g =
           let m = found hs p l i.0 ex s g in
           let y : s ≡ find_at hs p (send_id f (from + k)).0 = m.0 ∙ ap (find_at hs p) id in

@@ -1,6 +1,6 @@
 -- What the bus says to a command: the model's refusal, or the order that carries the command out, in which each ID is the slot that the acting peer knows by it.
 -- Assumes nothing.
-use Rattle.std.specs.Prelude.{ℕ, ◌+◌, ◌*◌, ◌/◌, ◌%◌, min, ◌<◌, ◌≤◌, Bool, false, not, List, [], map, length, replicate, take, eqb, ltb}
+use Rattle.std.specs.Prelude.{ℕ, ◌+◌, ◌*◌, ◌/◌, ◌%◌, min, ◌<◌, ◌≤◌, Bool, false, not, List, [], map, length, replicate, take, eqb, ltb, Option, Some, None}
 use Rattle.std.proofs.lemmas.List.Edits.{sets}
 use Rattle.laws.specs.Tests.{pick}
 use Rattle.laws.specs.Search.{first}
@@ -16,8 +16,6 @@ use Rattle.frames.specs.Frame.{send_id}
 use Rattle.quota.specs.Charges.{allows_all}
 use Rattle.rings.specs.declared.Entry.{Entry}
 use Rattle.rings.specs.Rings.{Rings, rings_of}
-use Rattle.tables.specs.declared.Found.{Found}
-use Rattle.tables.specs.declared.Found.TheVariants.{At, Nothing}
 use Rattle.tables.specs.Peers.{accepted_at, standing_at}
 use Rattle.tables.specs.Nodes.{live_at}
 use Rattle.tables.specs.Handles.{find_at, holders_at}
@@ -125,8 +123,8 @@ unfoldable pub starts_at : List ℕ → ℕ → ℕ
 starts_at ps p = pick (ltb (accepted_at ps) most_commands) (standing_at ps p) EOVERFLOW
 
 -- A place among a peer's slots, as what a search found.
-abbrev pub place_found : ℕ → ℕ → Found
-place_found p k = pick (ltb k slots) (At (p * slots + k)) Nothing
+abbrev pub place_found : ℕ → ℕ → Option ℕ
+place_found p k = pick (ltb k slots) (Some (p * slots + k)) None
 
 -- The IDs from a place of a send's lists on, and their slots.
 abbrev pub ids_from : List ℕ → ℕ → ℕ → List ℕ

@@ -27,7 +27,7 @@ use ids::{
 };
 use quota::Charge;
 use rings::Entry;
-use tables::{Found, Status};
+use tables::Status;
 
 // A send's slots: its destinations and what it carries, 0 behind them and for every other command.
 #[derive(Clone, Copy)]
@@ -150,7 +150,7 @@ fn free_slot(
     numbers: &[u64],
     seeds: &[u8],
     p: Peer,
-) -> Found
+) -> Option<usize>
     requires { (length nodes.now ≡ nodes_size) × (length handles.now ≡ handles_size) × (length charges.now ≡ charges_size)
         × QueueTables ends.now entries.now carried.now numbers.now × Short ends.now × (length seeds.now ≡ seeds_size)
         × (p.0 < peer_count) }
@@ -164,11 +164,11 @@ fn free_slot(
         if !counts(
             nodes, handles, charges, ends, entries, carried, numbers, seeds, s,
         ) {
-            return Found::At(s);
+            return Some(s);
         }
         k += 1;
     }
-    Found::Nothing
+    None
 }
 
 fn judge_create(
@@ -197,10 +197,10 @@ fn judge_create(
     if n != 0 {
         return Order::Refuse(n);
     }
-    let Found::Nothing = tables::find(handles, p, i) else {
+    let None = tables::find(handles, p, i) else {
         return Order::Refuse(EEXIST);
     };
-    let Found::At(s) = free_slot(
+    let Some(s) = free_slot(
         nodes, handles, charges, ends, entries, carried, numbers, seeds, p,
     ) else {
         return Order::Refuse(ENOSPC);
@@ -219,7 +219,7 @@ fn judge_destroy(peers: &[u64], nodes: &[u64], handles: &[u64], p: Peer, i: Hand
     if n != 0 {
         return Order::Refuse(n);
     }
-    let Found::At(s) = tables::find(handles, p, i) else {
+    let Some(s) = tables::find(handles, p, i) else {
         return Order::Refuse(ENXIO);
     };
     if s / SLOTS != p.0 {
@@ -256,7 +256,7 @@ fn judge_release(peers: &[u64], nodes: &[u64], handles: &[u64], p: Peer, i: Hand
     if n != 0 {
         return Order::Refuse(n);
     }
-    let Found::At(s) = tables::find(handles, p, i) else {
+    let Some(s) = tables::find(handles, p, i) else {
         return Order::Refuse(ENXIO);
     };
     if pinned(nodes, handles, p, s) {
@@ -287,7 +287,7 @@ fn judge_transfer(
     if m != 0 {
         return Order::Refuse(m);
     }
-    let Found::At(s) = tables::find(handles, p, i) else {
+    let Some(s) = tables::find(handles, p, i) else {
         return Order::Refuse(ENXIO);
     };
     if !tables::is_live(nodes, s) {
@@ -311,7 +311,7 @@ fn slots_of(handles: &[u64], frame: &[u8], p: Peer, from: usize, n: usize) -> Sl
     let mut at = [0u8; 8];
     let mut k = 0;
     while k < n {
-        let Found::At(s) = tables::find(handles, p, frames::send_id(frame, from + k)) else {
+        let Some(s) = tables::find(handles, p, frames::send_id(frame, from + k)) else {
             return Slots {
                 number: ENXIO,
                 at: [0u8; 8],
@@ -487,7 +487,7 @@ fn judge_holders(peers: &[u64], handles: &[u64], p: Peer, i: HandleId) -> Order
     if n != 0 {
         return Order::Refuse(n);
     }
-    let Found::At(s) = tables::find(handles, p, i) else {
+    let Some(s) = tables::find(handles, p, i) else {
         return Order::Refuse(ENXIO);
     };
     if s / SLOTS != p.0 {

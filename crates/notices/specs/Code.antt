@@ -1,7 +1,7 @@
 -- The laws that the functions' proofs cite, one for each return or turn of a loop, over plain variables: each is shaped like what the callee ensures.
 -- Assumes nothing.
 use Prim.Native.Nat.{ℕ, zero, suc, ◌+◌, ◌*◌, ◌-◌, ◌/◌, ◌%◌, ◌^◌, ◌≤◌, ◌<◌}
-use Rattle.std.specs.Prelude.{◌≡◌, Bool, true, get_or, replicate, set as set_at, eqb, ltb}
+use Rattle.std.specs.Prelude.{◌≡◌, Bool, true, get_or, replicate, set as set_at, eqb, ltb, Option, Some, None}
 use Rattle.std.proofs.Math.Path.{refl, sym, ap}
 use Rattle.std.proofs.Common.{ap₂, ◌∙◌, length-set, get_or-set_same, get_or-set_other, pow_mono}
 use Rattle.std.proofs.Math.Bool.{false}
@@ -22,8 +22,6 @@ use Rattle.rings.specs.declared.Entry.{Entry}
 use Rattle.rings.specs.declared.Match.{Match}
 use Rattle.rings.specs.Rings.{kind_destroyed, kind_released, destroyed_bit, released_bit, slots, ring_size, ends_size, Rings, rings_of, Sized, entry_at, row_of, head_of, length_of, bit_at, one_slot}
 use Rattle.rings.specs.Matches.{bit-one}
-use Rattle.tables.specs.declared.Found.{Found}
-use Rattle.tables.specs.declared.Found.TheVariants.{At, Nothing}
 use Rattle.tables.specs.Nodes.{live_at, died_at, set_dead}
 use Rattle.tables.specs.Handles.{count_at, total_at}
 use Rattle.tables.specs.NodesView.{dead-length}
@@ -120,21 +118,21 @@ module _ (ns hs : List ℕ) (q : ℕ) (a : Asked) where
   asking-all k g f = rw (← f) g.sum
 
 -- lower
-module _ (hs : List ℕ) (q : ℕ) (found : Found) (k : ℕ) where
-  pub lower-first : found ≡ Nothing → At k ≡ lower_of hs q found k
+module _ (hs : List ℕ) (q : ℕ) (found : Option ℕ) (k : ℕ) where
+  pub lower-first : found ≡ None → Some k ≡ lower_of hs q found k
   lower-first f = rw f
 
-  module _ {j : ℕ} (f : found ≡ At j) {x y : HandleId} (ex : x ≡ record { 0 = key_at hs q (j % slots) }) (ey : y ≡ record { 0 = key_at hs q k }) where
+  module _ {j : ℕ} (f : found ≡ Some j) {x y : HandleId} (ex : x ≡ record { 0 = key_at hs q (j % slots) }) (ey : y ≡ record { 0 = key_at hs q k }) where
     low : x.0 ≡ key_at hs q (j % slots)
     low = ap (λ (z : HandleId). z.0) ex
 
     own : y.0 ≡ key_at hs q k
     own = ap (λ (z : HandleId). z.0) ey
 
-    pub lower-new : y.0 < x.0 → At k ≡ lower_of hs q found k
+    pub lower-new : y.0 < x.0 → Some k ≡ lower_of hs q found k
     lower-new l = rw (f, ← low, ← own, lt-ltb y.0 x.0 l)
 
-    pub lower-old : x.0 ≤ y.0 → At j ≡ lower_of hs q found k
+    pub lower-old : x.0 ≤ y.0 → Some j ≡ lower_of hs q found k
     lower-old l = rw (f, ← low, ← own, le-ltb y.0 x.0 l)
 
 -- least_id, bury: the bit that the code reads
@@ -142,20 +140,20 @@ bit_is : (k : ℕ) {set w : ℕ} → w ≡ set → {b : Bool} → b ≡ bit_at w
 bit_is k ew eb t = ap (λ (y : ℕ). bit_at y k) (sym ew) ∙ sym eb ∙ t
 
 module _ (hs : List ℕ) (q set : ℕ) where
-  pub least-none : Nothing ≡ least_at hs q set 0
+  pub least-none : None ≡ least_at hs q set 0
   unfolding least_at
   least-none = refl
 
-  module _ (k : ℕ) {x : Found} (ex : x ≡ least_at hs q set k) {w : ℕ} (ew : w ≡ set) {b : Bool} (eb : b ≡ bit_at w k) where
-    pub least-in : b ≡ true → {y : Found} → y ≡ lower_of hs q x k → {z : Found} → z ≡ y → z ≡ least_at hs q set (k + 1)
+  module _ (k : ℕ) {x : Option ℕ} (ex : x ≡ least_at hs q set k) {w : ℕ} (ew : w ≡ set) {b : Bool} (eb : b ≡ bit_at w k) where
+    pub least-in : b ≡ true → {y : Option ℕ} → y ≡ lower_of hs q x k → {z : Option ℕ} → z ≡ y → z ≡ least_at hs q set (k + 1)
     unfolding least_at
     least-in t ey ez = rw (add-one, bit_is k ew eb t, ← ex) (ez ∙ ey)
 
-    pub least-out : b ≡ false → {z : Found} → z ≡ x → z ≡ least_at hs q set (k + 1)
+    pub least-out : b ≡ false → {z : Option ℕ} → z ≡ x → z ≡ least_at hs q set (k + 1)
     unfolding least_at
     least-out f ez = rw (add-one, bit_is k ew eb f, ← ex) ez
 
-  pub least-all : (k : ℕ) {x : Found} → x ≡ least_at hs q set k → k ≡ slots → x ≡ least_at hs q set slots
+  pub least-all : (k : ℕ) {x : Option ℕ} → x ≡ least_at hs q set k → k ≡ slots → x ≡ least_at hs q set slots
   least-all k e f = rw (← f) e
 
 -- The rings have their sizes, and keep them where entries are queued.
@@ -305,13 +303,13 @@ module _ (hs to : List ℕ) (q kind n : ℕ) where
   tell-fit r set zero x = x
   tell-fit r set (suc f) x = go (least_at hs q set slots) (λ s y z. tell-fit s y f z)
     where
-      go : (y : Found) → ((s : Rings) (y : ℕ) → Fit s → Fit (told hs to q kind n s y f)) →
+      go : (y : Option ℕ) → ((s : Rings) (y : ℕ) → Fit s → Fit (told hs to q kind n s y f)) →
           Fit
           (following y
           (λ j. told hs to q kind n (posted_to r (notice_of kind (q * slots + j % slots) n) (get_or to (j % slots) 0) peers) (bits (above_at hs q set j) slots) f)
           r)
-      go Nothing ih = x
-      go (At j) ih =
+      go None ih = x
+      go (Some j) ih =
           ih (posted_to r (notice_of kind (q * slots + j % slots) n) (get_or to (j % slots) 0) peers) (bits (above_at hs q set j) slots)
           (post-fit r (notice_of kind (q * slots + j % slots) n) (get_or to (j % slots) 0) peers x)
 
@@ -319,12 +317,12 @@ module _ (hs to : List ℕ) (q kind n : ℕ) where
   unfolding told
   told-zero r set = refl
 
-  told_none : (r : Rings) (set f : ℕ) → least_at hs q set slots ≡ Nothing → told hs to q kind n r set f ≡ r
+  told_none : (r : Rings) (set f : ℕ) → least_at hs q set slots ≡ None → told hs to q kind n r set f ≡ r
   unfolding told
   told_none r set zero e = refl
   told_none r set (suc f) e = rw e
 
-  told-some : (r : Rings) (set f j : ℕ) → least_at hs q set slots ≡ At j →
+  told-some : (r : Rings) (set f j : ℕ) → least_at hs q set slots ≡ Some j →
       told hs to q kind n r set (suc f)
       ≡ told hs to q kind n (posted_to r (notice_of kind (q * slots + j % slots) n) (get_or to (j % slots) 0) peers) (bits (above_at hs q set j) slots) f
   unfolding told
@@ -343,11 +341,11 @@ module _ (ns hs to : List ℕ) (q kind n : ℕ) (r₀ : Rings) (set : ℕ) where
     pub telling-all : slots ≤ k → r ≡ told hs to q kind n r₀ set slots
     telling-all l = let z : slots - k ≡ 0 = omega arith in sym (v.same ∙ ap (told hs to q kind n r rest) z ∙ told-zero hs to q kind n r rest)
 
-    module _ {x : Found} (ex : x ≡ least_at hs q rest slots) where
-      pub telling-none : x ≡ Nothing → r ≡ told hs to q kind n r₀ set slots
+    module _ {x : Option ℕ} (ex : x ≡ least_at hs q rest slots) where
+      pub telling-none : x ≡ None → r ≡ told hs to q kind n r₀ set slots
       telling-none f = sym (v.same ∙ told_none hs to q kind n r rest (slots - k) (sym ex ∙ f))
 
-      pub telling-next : k < slots → {j : ℕ} → x ≡ At j → {a : ℕ} → a ≡ get_or to (j % slots) 0 → {e : Entry} → e ≡ notice_of kind (q * slots + j % slots) n →
+      pub telling-next : k < slots → {j : ℕ} → x ≡ Some j → {a : ℕ} → a ≡ get_or to (j % slots) 0 → {e : Entry} → e ≡ notice_of kind (q * slots + j % slots) n →
           {r' : Rings} → r' ≡ posted_to r e a peers → {rest' : ℕ} → rest' ≡ set_of ns hs q (Above rest j) → Telling hs to q kind n r₀ set r' rest' (k + 1)
       unfolding set_of
       telling-next l {j} f {a} et {e} ee {r'} er {rest'} es =
@@ -392,18 +390,18 @@ destroy-done ns hs cs r p set n ea ew en et = rw (en, et, ew, ea)
 
 -- destroy_one: in the set of one bit the least ID is that place's and none is above it, so one notice is queued; and one node is dead.
 module _ (hs : List ℕ) (q : ℕ) where
-  least-empty : (set n : ℕ) → ((j : ℕ) → j < n → bit_at set j ≡ false) → least_at hs q set n ≡ Nothing
+  least-empty : (set n : ℕ) → ((j : ℕ) → j < n → bit_at set j ≡ false) → least_at hs q set n ≡ None
   unfolding least_at
   least-empty set zero h = refl
   least-empty set (suc n) h = rw (h n (omega arith)) (least-empty set n (λ j l. h j (omega arith)))
 
-  least-one : (k n : ℕ) → k < n → least_at hs q (2 ^ k) n ≡ At k
+  least-one : (k n : ℕ) → k < n → least_at hs q (2 ^ k) n ≡ Some k
   unfolding least_at
   least-one k zero l = absurd (omega arith)
   least-one k (suc n) l = rw (bit-one k n) (go (same? n k) (least-one k n))
     where
-      go : Same n k → (k < n → least_at hs q (2 ^ k) n ≡ At k) → pick (eqb n k) (lower_of hs q (least_at hs q (2 ^ k) n) n) (least_at hs q (2 ^ k) n) ≡ At k
-      go (same d) ih = rw (eq-eqb n k d, least-empty (2 ^ k) n (λ j m. bit-one k j ∙ ne_eqb j k (λ e. absurd (omega arith)))) (ap At d)
+      go : Same n k → (k < n → least_at hs q (2 ^ k) n ≡ Some k) → pick (eqb n k) (lower_of hs q (least_at hs q (2 ^ k) n) n) (least_at hs q (2 ^ k) n) ≡ Some k
+      go (same d) ih = rw (eq-eqb n k d, least-empty (2 ^ k) n (λ j m. bit-one k j ∙ ne_eqb j k (λ e. absurd (omega arith)))) (ap Some d)
       go (other d) ih = rw (ne_eqb n k d) (ih (below_next n k l d))
 
   above-one : (k j : ℕ) → k < slots → above_at hs q (2 ^ k) k j ≡ false

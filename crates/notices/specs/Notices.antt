@@ -1,6 +1,6 @@
 -- What the functions of the notices do: sets of a peer's slots, places by ascending ID, and notices queued at their peers.
 -- Assumes nothing.
-use Rattle.std.specs.Prelude.{ℕ, zero, suc, ◌+◌, ◌*◌, ◌-◌, ◌/◌, ◌%◌, ◌^◌, ◌<◌, Bool, true, false, List, get_or, replicate, eqb, ltb, leb}
+use Rattle.std.specs.Prelude.{ℕ, zero, suc, ◌+◌, ◌*◌, ◌-◌, ◌/◌, ◌%◌, ◌^◌, ◌<◌, Bool, true, false, List, get_or, replicate, eqb, ltb, leb, Option, Some, None}
 use Rattle.std.specs.Int.Count.{count_trailing_zeros}
 use Rattle.laws.specs.Tests.{pick}
 use Rattle.laws.specs.Bits.{bits}
@@ -8,8 +8,6 @@ use Rattle.laws.specs.Build.{build}
 use Rattle.rings.specs.declared.Entry.{Entry}
 use Rattle.rings.specs.declared.Match.{Match}
 use Rattle.rings.specs.Rings.{kind_destroyed, kind_released, destroyed_bit, released_bit, slots, ring_size, Rings, entry_at, row_of, head_of, length_of, bit_at, one_slot}
-use Rattle.tables.specs.declared.Found.{Found}
-use Rattle.tables.specs.declared.Found.TheVariants.{At, Nothing}
 use Rattle.tables.specs.Nodes.{live_at, died_at, set_dead}
 use Rattle.tables.specs.Handles.{id_at, count_at, total_at}
 use Rattle.queues.specs.Queues.{entered, withdrawn, carried_before}
@@ -51,12 +49,12 @@ unfoldable pub set_of : List ℕ → List ℕ → ℕ → Asked → ℕ
 set_of ns hs q a = bits (asks ns hs q a) slots
 
 -- The place with the least ID among the places of the set below n.
-abbrev pub lower_of : List ℕ → ℕ → Found → ℕ → Found
-lower_of hs q Nothing k = At k
-lower_of hs q (At j) k = pick (ltb (key_at hs q k) (key_at hs q (j % slots))) (At k) (At j)
+abbrev pub lower_of : List ℕ → ℕ → Option ℕ → ℕ → Option ℕ
+lower_of hs q None k = Some k
+lower_of hs q (Some j) k = pick (ltb (key_at hs q k) (key_at hs q (j % slots))) (Some k) (Some j)
 
-unfoldable pub least_at : List ℕ → ℕ → ℕ → ℕ → Found
-least_at hs q set zero = Nothing
+unfoldable pub least_at : List ℕ → ℕ → ℕ → ℕ → Option ℕ
+least_at hs q set zero = None
 least_at hs q set (suc k) = pick (bit_at set k) (lower_of hs q (least_at hs q set k) k) (least_at hs q set k)
 
 -- An entry queued at each peer of a set, in ascending order.
@@ -86,9 +84,9 @@ abbrev pub owner_alone : ℕ → List ℕ
 owner_alone q = replicate slots (2 ^ q)
 
 -- The notices about the peer's own slots in a set, by ascending ID; of each place a number says who is told.
-abbrev pub following : Found → (ℕ → Rings) → Rings → Rings
-following Nothing more r = r
-following (At j) more r = more j
+abbrev pub following : Option ℕ → (ℕ → Rings) → Rings → Rings
+following None more r = r
+following (Some j) more r = more j
 
 unfoldable pub told : List ℕ → List ℕ → ℕ → ℕ → ℕ → Rings → ℕ → ℕ → Rings
 told hs to q kind n r set zero = r

@@ -1,7 +1,7 @@
 -- What the functions of the notices do to the state that the tables stand for: notices queued, by ascending ID, and nodes destroyed.
 -- Assumes nothing.
 use Prim.Native.Nat.{ℕ, zero, suc, ◌+◌, ◌*◌, ◌-◌, ◌/◌, ◌%◌, ◌^◌, ◌≤◌, ◌<◌}
-use Rattle.std.specs.Prelude.{◌≡◌, not, length, get_or, eqb, ltb}
+use Rattle.std.specs.Prelude.{◌≡◌, not, length, get_or, eqb, ltb, Option, Some, None}
 use Rattle.std.proofs.Math.Path.{refl, ap, ap₂, fun_ext}
 use Rattle.std.proofs.Common.{sym, ◌∙◌, length-append, eqb-true, eq-eqb, ne_eqb, ltb-true, ltb-false, lt-ltb, le-ltb}
 use Rattle.std.proofs.Math.Bool.{Bool, true, false}
@@ -22,8 +22,6 @@ use Rattle.rings.specs.declared.Entry.{Entry as Row}
 use Rattle.rings.specs.Rings.{kind_destroyed, kind_released, slots, ring_size, ends_size, Rings, Sized, length_of, bit_at, one_slot}
 use Rattle.rings.specs.Matches.{bit-one}
 use Rattle.pool.specs.Pool.{bytes_in}
-use Rattle.tables.specs.declared.Found.{Found as Spot}
-use Rattle.tables.specs.declared.Found.TheVariants.{At, Nothing}
 use Rattle.tables.specs.PeersView.{accepted_v}
 use Rattle.tables.specs.Nodes.{set_dead}
 use Rattle.tables.specs.NodesView.{life_v, life-dead, live-is, dead-length}
@@ -54,9 +52,9 @@ use Rattle.notices.specs.Rising.{bit-bits, bits-one, Inside, least-inside, risin
 use Rattle.ids.specs.Sizes.{carried_fields, nodes_size}
 
 -- The place with the least ID, in the model's words.
-abbrev pub spot : Found → Spot
-spot nowhere = Nothing
-spot (at j) = At j
+abbrev pub spot : Found → Option ℕ
+spot nowhere = None
+spot (at j) = Some j
 
 pub least-is : (hs : List ℕ) (q set n : ℕ) → n ≤ slots → least_at hs q set n ≡ spot (least (bit_at set) (key_at hs q) n)
 unfolding least_at least
@@ -64,7 +62,7 @@ least-is hs q set zero l = refl
 least-is hs q set (suc k) l =
     go (look (bit_at set k)) (least (bit_at set) (key_at hs q) k) (least-inside (bit_at set) (key_at hs q) k) (least-is hs q set k (omega arith))
   where
-    on : (b : Bool) (j : ℕ) → pick b (At k) (At j) ≡ spot (pick b (at k) (at j))
+    on : (b : Bool) (j : ℕ) → pick b (Some k) (Some j) ≡ spot (pick b (at k) (at j))
     on true j = refl
     on false j = refl
 
@@ -87,7 +85,7 @@ pub told-posts : (hs to : List ℕ) (q kind n : ℕ) (r : Rings) (set f : ℕ) �
 unfolding told post_all rising
 told-posts hs to q kind n r set zero = refl
 told-posts hs to q kind n r set (suc f) =
-    ap (λ (x : Spot). following x more r) (least-is hs q set slots (omega arith))
+    ap (λ (x : Option ℕ). following x more r) (least-is hs q set slots (omega arith))
     ∙ go (least (bit_at set) (key_at hs q) slots) (least-inside (bit_at set) (key_at hs q) slots) (λ r set. told-posts hs to q kind n r set f)
   where
     more : ℕ → Rings

@@ -16,7 +16,6 @@ ghost use Rattle.model.specs.Numbers.{nodes as node_count};
 
 use ids::{INVALID, NODES, PEERS, Peer, RING, SLOTS};
 use rings::{DESTROYED, DESTROYED_BIT, Entry, Match, RELEASED, RELEASED_BIT};
-use tables::Found;
 
 // Which of a peer's slots are asked for: those whose nodes live; those whose sum of counts falls to 1 when a peer's handle
 // goes; those of a set whose IDs are above the one of a place.
@@ -112,27 +111,27 @@ pub fn set_of(nodes: &[u64], handles: &[u64], q: Peer, a: Asked) -> u16
 }
 
 // Of a place that was found and the place k the one with the lower ID.
-fn lower(handles: &[u64], q: Peer, found: Found, k: usize) -> Found
+fn lower(handles: &[u64], q: Peer, found: Option<usize>, k: usize) -> Option<usize>
     requires { (length handles.now ≡ handles_size) × (q.0 < peer_count) × (k < slots) }
     ensures { result ≡ lower_of handles.now q.0 found k }
 {
-    let Found::At(j) = found else {
-        return Found::At(k);
+    let Some(j) = found else {
+        return Some(k);
     };
     let least = tables::id_of(handles, q, q.0 * SLOTS + j % SLOTS);
     let id = tables::id_of(handles, q, q.0 * SLOTS + k);
     if id.0 < least.0 {
-        return Found::At(k);
+        return Some(k);
     }
-    Found::At(j)
+    Some(j)
 }
 
 // The place in the set of the peer's own slot with the least ID.
-fn least_id(handles: &[u64], q: Peer, set: u16) -> Found
+fn least_id(handles: &[u64], q: Peer, set: u16) -> Option<usize>
     requires { (length handles.now ≡ handles_size) × (q.0 < peer_count) }
     ensures { result ≡ least_at handles.now q.0 set slots }
 {
-    let mut found = Found::Nothing;
+    let mut found = None;
     let mut k = 0;
     while k < SLOTS {
         if rings::bit(rings::wide(set), k) {
@@ -333,7 +332,7 @@ pub fn tell(
     let mut rest = set;
     let mut k = 0;
     while k < SLOTS {
-        let Found::At(j) = least_id(handles, q, rest) else {
+        let Some(j) = least_id(handles, q, rest) else {
             return;
         };
         let s = q.0 * SLOTS + j % SLOTS;

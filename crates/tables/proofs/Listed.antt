@@ -1,7 +1,7 @@
 -- The theorems that go with specs/Listed.antt and stand on others: each goes by the definitions and the theorems there.
 -- Assumes nothing.
 use Prim.Native.Nat.{ℕ, ◌+◌, ◌-◌, ◌*◌, ◌/◌, ◌%◌, ◌≤◌, ◌<◌}
-use Rattle.std.specs.Prelude.{◌≡◌, true, length, eqb, ltb}
+use Rattle.std.specs.Prelude.{◌≡◌, true, length, eqb, ltb, Option, Some, None}
 use Rattle.std.proofs.Math.Path.{refl, ap}
 use Rattle.std.proofs.Common.{sym, ◌∙◌, arith}
 use Rattle.std.proofs.Math.Bool.{false}
@@ -14,8 +14,6 @@ use Rattle.model.specs.Numbers.{peers, nodes}
 use Rattle.model.specs.State.{Handle, handle_of, has_id, slot_of}
 use Rattle.model.specs.State.Handle.{none, some}
 use Rattle.model.specs.Ids.{Handles}
-use Rattle.tables.specs.declared.Found.{Found}
-use Rattle.tables.specs.declared.Found.TheVariants.{At, Nothing}
 use Rattle.tables.specs.Peers.{modulus}
 use Rattle.tables.specs.Handles.{list_block, length_block, handles_size, id_at, count_at, has_in, has_at, found_own, list_length, listed_id, word_at, listed_slot, guess, guessed, place_in, spot, found_among, found_listed, lookup, slot_found, find_at, put_handle, enlisted, shifted, taken_out, unlisted, raised, reduced}
 use Rattle.tables.specs.HandlesView.{handle_v, handle-is, handle-far, of-has, odd, put-length, shift-handles, shift-length, not-nothing, not_at, of_some}
@@ -84,7 +82,7 @@ module _ (h : List ℕ) (p g : ℕ) (lp : p < peers) (w : Handles p g (handle_v 
   place_is : (m k : ℕ) → m ≤ id_at h length_block p → k < m → listed_id h p k ≡ i → place_in h p i m ≡ k
   place_is = place_of h p i l
 
-  listed-some : (s : ℕ) → found_listed h p i ≡ At s → (s < nodes) × (has_id i (handle_v h p s) ≡ true)
+  listed-some : (s : ℕ) → found_listed h p i ≡ Some s → (s < nodes) × (has_id i (handle_v h p s) ≡ true)
   unfolding found_listed found_among
   listed-some s e = go (look (eqb n 0)) (look (eqb (listed_id h p x) i)) (look (ltb k n)) (look (eqb (listed_id h p k) i))
     where
@@ -97,7 +95,7 @@ module _ (h : List ℕ) (p g : ℕ) (lp : p < peers) (w : Handles p g (handle_v 
       k : ℕ
       k = place_in h p i n
 
-      entry : (j : ℕ) → j < n → eqb (listed_id h p j) i ≡ true → At (listed_slot h p j) ≡ At s → (s < nodes) × (has_id i (handle_v h p s) ≡ true)
+      entry : (j : ℕ) → j < n → eqb (listed_id h p j) i ≡ true → Some (listed_slot h p j) ≡ Some s → (s < nodes) × (has_id i (handle_v h p s) ≡ true)
       entry j lj f q =
           let y : listed_slot h p j ≡ s = cc in
           let v = entry_has j (omega (arith, all-of-it)) (eqb-true (listed_id h p j) i f) in
@@ -110,7 +108,7 @@ module _ (h : List ℕ) (p g : ℕ) (lp : p < peers) (w : Handles p g (handle_v 
       go (is_false z) (is_false q) (is_true y) (is_true w) = entry k (ltb-true k n y) w (rw (z, q, y, w) at e)
       go (is_false z) (is_false q) (is_true y) (is_false w) = absurd (not-nothing (rw (z, q, y, w) at e))
 
-  listed-none : found_listed h p i ≡ Nothing → (j : ℕ) → j < id_at h length_block p → listed_id h p j ≡ i → ⊥
+  listed-none : found_listed h p i ≡ None → (j : ℕ) → j < id_at h length_block p → listed_id h p j ≡ i → ⊥
   unfolding found_listed found_among
   listed-none e j lj q = go (look (eqb n 0)) (look (eqb (listed_id h p (guessed h p i)) i))
     where
@@ -125,7 +123,7 @@ module _ (h : List ℕ) (p g : ℕ) (lp : p < peers) (w : Handles p g (handle_v 
           let c : place_in h p i n ≡ j = place_is n j (omega (arith, all-of-it)) m q in
           not_at (rw (z, x, c, lt-ltb j n m, eq-eqb (listed_id h p j) i q) at e)
 
-  missed-own : i % 4 ≡ 0 → found_own h p i ≡ Nothing → (s : ℕ) → s < nodes → Seen (has_id i (handle_v h p s)) → has_id i (handle_v h p s) ≡ false
+  missed-own : i % 4 ≡ 0 → found_own h p i ≡ None → (s : ℕ) → s < nodes → Seen (has_id i (handle_v h p s)) → has_id i (handle_v h p s) ≡ false
   missed-own c n s ls (is_false f) = f
   missed-own c n s ls (is_true f) =
       let o : s / slots ≡ p = own-place c s f in
@@ -133,7 +131,7 @@ module _ (h : List ℕ) (p g : ℕ) (lp : p < peers) (w : Handles p g (handle_v 
       let x : has_at h p i s ≡ false = rw y at (own-none h p i n (s % slots) (omega arith)) in
       sym (has-is s ls) ∙ x
 
-  missed-listed : (i % 4 ≡ 0 → ⊥) → found_listed h p i ≡ Nothing → (s : ℕ) → s < nodes → Seen (has_id i (handle_v h p s)) → has_id i (handle_v h p s) ≡ false
+  missed-listed : (i % 4 ≡ 0 → ⊥) → found_listed h p i ≡ None → (s : ℕ) → s < nodes → Seen (has_id i (handle_v h p s)) → has_id i (handle_v h p s) ≡ false
   missed-listed c n s ls (is_false f) = f
   missed-listed c n s ls (is_true f) =
       let x = has_some (handle_v h p s) f in
@@ -145,11 +143,11 @@ module _ (h : List ℕ) (p g : ℕ) (lp : p < peers) (w : Handles p g (handle_v 
   unfolding find_at lookup
   find-is = go (look (eqb (i % 4) 0)) (found_own h p i) refl (found_listed h p i) refl
     where
-      go : Seen (eqb (i % 4) 0) → (x : Found) → found_own h p i ≡ x → (y : Found) → found_listed h p i ≡ y → slot_found (pick (eqb (i % 4) 0) (found_own h p i) (found_listed h p i)) ≡ slot_of (handle_v h p) i
-      go (is_true f) (At s) e y d = let x = own-some h p i lp s e in rw (f, e) (slot_is s x.0 (sym (has-is s x.0) ∙ x.1))
-      go (is_true f) Nothing e y d = rw (f, e) (slot-none (λ s ls. missed-own (eqb-true (i % 4) 0 f) e s ls (look (has_id i (handle_v h p s)))))
-      go (is_false f) x d (At s) e = let y = listed-some s e in rw (f, e) (slot_is s y.0 y.1)
-      go (is_false f) x d Nothing e = rw (f, e) (slot-none (λ s ls. missed-listed (eqb-false (i % 4) 0 f) e s ls (look (has_id i (handle_v h p s)))))
+      go : Seen (eqb (i % 4) 0) → (x : Option ℕ) → found_own h p i ≡ x → (y : Option ℕ) → found_listed h p i ≡ y → slot_found (pick (eqb (i % 4) 0) (found_own h p i) (found_listed h p i)) ≡ slot_of (handle_v h p) i
+      go (is_true f) (Some s) e y d = let x = own-some h p i lp s e in rw (f, e) (slot_is s x.0 (sym (has-is s x.0) ∙ x.1))
+      go (is_true f) None e y d = rw (f, e) (slot-none (λ s ls. missed-own (eqb-true (i % 4) 0 f) e s ls (look (has_id i (handle_v h p s)))))
+      go (is_false f) x d (Some s) e = let y = listed-some s e in rw (f, e) (slot_is s y.0 y.1)
+      go (is_false f) x d None e = rw (f, e) (slot-none (λ s ls. missed-listed (eqb-false (i % 4) 0 f) e s ls (look (has_id i (handle_v h p s)))))
 
 -- An entry gone.
 module _ (h : List ℕ) (size : length h ≡ handles_size) (p : ℕ) (lp : p < peers) (o : Others h p) {f : ℕ → Handle} (w : Lists (id_at h length_block p) (listed_id h p) (listed_slot h p) f) where

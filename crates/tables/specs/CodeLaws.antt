@@ -1,6 +1,6 @@
 -- The laws that the functions' proofs cite, one for each return or turn of a loop, over plain variables: each is shaped like what the callee ensures.
 -- Assumes nothing.
-use Rattle.std.specs.Prelude.{ℕ, zero, suc, ◌+◌, ◌-◌, ◌*◌, ◌/◌, ◌%◌, ◌^◌, ◌≤◌, ◌<◌, min, ◌≡◌, Bool, List, [], ◌∷◌, get_or, eqb, leb}
+use Rattle.std.specs.Prelude.{ℕ, zero, suc, ◌+◌, ◌-◌, ◌*◌, ◌/◌, ◌%◌, ◌^◌, ◌≤◌, ◌<◌, min, ◌≡◌, Bool, List, [], ◌∷◌, get_or, eqb, leb, Option, Some, None}
 use Rattle.std.proofs.Math.Path.{refl}
 use Rattle.std.proofs.Common.{sym, ap, ◌∙◌, add-zero, pow_mono}
 use Rattle.std.proofs.Math.Bool.{true, false, not}
@@ -18,8 +18,6 @@ use Rattle.laws.specs.Build.{build}
 use Rattle.quota.specs.declared.Charge.{Charge}
 use Rattle.quota.specs.declared.Charges.{Charges}
 use Rattle.quota.specs.Charges.{users, nothing}
-use Rattle.tables.specs.declared.Found.{Found}
-use Rattle.tables.specs.declared.Found.TheVariants.{At, Nothing}
 use Rattle.laws.specs.Bits.{bits}
 use Rattle.ids.specs.Refusals.{EBADF, ESHUTDOWN}
 use Rattle.tables.specs.Peers.{peer_row, modulus, status_at, standing_at}
@@ -74,13 +72,13 @@ unfolding has_at
 own_row h p i k = let e : p * own_step + handle_fields * k ≡ handle_row p (p * slots + k) = omega arith in ap (has_in h i) e
 
 module _ (h : List ℕ) (p i : ℕ) (at : ℕ → ℕ) (n : ℕ) where
-  pub found_at : (k : ℕ) → k < n → ((j : ℕ) → j < k → has_at h p i (at j) ≡ false) → has_at h p i (at k) ≡ true → At (at k) ≡ found_by h p i at n
+  pub found_at : (k : ℕ) → k < n → ((j : ℕ) → j < k → has_at h p i (at j) ≡ false) → has_at h p i (at k) ≡ true → Some (at k) ≡ found_by h p i at n
   unfolding found_by
   found_at k l before here =
       let e : k ≡ first (λ j. has_at h p i (at j)) n = first-is (λ j. has_at h p i (at j)) n k (omega arith) before (λ _. here) in
       rw (← e, lt-ltb k n l)
 
-  pub found_nothing : ((j : ℕ) → j < n → has_at h p i (at j) ≡ false) → Nothing ≡ found_by h p i at n
+  pub found_nothing : ((j : ℕ) → j < n → has_at h p i (at j) ≡ false) → None ≡ found_by h p i at n
   unfolding found_by
   found_nothing before =
       let e : n ≡ first (λ j. has_at h p i (at j)) n = first-is (λ j. has_at h p i (at j)) n n (omega arith) before (λ l. absurd (omega arith)) in
@@ -88,16 +86,16 @@ module _ (h : List ℕ) (p i : ℕ) (at : ℕ → ℕ) (n : ℕ) where
 
 -- seek_own
 module _ (h : List ℕ) (p i : ℕ) where
-  pub own_at : (k : ℕ) → k < slots → ((j : ℕ) → j < k → has_at h p i (p * slots + j) ≡ false) → has_at h p i (p * slots + k) ≡ true → At (p * slots + k) ≡ found_own h p i
+  pub own_at : (k : ℕ) → k < slots → ((j : ℕ) → j < k → has_at h p i (p * slots + j) ≡ false) → has_at h p i (p * slots + k) ≡ true → Some (p * slots + k) ≡ found_own h p i
   unfolding found_own
   own_at k l before here = found_at h p i (λ j. p * slots + j) slots k l before here
 
-  pub own-nothing : ((j : ℕ) → j < slots → has_at h p i (p * slots + j) ≡ false) → Nothing ≡ found_own h p i
+  pub own-nothing : ((j : ℕ) → j < slots → has_at h p i (p * slots + j) ≡ false) → None ≡ found_own h p i
   unfolding found_own
   own-nothing before = found_nothing h p i (λ j. p * slots + j) slots before
 
 -- find
-module _ (h : List ℕ) (p i : ℕ) {r : Found} where
+module _ (h : List ℕ) (p i : ℕ) {r : Option ℕ} where
   pub found-own : i % 4 ≡ 0 → r ≡ found_own h p i → r ≡ lookup h p i
   unfolding lookup
   found-own e f = rw (eq-eqb (i % 4) 0 e) f
@@ -189,16 +187,16 @@ module _ (h : List ℕ) (p i n r : ℕ) where
 
 -- seek_among
 module _ (h : List ℕ) (p i n r : ℕ) {k c : ℕ} (ek : (k ≡ place_in h p i n) × (c ≤ r + halvings)) where
-  pub among-past : n ≤ k → (Nothing ≡ found_among h p i n) × (c ≤ r + (halvings + 1))
+  pub among-past : n ≤ k → (None ≡ found_among h p i n) × (c ≤ r + (halvings + 1))
   unfolding found_among
   among-past l = (rw (← ek.0, le-ltb k n l), omega (arith, ek.1))
 
   module _ (l : k < n) {v x d : ℕ} (e : (v ≡ listed_id h p k) × (x ≡ word_at h (list_block p) k) × (d ≡ c + 1)) where
-    pub among-other : (v ≡ i → ⊥) → (Nothing ≡ found_among h p i n) × (d ≤ r + (halvings + 1))
+    pub among-other : (v ≡ i → ⊥) → (None ≡ found_among h p i n) × (d ≤ r + (halvings + 1))
     unfolding found_among
     among-other ne = (rw (← ek.0, lt-ltb k n l, ← e.0, ne_eqb v i ne), omega (arith, ek.1, e.2))
 
-    pub among-this : v ≡ i → (At (x % nodes) ≡ found_among h p i n) × (d ≤ r + (halvings + 1))
+    pub among-this : v ≡ i → (Some (x % nodes) ≡ found_among h p i n) × (d ≤ r + (halvings + 1))
     unfolding found_among
     among-this q = (rw (← ek.0, lt-ltb k n l, ← e.0, eq-eqb v i q, e.1), omega (arith, ek.1, e.2))
 
@@ -207,16 +205,16 @@ long : (h : List ℕ) (p : ℕ) {a : ℕ} → a ≡ id_at h length_block p → {
 long h p ea en = sym (en ∙ ap (λ (x : ℕ). min x nodes) ea)
 
 module _ (h : List ℕ) (p i : ℕ) {a v c : ℕ} (e : (a ≡ id_at h length_block p) × (v ≡ word_at h length_block p) × (c ≡ 0 + 1)) {n : ℕ} (en : n ≡ min a nodes) where
-  pub listed-none : n ≡ 0 → (Nothing ≡ found_listed h p i) × (c ≤ list_reads)
+  pub listed-none : n ≡ 0 → (None ≡ found_listed h p i) × (c ≤ list_reads)
   unfolding found_listed
   listed-none z = (rw (long h p e.0 en, z), omega (arith, e.2))
 
   module _ (some : n ≡ 0 → ⊥) {k : ℕ} (ek : (k ≡ guess v i n) × (k < n)) {w y m : ℕ} (f : (w ≡ listed_id h p k) × (y ≡ word_at h (list_block p) k) × (m ≡ c + 1)) where
-    pub listed-there : w ≡ i → (At (y % nodes) ≡ found_listed h p i) × (m ≤ list_reads)
+    pub listed-there : w ≡ i → (Some (y % nodes) ≡ found_listed h p i) × (m ≤ list_reads)
     unfolding found_listed
     listed-there q = (rw (long h p e.0 en, ne_eqb n 0 some, ← e.1, ← ek.0, ← f.0, eq-eqb w i q, f.1), omega (arith, e.2, f.2))
 
-    pub listed-else : (w ≡ i → ⊥) → {r : Found} {o : ℕ} → (r ≡ found_among h p i n) × (o ≤ m + (halvings + 1)) → (r ≡ found_listed h p i) × (o ≤ list_reads)
+    pub listed-else : (w ≡ i → ⊥) → {r : Option ℕ} {o : ℕ} → (r ≡ found_among h p i n) × (o ≤ m + (halvings + 1)) → (r ≡ found_listed h p i) × (o ≤ list_reads)
     unfolding found_listed
     listed-else q {r} {o} t = (rw (long h p e.0 en, ne_eqb n 0 some, ← e.1, ← ek.0, ← f.0, ne_eqb w i q) t.0, omega (arith, e.2, f.2, t.1))
 
@@ -309,7 +307,7 @@ module _ (h : List ℕ) (p s : ℕ) {c l : ℕ} (ec : c ≡ count_at h p s) (el 
   reduce-last z e₂ = (sym z ∙ left_is, rw (← left_is, eq-eqb l 0 z, ← put_is) (rw ei at e₂))
 
 -- find, with the number of reads
-module _ (h : List ℕ) (p i : ℕ) {r : Found} {c : ℕ} where
+module _ (h : List ℕ) (p i : ℕ) {r : Option ℕ} {c : ℕ} where
   pub sought-own : i % 4 ≡ 0 → (r ≡ found_own h p i) × (c ≤ most_reads) → (r ≡ lookup h p i) × (c ≤ most_reads)
   sought-own e f = (found-own h p i e f.0, f.1)
 

@@ -2,13 +2,11 @@
 -- slot's node. Blocks 8 to 15: for each peer the list of the handles that the bus gave it, ascending by ID, each with its slot. Behind them for each peer the length of its list
 -- and the ID of its last entry.
 -- Assumes nothing.
-use Rattle.std.specs.Prelude.{ℕ, zero, suc, ◌+◌, ◌-◌, ◌*◌, ◌/◌, ◌%◌, min, ◌≡◌, refl, Bool, false, not, List, get_or, set, eqb, ltb, leb}
+use Rattle.std.specs.Prelude.{ℕ, zero, suc, ◌+◌, ◌-◌, ◌*◌, ◌/◌, ◌%◌, min, ◌≡◌, refl, Bool, false, not, List, get_or, set, eqb, ltb, leb, Option, Some, None}
 use Rattle.laws.specs.Tests.{pick}
 use Rattle.laws.specs.Sums.{sum_to}
 use Rattle.laws.specs.Search.{first}
 use Rattle.laws.specs.Halving.{halve}
-use Rattle.tables.specs.declared.Found.{Found}
-use Rattle.tables.specs.declared.Found.TheVariants.{At, Nothing}
 use Rattle.laws.specs.Bits.{bits}
 use Rattle.model.specs.Numbers.{peers, slots, nodes}
 use Rattle.ids.specs.Sizes.{handle_fields}
@@ -64,11 +62,11 @@ unfoldable pub has_at : List ℕ → ℕ → ℕ → ℕ → Bool
 has_at h p i s = has_in h i (handle_row p s)
 
 -- The first of n slots, given by their places, that the peer holds under this ID.
-unfoldable pub found_by : List ℕ → ℕ → ℕ → (ℕ → ℕ) → ℕ → Found
-found_by h p i at n = let k = first (λ j. has_at h p i (at j)) n in pick (ltb k n) (At (at k)) Nothing
+unfoldable pub found_by : List ℕ → ℕ → ℕ → (ℕ → ℕ) → ℕ → Option ℕ
+found_by h p i at n = let k = first (λ j. has_at h p i (at j)) n in pick (ltb k n) (Some (at k)) None
 
 -- Among the peer's own slots.
-unfoldable pub found_own : List ℕ → ℕ → ℕ → Found
+unfoldable pub found_own : List ℕ → ℕ → ℕ → Option ℕ
 found_own h p i = found_by h p i (λ k. p * slots + k) slots
 
 -- The list of the handles given to a peer: how many there are, and the ID and the slot of each.
@@ -91,8 +89,8 @@ at_least h p i j = leb i (listed_id h p j)
 unfoldable pub place_in : List ℕ → ℕ → ℕ → ℕ → ℕ
 place_in h p i n = halve (at_least h p i) halvings 0 n
 
-unfoldable pub found_among : List ℕ → ℕ → ℕ → ℕ → Found
-found_among h p i n = pick (ltb (place_in h p i n) n) (pick (eqb (listed_id h p (place_in h p i n)) i) (At (listed_slot h p (place_in h p i n))) Nothing) Nothing
+unfoldable pub found_among : List ℕ → ℕ → ℕ → ℕ → Option ℕ
+found_among h p i n = pick (ltb (place_in h p i n) n) (pick (eqb (listed_id h p (place_in h p i n)) i) (Some (listed_slot h p (place_in h p i n))) None) None
 
 -- The place that is as far before the last of n as an ID is before the last one, which is said to be v; 0 where there is none. IDs that the bus gives a peer are 4 apart: there the ID
 -- stands if none given after it is gone. Whatever v is, the entry at this place is looked at.
@@ -103,19 +101,19 @@ abbrev pub guessed : List ℕ → ℕ → ℕ → ℕ
 guessed h p i = guess (word_at h length_block p) i (list_length h p)
 
 -- In the list: at that place, or else by halving.
-unfoldable pub found_listed : List ℕ → ℕ → ℕ → Found
+unfoldable pub found_listed : List ℕ → ℕ → ℕ → Option ℕ
 found_listed h p i =
-    pick (eqb (list_length h p) 0) Nothing
-    (pick (eqb (listed_id h p (guessed h p i)) i) (At (listed_slot h p (guessed h p i))) (found_among h p i (list_length h p)))
+    pick (eqb (list_length h p) 0) None
+    (pick (eqb (listed_id h p (guessed h p i)) i) (Some (listed_slot h p (guessed h p i))) (found_among h p i (list_length h p)))
 
 -- What is found for an ID at a peer: a chosen one, its two low bits clear, is looked for among the peer's own slots, any other in the list.
-unfoldable pub lookup : List ℕ → ℕ → ℕ → Found
+unfoldable pub lookup : List ℕ → ℕ → ℕ → Option ℕ
 lookup h p i = pick (eqb (i % 4) 0) (found_own h p i) (found_listed h p i)
 
 -- What was found as a number, 128 where it is nothing.
-abbrev pub slot_found : Found → ℕ
-slot_found (At s) = s
-slot_found Nothing = nodes
+abbrev pub slot_found : Option ℕ → ℕ
+slot_found (Some s) = s
+slot_found None = nodes
 
 unfoldable pub find_at : List ℕ → ℕ → ℕ → ℕ
 find_at h p i = slot_found (lookup h p i)

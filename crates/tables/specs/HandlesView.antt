@@ -1,7 +1,7 @@
 -- The table of handles seen as the model's handles: at count 0 there is none.
 -- Assumes nothing.
 use Prim.Native.Nat.{ℕ, zero, suc, ◌+◌, ◌-◌, ◌*◌, ◌%◌, ◌^◌, ◌≤◌, ◌<◌}
-use Rattle.std.specs.Prelude.{◌≡◌, false, not, get_or, eqb, ltb}
+use Rattle.std.specs.Prelude.{◌≡◌, false, not, get_or, eqb, ltb, Some, None}
 use Rattle.std.proofs.Math.Path.{refl, sym, ap, fun_ext}
 use Rattle.std.proofs.Common.{◌∙◌, zero-add, pow_pos, ltb-true, ltb-false, ne_eqb, lt-ltb, le-ltb}
 use Rattle.std.proofs.Math.Bool.{Bool}
@@ -20,7 +20,6 @@ use Rattle.model.specs.State.{Handle, handle_of, held, count, id_or, has_id, Sta
 use Rattle.model.specs.State.Handle.{none, some}
 use Rattle.model.specs.Changes.{given_after}
 use Rattle.model.specs.Replies.{holders_of}
-use Rattle.tables.specs.declared.Found.TheVariants.{At, Nothing}
 use Rattle.laws.specs.Bits.{bit, bits, bits-ext, bits-first}
 use Rattle.laws.specs.Guards.{upto, upto-at, upto-ext, upto-upd}
 use Rattle.tables.specs.Peers.{modulus}
@@ -161,10 +160,10 @@ pub count_small : (h : List ℕ) (p s : ℕ) → count_at h p s < modulus
 count_small h p s = omega arith
 
 -- What a search finds, and what it says where it finds nothing.
-pub not-nothing : {s : ℕ} → Nothing ≡ At s → ⊥
+pub not-nothing : {s : ℕ} → None ≡ Some s → ⊥
 not-nothing {s} e = let z : ◌≡◌ {A = ℕ} 0 1 = cc in absurd (omega arith)
 
-pub not_at : {s : ℕ} → At s ≡ Nothing → ⊥
+pub not_at : {s : ℕ} → Some s ≡ None → ⊥
 not_at {s} e = not-nothing (sym e)
 
 any-bits : (t : ℕ → Bool) (n : ℕ) → any_below t n ≡ not (eqb (bits t n) 0)

@@ -51,17 +51,10 @@ pub enum Status {
     Disconnected,
 }
 
-// The slot of an ID, or that the peer does not hold it.
-#[derive(Clone, Copy)]
-pub enum Found {
-    At(usize),
-    Nothing,
-}
-
-// What a search found, and how many records of the table it read.
+// The slot that a search found, if any, and how many records of the table it read.
 #[derive(Clone, Copy)]
 pub struct Sought {
-    pub found: Found,
+    pub found: Option<usize>,
     pub reads: usize,
 }
 
@@ -274,17 +267,14 @@ fn seek_own(handles: &[u64], p: Peer, id: HandleId) -> Sought
         let e = holds(handles, base + HANDLE_FIELDS * k, id, reads);
         if e.held {
             return Sought {
-                found: Found::At(p.0 * SLOTS + k),
+                found: Some(p.0 * SLOTS + k),
                 reads: e.reads,
             };
         }
         reads = e.reads;
         k += 1;
     }
-    Sought {
-        found: Found::Nothing,
-        reads,
-    }
+    Sought { found: None, reads }
 }
 
 // An entry of the peer's list.
@@ -338,19 +328,19 @@ fn seek_among(handles: &[u64], p: Peer, id: HandleId, n: usize, reads: usize) ->
     let k = w.at;
     if n <= k {
         return Sought {
-            found: Found::Nothing,
+            found: None,
             reads: w.reads,
         };
     }
     let e = entry_at(handles, p, k, w.reads);
     if e.id != id.0 {
         return Sought {
-            found: Found::Nothing,
+            found: None,
             reads: e.reads,
         };
     }
     Sought {
-        found: Found::At((e.word % NODES as u64) as usize),
+        found: Some((e.word % NODES as u64) as usize),
         reads: e.reads,
     }
 }
@@ -387,7 +377,7 @@ fn seek_listed(handles: &[u64], p: Peer, id: HandleId) -> Sought
     let n = at_most(l.id);
     if n == 0 {
         return Sought {
-            found: Found::Nothing,
+            found: None,
             reads: l.reads,
         };
     }
@@ -395,7 +385,7 @@ fn seek_listed(handles: &[u64], p: Peer, id: HandleId) -> Sought
     let e = entry_at(handles, p, k, l.reads);
     if e.id == id.0 {
         return Sought {
-            found: Found::At((e.word % NODES as u64) as usize),
+            found: Some((e.word % NODES as u64) as usize),
             reads: e.reads,
         };
     }
@@ -415,7 +405,7 @@ pub fn seek(handles: &[u64], p: Peer, id: HandleId) -> Sought
 }
 
 // The slot that the peer knows by this ID.
-pub fn find(handles: &[u64], p: Peer, id: HandleId) -> Found
+pub fn find(handles: &[u64], p: Peer, id: HandleId) -> Option<usize>
     requires { (length handles.now ≡ handles_size) × (p.0 < peer_count) }
     ensures { result ≡ lookup handles.now p.0 id.0 }
 {

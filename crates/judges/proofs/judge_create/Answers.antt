@@ -11,7 +11,7 @@ pub returns-in_default : goal.returns-in_default
 returns-in_default c = create-held c.args.peers.now c.args.p c.requires.7 c.starts-n.ensures c.args.nodes.now c.args.handles.now c.args.charges.now (rings_of c.args.ends.now c.args.entries.now c.args.carried.now c.args.numbers.now) c.args.seeds.now c.args.i c.if-n-ne0.false c.find.ensures c.in_default.field-0 c.in_default.is
 
 pub returns-in_default-free_slot : goal.returns-in_default-free_slot
-returns-in_default-free_slot c = create-full c.args.peers.now c.args.p c.requires.7 c.starts-n.ensures c.args.nodes.now c.args.handles.now c.args.charges.now (rings_of c.args.ends.now c.args.entries.now c.args.carried.now c.args.numbers.now) c.args.seeds.now c.args.i c.if-n-ne0.false c.find.ensures c.in-Nothing.is c.free_slot.ensures c.in_default-free_slot.is
+returns-in_default-free_slot c = create-full c.args.peers.now c.args.p c.requires.7 c.starts-n.ensures c.args.nodes.now c.args.handles.now c.args.charges.now (rings_of c.args.ends.now c.args.entries.now c.args.carried.now c.args.numbers.now) c.args.seeds.now c.args.i c.if-n-ne0.false c.find.ensures c.in-None.is c.free_slot.ensures c.in_default-free_slot.is
 
 pub returns : goal.returns
-returns c = create-granted c.args.peers.now c.args.p c.requires.7 c.starts-n.ensures c.args.nodes.now c.args.handles.now c.args.charges.now (rings_of c.args.ends.now c.args.entries.now c.args.carried.now c.args.numbers.now) c.args.seeds.now c.args.i c.if-n-ne0.false c.find.ensures c.in-Nothing.is c.free_slot.ensures c.in-At.s c.in-At.is
+returns c = create-granted c.args.peers.now c.args.p c.requires.7 c.starts-n.ensures c.args.nodes.now c.args.handles.now c.args.charges.now (rings_of c.args.ends.now c.args.entries.now c.args.carried.now c.args.numbers.now) c.args.seeds.now c.args.i c.if-n-ne0.false c.find.ensures c.in-None.is c.free_slot.ensures c.in-Some.s c.in-Some.is

@@ -10,7 +10,7 @@ pub returns-in_default : goal.returns-in_default
 returns-in_default c = holders-missing c.args.peers.now c.args.p c.requires.2 c.standing-n.ensures c.args.handles.now c.args.i c.if-n-ne0.false c.find.ensures c.in_default.is
 
 pub returns-then-s-p : goal.returns-then-s-p
-returns-then-s-p c = holders-foreign c.args.peers.now c.args.p c.requires.2 c.standing-n.ensures c.args.handles.now c.args.i c.if-n-ne0.false c.find.ensures c.in-At.s c.in-At.is c.if-s-p.true
+returns-then-s-p c = holders-foreign c.args.peers.now c.args.p c.requires.2 c.standing-n.ensures c.args.handles.now c.args.i c.if-n-ne0.false c.find.ensures c.in-Some.s c.in-Some.is c.if-s-p.true
 
 pub returns : goal.returns
-returns c = holders-granted c.args.peers.now c.args.p c.requires.2 c.standing-n.ensures c.args.handles.now c.args.i c.if-n-ne0.false c.find.ensures c.in-At.s c.in-At.is c.if-s-p.false
+returns c = holders-granted c.args.peers.now c.args.p c.requires.2 c.standing-n.ensures c.args.handles.now c.args.i c.if-n-ne0.false c.find.ensures c.in-Some.s c.in-Some.is c.if-s-p.false

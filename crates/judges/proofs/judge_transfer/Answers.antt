@@ -14,10 +14,10 @@ pub returns-in_default : goal.returns-in_default
 returns-in_default c = transfer-missing c.args.peers.now c.args.p c.requires.3 c.starts-n.ensures c.args.nodes.now c.args.handles.now c.args.i c.args.q c.requires.4 c.if-n-ne0.false c.standing-m.ensures c.if-m-ne0.false c.find.ensures c.in_default.is
 
 pub is_live-requires : goal.is_live-requires
-is_live-requires c = (c.requires.1, (found c.args.handles.now c.args.p.0 c.requires.3 c.args.i.0 c.find.ensures c.in-At.s c.in-At.is).1)
+is_live-requires c = (c.requires.1, (found c.args.handles.now c.args.p.0 c.requires.3 c.args.i.0 c.find.ensures c.in-Some.s c.in-Some.is).1)
 
 pub returns-then-not-is_live : goal.returns-then-not-is_live
-returns-then-not-is_live c = transfer-dead c.args.peers.now c.args.p c.requires.3 c.starts-n.ensures c.args.nodes.now c.args.handles.now c.args.i c.args.q c.requires.4 c.if-n-ne0.false c.standing-m.ensures c.if-m-ne0.false c.find.ensures c.in-At.s c.in-At.is c.is_live.ensures c.if-not-is_live.true
+returns-then-not-is_live c = transfer-dead c.args.peers.now c.args.p c.requires.3 c.starts-n.ensures c.args.nodes.now c.args.handles.now c.args.i c.args.q c.requires.4 c.if-n-ne0.false c.standing-m.ensures c.if-m-ne0.false c.find.ensures c.in-Some.s c.in-Some.is c.is_live.ensures c.if-not-is_live.true
 
 pub returns : goal.returns
-returns c = transfer-granted c.args.peers.now c.args.p c.requires.3 c.starts-n.ensures c.args.nodes.now c.args.handles.now c.args.i c.args.q c.requires.4 c.if-n-ne0.false c.standing-m.ensures c.if-m-ne0.false c.find.ensures c.in-At.s c.in-At.is c.is_live.ensures c.if-not-is_live.false
+returns c = transfer-granted c.args.peers.now c.args.p c.requires.3 c.starts-n.ensures c.args.nodes.now c.args.handles.now c.args.i c.args.q c.requires.4 c.if-n-ne0.false c.standing-m.ensures c.if-m-ne0.false c.find.ensures c.in-Some.s c.in-Some.is c.is_live.ensures c.if-not-is_live.false

@@ -7,7 +7,7 @@ pub returns-in_default : goal.returns-in_default
 returns-in_default c = lower-first _ _ _ _ c.in_default.is
 
 pub returns-then-id-least : goal.returns-then-id-least
-returns-then-id-least c = lower-new _ _ _ _ c.in-At.is c.id_of-least.ensures c.id_of-id.ensures c.if-id-least.true
+returns-then-id-least c = lower-new _ _ _ _ c.in-Some.is c.id_of-least.ensures c.id_of-id.ensures c.if-id-least.true
 
 pub returns : goal.returns
-returns c = lower-old _ _ _ _ c.in-At.is c.id_of-least.ensures c.id_of-id.ensures c.if-id-least.false
+returns c = lower-old _ _ _ _ c.in-Some.is c.id_of-least.ensures c.id_of-id.ensures c.if-id-least.false

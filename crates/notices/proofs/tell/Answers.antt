@@ -24,7 +24,7 @@ pub set_of-rest-requires : goal.set_of-rest-requires
 set_of-rest-requires c = (c.requires.0, c.requires.1, c.requires.3, tt)
 
 pub loop-k-preserved : goal.loop-k-preserved
-loop-k-preserved c = telling-next c.args.nodes.now c.args.handles.now _ c.args.q.0 c.args.kind c.args.n (rings_of c.args.ends.now c.args.entries.now c.args.carried.now c.args.numbers.now) c.args.set c.loop-k.invariant c.least_id.ensures c.loop-k-test.true c.in-At.is refl c.notice-e.ensures c.post.ensures c.set_of-rest.ensures
+loop-k-preserved c = telling-next c.args.nodes.now c.args.handles.now _ c.args.q.0 c.args.kind c.args.n (rings_of c.args.ends.now c.args.entries.now c.args.carried.now c.args.numbers.now) c.args.set c.loop-k.invariant c.least_id.ensures c.loop-k-test.true c.in-Some.is refl c.notice-e.ensures c.post.ensures c.set_of-rest.ensures
 
 pub returns : goal.returns
 returns c = telling-all c.args.nodes.now c.args.handles.now _ c.args.q.0 c.args.kind c.args.n (rings_of c.args.ends.now c.args.entries.now c.args.carried.now c.args.numbers.now) c.args.set c.loop-k.invariant c.loop-k-test.false
