@@ -7,7 +7,6 @@ use Rattle.std.proofs.Math.Path.{refl, sym}
 use Rattle.std.proofs.Common.{ap, ◌∙◌, add-one, arith, length-append, length-drop, take-suc, length-take-le, get_or-take, get_or-drop, ext_get_or}
 use Rattle.std.proofs.Math.ListN.{length, length-take}
 use Rattle.std.proofs.lemmas.List.Edits.{sets}
-use Rattle.std.proofs.Math.Seq.{take-length}
 use borrow.Author.Count.{below_more}
 use borrow.Author.Tests.{ltb-true, ltb-false, eqb-true, eq-eqb, ne_eqb, lt-ltb, le-ltb, leb-true, le-leb, not-false}
 use Rattle.laws.specs.Tests.{pick, pick-cases, Seen, Seen.is_true, Seen.is_false, look, clash, pick-then}
@@ -228,9 +227,6 @@ unfolding digits_of
 put_next o l a at k x y h e ex ey =
     let z : length (digits_of (take k a)) ≡ 2 * k = digits-length (take k a) ∙ rw length-take (omega arith) in
     rw (add-one k, take-suc a k 0, digits_append (take k a) (get_or a k 0 ∷ []), sets-append o at (digits_of (take k a)) (digits_of (get_or a k 0 ∷ [])), z, ← e, add-one (at + 2 * k), ex, ey)
-
-pub put_whole : (o l a : List ℕ) (at k : ℕ) → k ≡ length a → l ≡ sets o at (digits_of (take k a)) → l ≡ sets o at (digits_of a)
-put_whole o l a at k h e = e ∙ ap (λ (x : List ℕ). sets o at (digits_of x)) (rw h (take-length a))
 
 -- the LF behind them
 pub put-lf : (o l a : List ℕ) (at : ℕ) → l ≡ sets o at (digits_of a) → set l (at + 2 * length a) lf ≡ sets o at (answer_line a)

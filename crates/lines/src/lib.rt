@@ -24,10 +24,11 @@ pub enum LineRead {
     Piece(usize),
 }
 
+// Joined by `|` and not in one pattern: so eight of them take no jump.
 fn is_digit(c: u8) -> bool
     ensures { result ≡ is_digit c }
 {
-    matches!(c, b'0'..=b'9' | b'a'..=b'f')
+    c.is_ascii_digit() | matches!(c, b'a'..=b'f')
 }
 
 fn digit_value(c: u8) -> u8
@@ -44,7 +45,7 @@ fn digit_of(v: u8) -> u8
     if v < 10 { b'0' + v } else { b'a' + (v - 10) }
 }
 
-// Are all eight digits? Without a jump for each.
+// Are all eight digits? All are tested, so that the eight take one jump.
 fn are_digits(eight: &[u8; 8]) -> bool
     ensures { result ≡ digits_from eight.now 0 8 }
 {
