@@ -2,7 +2,7 @@
 
 #![tactic(auto)]
 
-ghost use Rattle.std.specs.Prelude.{◌≡◌, ◌-◌, ◌≤◌, min, length, take, drop, leb};
+ghost use Rattle.std.specs.Prelude.{◌≡◌, min, take, drop, leb};
 ghost use Rattle.std.proofs.lemmas.List.Edits.{sets};
 ghost use Rattle.laws.specs.Tests.{pick};
 
@@ -10,29 +10,16 @@ ghost use Rattle.laws.specs.Tests.{pick};
 pub fn least(a: usize, b: usize) -> usize
     ensures { result ≡ min a b }
 {
-    if a < b { a } else { b }
-}
-
-// As many as asked for, at most those from a place up to the length.
-fn fitting(n: usize, from: usize, length: usize) -> usize
-    ensures { result ≡ min n (length - from) }
-{
-    if length <= from {
-        return 0;
-    }
-    least(n, length - from)
+    a.min(b)
 }
 
 // Copies the bytes into the buffer from `at` on.
 pub fn put(out: &mut [u8], at: usize, bytes: &[u8])
     ensures { out.new ≡ sets out.old at bytes.now }
 {
-    let n = fitting(bytes.len(), at, out.len());
-    let mut k = 0;
-    while k < n {
-        out[at + k] = bytes[k];
-        k += 1;
-    }
+    let start = at.min(out.len());
+    let n = bytes.len().min(out.len() - start);
+    out[start..start + n].copy_from_slice(&bytes[..n]);
 }
 
 // Moves the n bytes from `from` on down to `to`; where `to` is above `from`, nothing.
@@ -40,13 +27,9 @@ pub fn down(buf: &mut [u8], to: usize, from: usize, n: usize)
     ensures { buf.new
         ≡ pick (leb to from) (sets buf.old to (take n (drop from buf.old))) buf.old }
 {
-    if from < to {
+    if from < to || buf.len() <= from {
         return;
     }
-    let m = fitting(n, from, buf.len());
-    let mut i = 0;
-    while i < m {
-        buf[to + i] = buf[from + i];
-        i += 1;
-    }
+    let end = from + n.min(buf.len() - from);
+    buf.copy_within(from..end, to);
 }

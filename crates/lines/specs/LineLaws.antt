@@ -1,14 +1,14 @@
 -- Laws of lines: what the code's loops add up to, and the first line of an input by its fault's place.
 -- Assumes nothing.
 use Prim.Native.Nat.{ℕ, zero, suc, ◌+◌, ◌*◌, ◌-◌, ◌/◌, ◌%◌, ◌≤◌, ◌<◌, min}
-use Rattle.std.specs.Prelude.{◌≡◌, Bool, true, false, not, ◌&&◌, List, [], ◌∷◌, ◌++◌, get_or, set, take, drop, eqb, ltb, leb}
+use Rattle.std.specs.Prelude.{◌≡◌, Bool, true, false, not, ◌&&◌, List, [], ◌∷◌, ◌++◌, get_or, set, take, drop, eqb, ltb, leb, Some, None}
+use Rattle.std.specs.Simd.{first_chunks}
 use Rattle.std.proofs.Math.Path.{refl, sym}
-use Rattle.std.proofs.Common.{ap, ◌∙◌, add-one, arith, length-append, length-drop, drop_of_length-le, take-suc, length-take-le, get_or-take, get_or-drop, ext_get_or}
+use Rattle.std.proofs.Common.{ap, ◌∙◌, add-one, arith, length-append, length-drop, take-suc, length-take-le, get_or-take, get_or-drop, ext_get_or}
 use Rattle.std.proofs.Math.ListN.{length, length-take}
 use Rattle.std.proofs.lemmas.List.Edits.{sets}
-use Rattle.std.proofs.Math.Seq.{take-length}
 use borrow.Author.Count.{below_more}
-use borrow.Author.Tests.{ltb-true, ltb-false, eqb-true, eq-eqb, ne_eqb, lt-ltb, le-ltb, leb-true, leb-false, le-leb, lt-leb, not-false}
+use borrow.Author.Tests.{ltb-true, ltb-false, eqb-true, eq-eqb, ne_eqb, lt-ltb, le-ltb, leb-true, le-leb, not-false}
 use Rattle.laws.specs.Tests.{pick, pick-cases, Seen, Seen.is_true, Seen.is_false, look, clash, pick-then}
 use Rattle.laws.specs.Search.{first, first-le, first_found, first-before, first-is, first-from}
 use Rattle.laws.specs.Build.{build, build-length, build-store}
@@ -16,7 +16,6 @@ use Rattle.laws.specs.Stores.{sets-append, over}
 use Rattle.lines.specs.Line.{lf, most_digits, most_carried, is_digit, digits_from, fault_place, line_length, digit_value, pair_at, line_read, read_line, after_read, frame_after, digit_of, digits_of, answer_line, room_for, line_written, lines_after, carried_of}
 use Rattle.lines.specs.declared.LineRead.{LineRead}
 use Rattle.lines.specs.declared.LineRead.TheVariants.{Frame, Bad, Piece}
-use Rattle.lines.specs.declared.Written.TheVariants.{Next, Full}
 
 -- a character that is no digit
 abbrev pub bad_at : List ℕ → ℕ → Bool
@@ -56,9 +55,6 @@ module _ (l : List ℕ) (i : ℕ) where
   unfolding digits_from
   from_next k e f = rw (add-one, e, f)
 
-  pub from_all : (k : ℕ) {a : Bool} → a ≡ digits_from l i k → k ≡ 8 → a ≡ digits_from l i 8
-  from_all k e f = rw (← f) e
-
   from_at : (n : ℕ) → digits_from l i n ≡ true → (j : ℕ) → j < n → is_digit (get_or l (i + j) 0) ≡ true
   unfolding digits_from
   from_at zero e = λ j h. absurd (omega arith)
@@ -66,25 +62,71 @@ module _ (l : List ℕ) (i : ℕ) where
       let p = both_true (digits_from l i n) (is_digit (get_or l (i + n) 0)) e in
       λ j h. below_more (λ j. is_digit (get_or l (i + j) 0) ≡ true) n (from_at n p.0) p.1 j (omega arith)
 
-  pub ahead-next : ((j : ℕ) → j < i → is_digit (get_or l j 0) ≡ true) → digits_from l i 8 ≡ true → (j : ℕ) → j < i + 8 → is_digit (get_or l j 0) ≡ true
-  ahead-next before e j h = go (look (ltb j i))
-    where
-      go : Seen (ltb j i) → is_digit (get_or l j 0) ≡ true
-      go (is_true f) = before j (ltb-true j i f)
-      go (is_false f) =
-          let m : i ≤ j = ltb-false j i f in
-          let k : i + (j - i) ≡ j = omega arith in
-          rw k at (from_at 8 e (j - i) (omega arith))
+-- digits in eights are digits
+pub eights-digits : (q k : ℕ) (s : List ℕ) → q * 8 ≤ length s → k ≤ q → ((j : ℕ) → j < k → digits_from (get_or (first_chunks 8 q s) j []) 0 8 ≡ true) →
+    (j : ℕ) → j < 8 * k → is_digit (get_or s j 0) ≡ true
+eights-digits zero k s l h e j i = absurd (omega arith)
+eights-digits (suc q) zero s l h e j i = absurd (omega arith)
+eights-digits (suc q) (suc k) s l h e j i = go (eights-digits q k (drop 8 s) (rw length-drop (omega arith)) (omega arith) (λ n o. e (suc n) (omega arith)) (j - 8)) (look (ltb j 8))
+  where
+    go : (j - 8 < 8 * k → is_digit (get_or (drop 8 s) (j - 8) 0) ≡ true) → Seen (ltb j 8) → is_digit (get_or s j 0) ≡ true
+    go rest (is_true f) =
+        let m = ltb-true j 8 f in
+        let z : 0 + j ≡ j = omega arith in
+        ap is_digit (sym (ap (λ (n : ℕ). get_or (take 8 s) n 0) z ∙ get_or-take 8 s j 0 m)) ∙ from_at (take 8 s) 0 8 (e 0 (omega arith)) j m
+    go rest (is_false f) =
+        let m : 8 ≤ j = ltb-false j 8 f in
+        let p : 8 + (j - 8) ≡ j = omega arith in
+        ap is_digit (sym (get_or-drop 8 s (j - 8) 0 ∙ ap (λ (n : ℕ). get_or s n 0) p)) ∙ rest (omega arith)
 
--- the search for an LF from a place on
-pub end_is : (s : List ℕ) (at i : ℕ) → at ≤ i → i ≤ length s → ((k : ℕ) → k < i → at ≤ k → lf_at s k ≡ false) → (i < length s → lf_at s i ≡ true) →
-    i ≡ at + first (λ j. lf_at s (at + j)) (length s - at)
-end_is s at i h l before here =
-    let e : at + (i - at) ≡ i = omega arith in
-    let q : i - at ≡ first (λ j. lf_at s (at + j)) (length s - at) =
-    first-is (λ j. lf_at s (at + j)) (length s - at) (i - at) (omega arith) (λ j m. before (at + j) (omega arith) (omega arith))
-    (λ m. ap (lf_at s) e ∙ here (omega arith)) in
-    sym e ∙ ap (◌+◌ at) q
+-- the part of s from a place on
+module _ (s : List ℕ) (at : ℕ) where
+  abbrev part : List ℕ
+  part = take (length s - at) (drop at s)
+
+  pub part-length : length part ≡ length s - at
+  part-length = length-take-le (length s - at) (drop at s) (rw length-drop (omega arith))
+
+  part-at : (j : ℕ) → j < length s - at → get_or part j 0 ≡ get_or s (at + j) 0
+  part-at j h = get_or-take (length s - at) (drop at s) j 0 h ∙ get_or-drop at s j 0
+
+  -- the search for an LF in it
+  pub end-is : (k : ℕ) → k ≤ length part → ((j : ℕ) → j < k → get_or part j 0 ≡ lf → ⊥) → (k < length part → get_or part k 0 ≡ lf) →
+      at + k ≡ at + first (λ j. lf_at s (at + j)) (length s - at)
+  end-is k h before here =
+      let l = part-length in
+      ap (◌+◌ at) (first-is (λ j. lf_at s (at + j)) (length s - at) k (omega (arith, l))
+      (λ j m. ne_eqb (get_or s (at + j) 0) lf (λ e. before j m (part-at j (omega (arith, l)) ∙ e)))
+      (λ m. eq-eqb (get_or s (at + k) 0) lf (sym (part-at k m) ∙ here (omega (arith, l)))))
+
+-- the search for a character that is no digit in the first characters of s, from a place on before which all are digits
+module _ (s : List ℕ) (m a : ℕ) (e : m ≡ min (length s) most_digits) (within : a ≤ length (take m s)) (before : (j : ℕ) → j < a → is_digit (get_or (take m s) j 0) ≡ true) where
+  pub fault-from : (k : ℕ) → k ≤ length (part (take m s) a) → ((j : ℕ) → j < k → is_digit (get_or (part (take m s) a) j 0) ≡ true) →
+      (k < length (part (take m s) a) → is_digit (get_or (part (take m s) a) k 0) ≡ false) → a + k ≡ fault_place s
+  fault-from k h behind here =
+      fault-is s m (a + k) (omega (arith, e)) (omega (arith, l, w)) (λ j i. ap not (digit j i))
+      (λ i. ap not (ap is_digit (sym (at-place k (omega arith))) ∙ here (omega (arith, l, w))))
+    where
+      w : length (take m s) ≡ m
+      w = length-take-le m s (omega (arith, e))
+
+      l : length (part (take m s) a) ≡ length (take m s) - a
+      l = part-length (take m s) a
+
+      at-place : (j : ℕ) → a + j < m → get_or (part (take m s) a) j 0 ≡ get_or s (a + j) 0
+      at-place j i = part-at (take m s) a j (omega (arith, w)) ∙ get_or-take m s (a + j) 0 i
+
+      digit : (j : ℕ) → j < a + k → is_digit (get_or s j 0) ≡ true
+      digit j i = go (look (ltb j a))
+        where
+          go : Seen (ltb j a) → is_digit (get_or s j 0) ≡ true
+          go (is_true f) =
+              let n : j < a = ltb-true j a f in
+              ap is_digit (sym (get_or-take m s j 0 (omega (arith, w)))) ∙ before j n
+          go (is_false f) =
+              let n : a ≤ j = ltb-false j a f in
+              let p : a + (j - a) ≡ j = omega arith in
+              ap is_digit (sym (at-place (j - a) (omega (arith, l, w)) ∙ ap (λ (i : ℕ). get_or s i 0) p)) ∙ behind (j - a) (omega arith)
 
 -- an LF is no digit
 pub lf-bad : (s : List ℕ) (j : ℕ) → lf_at s j ≡ true → bad_at s j ≡ true
@@ -186,15 +228,12 @@ put_next o l a at k x y h e ex ey =
     let z : length (digits_of (take k a)) ≡ 2 * k = digits-length (take k a) ∙ rw length-take (omega arith) in
     rw (add-one k, take-suc a k 0, digits_append (take k a) (get_or a k 0 ∷ []), sets-append o at (digits_of (take k a)) (digits_of (get_or a k 0 ∷ [])), z, ← e, add-one (at + 2 * k), ex, ey)
 
-pub put_whole : (o l a : List ℕ) (at k : ℕ) → k ≡ length a → l ≡ sets o at (digits_of (take k a)) → l ≡ sets o at (digits_of a)
-put_whole o l a at k h e = e ∙ ap (λ (x : List ℕ). sets o at (digits_of x)) (rw h (take-length a))
-
 -- the LF behind them
 pub put-lf : (o l a : List ℕ) (at : ℕ) → l ≡ sets o at (digits_of a) → set l (at + 2 * length a) lf ≡ sets o at (answer_line a)
 put-lf o l a at e = rw (sets-append o at (digits_of a) (lf ∷ []), digits-length, ← e)
 
 -- characters moved to the front
-pub moved_front : (b : List ℕ) (at n : ℕ) → at + n ≤ length b → sets b 0 (take n (drop at b)) ≡ take n (drop at b) ++ drop n b
+pub moved_front : (b : List ℕ) (at n : ℕ) → n ≤ length b - at → sets b 0 (take n (drop at b)) ≡ take n (drop at b) ++ drop n b
 moved_front b at n h =
     let e : length (take n (drop at b)) ≡ n = length-take-le n (drop at b) (rw length-drop (omega arith)) in
     over (take n (drop at b)) b (rw e (omega arith)) ∙ ap (λ (k : ℕ). take n (drop at b) ++ drop k b) e
@@ -203,13 +242,7 @@ pub decode-next : (s b l : List ℕ) (k v w : ℕ) → k < length b → l ≡ bu
     set l k (16 * v + w) ≡ build (pair_at s) (k + 1) ++ drop (k + 1) b
 decode-next s b l k v w h e ev ew = rw (e, ev, ew, add-one k) (build-store (pair_at s) k b h)
 
--- the test for a digit, by the side of it that is tested, and what it says of a character
-pub test_low : (c : ℕ) → c < 58 → leb 48 c ≡ is_digit c
-test_low c h = rw (lt-ltb c 58 h)
-
-pub test-high : (c : ℕ) → 58 ≤ c → c < 103 → leb 97 c ≡ is_digit c
-test-high c h k = rw (le-ltb c 58 h, lt-ltb c 103 k)
-
+-- what the test for a digit says of a character, by the side of it
 pub digit_low : (c : ℕ) → is_digit c ≡ true → c < 58 → 48 ≤ c
 digit_low c d h = leb-true 48 c (rw (lt-ltb c 58 h) at d)
 
@@ -221,42 +254,24 @@ digit-high c d h =
 pub value_low : (c : ℕ) → is_digit c ≡ true → c < 58 → (c - 48 ≡ digit_value c) × (c - 48 < 16)
 value_low c d h = (rw (lt-ltb c 58 h), omega arith)
 
--- room for a line, tested without a sum that may not fit
-pub room-same : (n at m : ℕ) → at < n → leb m ((n - at - 1) / 2) ≡ leb (at + (2 * m + 1)) n
-room-same n at m h = go (look (leb m ((n - at - 1) / 2)))
-  where
-    go : Seen (leb m ((n - at - 1) / 2)) → leb m ((n - at - 1) / 2) ≡ leb (at + (2 * m + 1)) n
-    go (is_true e) = let l = leb-true m ((n - at - 1) / 2) e in e ∙ sym (le-leb (at + (2 * m + 1)) n (omega arith))
-    go (is_false e) = let l = leb-false m ((n - at - 1) / 2) e in e ∙ sym (lt-leb (at + (2 * m + 1)) n (omega arith))
-
-pub write-full : (o a : List ℕ) (at : ℕ) {r : Bool} → r ≡ room_for o at a → r ≡ false → (Full ≡ line_written o at a) × (o ≡ lines_after o at a)
+-- a line written, or no room for it
+pub write-full : (o a : List ℕ) (at : ℕ) {r : Bool} → r ≡ room_for o at a → r ≡ false → (None ≡ line_written o at a) × (o ≡ lines_after o at a)
 unfolding line_written lines_after
 write-full o a at e f = let z : room_for o at a ≡ false = sym e ∙ f in (rw z, rw z)
 
 pub write-next : (o l a : List ℕ) (at : ℕ) {r : Bool} → r ≡ room_for o at a → r ≡ true → l ≡ sets o at (digits_of a) →
-    (Next (at + 2 * length a + 1) ≡ line_written o at a) × (set l (at + 2 * length a) lf ≡ lines_after o at a)
+    (Some (at + 2 * length a + 1) ≡ line_written o at a) × (set l (at + 2 * length a) lf ≡ lines_after o at a)
 unfolding line_written lines_after
 write-next o l a at e f h =
     let z : room_for o at a ≡ true = sym e ∙ f in
     let k : at + 2 * length a + 1 ≡ at + (2 * length a + 1) = omega arith in
     (rw (z, k), rw z (put-lf o l a at h))
 
-pub room-length : (o a : List ℕ) (at : ℕ) {r : Bool} → r ≡ room_for o at a → r ≡ true → at + (2 * length a + 1) ≤ length o
-room-length o a at e f = leb-true (at + (2 * length a + 1)) (length o) (sym e ∙ f)
-
 -- what is carried over
-pub carry-none : (b : List ℕ) (at end : ℕ) {e : ℕ} → e ≡ min end (length b) → e ≤ at →
-    (0 ≡ length (carried_of b at end)) × (b ≡ carried_of b at end ++ drop (length (carried_of b at end)) b)
-unfolding carried_of
-carry-none b at end q h =
-    let n : length (take end b) ≤ at = rw length-take (omega arith) in
-    let z : drop at (take end b) ≡ [] = drop_of_length-le (take end b) n in
-    (rw z, rw z)
-
-pub carry-some : (b l : List ℕ) (at end : ℕ) {e n : ℕ} → e ≡ min end (length b) → at < e → n ≡ min most_carried (e - at) → l ≡ pick (leb 0 at) (sets b 0 (take n (drop at b))) b →
+pub carry-all : (b l : List ℕ) (at end : ℕ) {n : ℕ} → n ≡ min (min end (length b) - at) most_carried → l ≡ pick (leb 0 at) (sets b 0 (take n (drop at b))) b →
     (n ≡ length (carried_of b at end)) × (l ≡ carried_of b at end ++ drop (length (carried_of b at end)) b)
 unfolding carried_of
-carry-some b l at end {e} {n} q h m k = (sym size, rw (size, same) (k ∙ below ∙ moved_front b at n (omega arith)))
+carry-all b l at end {n} m k = (sym size, rw (size, same) (k ∙ below ∙ moved_front b at n (omega arith)))
   where
     below : pick (leb 0 at) (sets b 0 (take n (drop at b))) b ≡ sets b 0 (take n (drop at b))
     below = rw (le-leb 0 at (omega arith))

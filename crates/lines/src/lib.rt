@@ -9,7 +9,7 @@ ghost use Rattle.laws.specs.Build.{build};
 ghost use Rattle.laws.specs.Search.{first};
 ghost use Rattle.lines.specs.Line.{lf, is_digit, digits_from, digit_value, fault_place, pair_at, read_line, frame_after, digit_of, digits_of, line_written, lines_after, carried_of};
 
-const LF: u8 = 10;
+const LF: u8 = b'\n';
 
 const MOST_DIGITS: usize = 1292;
 
@@ -24,81 +24,59 @@ pub enum LineRead {
     Piece(usize),
 }
 
-// Where the next answer line goes, or that the buffer had no room for this one.
-#[derive(Clone, Copy)]
-pub enum Written {
-    Next(usize),
-    Full,
-}
-
+// Joined by `|` and not in one pattern: so eight of them take no jump.
 fn is_digit(c: u8) -> bool
     ensures { result ≡ is_digit c }
 {
-    if c < 58 {
-        return 48 <= c;
-    }
-    if c < 103 {
-        return 97 <= c;
-    }
-    false
+    c.is_ascii_digit() | matches!(c, b'a'..=b'f')
 }
 
 fn digit_value(c: u8) -> u8
     requires { is_digit c ≡ true }
     ensures { (result ≡ digit_value c) × (result < 16) }
 {
-    if c < 58 { c - 48 } else { c - 87 }
+    if c <= b'9' { c - b'0' } else { c - b'a' + 10 }
 }
 
 fn digit_of(v: u8) -> u8
     requires { v < 16 }
     ensures { result ≡ digit_of v }
 {
-    if v < 10 { 48 + v } else { 87 + v }
+    if v < 10 { b'0' + v } else { b'a' + (v - 10) }
 }
 
-// Are the eight characters from i on digits?
-fn eight_digits(s: &[u8], i: usize) -> bool
-    requires { i + 8 ≤ length s.now }
-    ensures { result ≡ digits_from s.now i 8 }
+// Are all eight digits? All are tested, so that the eight take one jump.
+fn are_digits(eight: &[u8; 8]) -> bool
+    ensures { result ≡ digits_from eight.now 0 8 }
 {
     let mut all = true;
-    let mut k = 0;
-    while k < 8 {
-        all = all & is_digit(s[i + k]);
-        k += 1;
+    for &c in eight {
+        all &= is_digit(c);
     }
     all
 }
 
-// A place of the first n before which all are digits: as many eights as there are.
-fn digits_ahead(s: &[u8], n: usize) -> usize
-    requires { n ≤ length s.now }
-    ensures { (result ≤ n) × ((j : ℕ) → j < result → is_digit (get_or s.now j 0) ≡ true) }
+// A place before which all are digits: as many eights as there are.
+fn digits_ahead(s: &[u8]) -> usize
+    ensures { (result ≤ length s.now) × ((j : ℕ) → j < result → is_digit (get_or s.now j 0) ≡ true) }
 {
-    let mut i = 0;
-    while 8 <= n - i {
-        if !eight_digits(s, i) {
-            return i;
-        }
-        i += 8;
-    }
-    i
+    let (eights, _) = s.as_chunks::<8>();
+    8 * eights
+        .iter()
+        .position(|e| !are_digits(e))
+        .unwrap_or(eights.len())
 }
 
 // The place of the first character that is no digit, of the first 1,292.
 fn fault_place(s: &[u8]) -> usize
     ensures { result ≡ fault_place s.now }
 {
-    let n = copies::least(MOST_DIGITS, s.len());
-    let mut i = digits_ahead(s, n);
-    while i < n {
-        if !is_digit(s[i]) {
-            return i;
-        }
-        i += 1;
+    let front = &s[..s.len().min(MOST_DIGITS)];
+    let ahead = digits_ahead(front);
+    match front[ahead..].iter().position(|&c| !is_digit(c)) {
+        Some(k) => ahead + k,
+        None => front.len(),
     }
-    i
 }
 
 // The place of the first LF from `at` on, or the length.
@@ -106,24 +84,18 @@ fn line_end(s: &[u8], at: usize) -> usize
     requires { at ≤ length s.now }
     ensures { result ≡ at + first (λ j. eqb (get_or s.now (at + j) 0) lf) (length s.now - at) }
 {
-    let mut i = at;
-    while i < s.len() {
-        if s[i] == LF {
-            return i;
-        }
-        i += 1;
+    match s[at..].iter().position(|&c| c == LF) {
+        Some(k) => at + k,
+        None => s.len(),
     }
-    i
 }
 
 fn decode(s: &[u8], n: usize, frame: &mut [u8])
     requires { (2 * n ≤ length s.now) × (n ≤ length frame.old) × ((j : ℕ) → j < 2 * n → is_digit (get_or s.now j 0) ≡ true) }
     ensures { frame.new ≡ build (pair_at s.now) n ++ drop n frame.old }
 {
-    let mut k = 0;
-    while k < n {
+    for k in 0..n {
         frame[k] = 16 * digit_value(s[2 * k]) + digit_value(s[2 * k + 1]);
-        k += 1;
     }
 }
 
@@ -136,10 +108,7 @@ pub fn read_line(s: &[u8], frame: &mut [u8; 646]) -> LineRead
     if n == s.len() {
         return LineRead::Piece(d);
     }
-    if d != n {
-        return LineRead::Bad(d, n + 1);
-    }
-    if n % 2 != 0 {
+    if d != n || n % 2 != 0 {
         return LineRead::Bad(d, n + 1);
     }
     decode(s, n / 2, frame);
@@ -150,10 +119,7 @@ pub fn read_line(s: &[u8], frame: &mut [u8; 646]) -> LineRead
 fn has_room(n: usize, at: usize, m: usize) -> bool
     ensures { result ≡ leb (at + (2 * m + 1)) n }
 {
-    if n <= at {
-        return false;
-    }
-    m <= (n - at - 1) / 2
+    at < n && m <= (n - at - 1) / 2
 }
 
 // Writes the digits of each byte, from `at` on.
@@ -161,26 +127,24 @@ fn put_digits(out: &mut [u8], at: usize, bytes: &[u8])
     requires { at + 2 * length bytes.now ≤ length out.old }
     ensures { out.new ≡ sets out.old at (digits_of bytes.now) }
 {
-    let mut k = 0;
-    while k < bytes.len() {
-        let b = bytes[k];
+    for (k, b) in bytes.iter().enumerate() {
         out[at + 2 * k] = digit_of(b / 16);
         out[at + 2 * k + 1] = digit_of(b % 16);
-        k += 1;
     }
 }
 
-// Writes the line of an answer into the buffer from `at` on, whole or not at all.
-pub fn write_line(out: &mut [u8], at: usize, answer: &[u8]) -> Written
+// Writes the line of an answer into the buffer from `at` on, whole or not at all. Where the next answer line goes, or none
+// where the buffer had no room for this one.
+pub fn write_line(out: &mut [u8], at: usize, answer: &[u8]) -> Option<usize>
     ensures { (result ≡ line_written out.old at answer.now) × (out.new ≡ lines_after out.old at answer.now) }
 {
     if !has_room(out.len(), at, answer.len()) {
-        return Written::Full;
+        return None;
     }
     put_digits(out, at, answer);
     let end = at + 2 * answer.len();
     out[end] = LF;
-    Written::Next(end + 1)
+    Some(end + 1)
 }
 
 // Moves what is left of a chunk, from `at` up to `end`, to the front of the buffer, at most 1,293 characters of it, and
@@ -188,11 +152,7 @@ pub fn write_line(out: &mut [u8], at: usize, answer: &[u8]) -> Written
 pub fn carry_over(buf: &mut [u8], at: usize, end: usize) -> usize
     ensures { (result ≡ length (carried_of buf.old at end)) × (buf.new ≡ carried_of buf.old at end ++ drop (length (carried_of buf.old at end)) buf.old) }
 {
-    let e = copies::least(end, buf.len());
-    if e <= at {
-        return 0;
-    }
-    let n = copies::least(MOST_CARRIED, e - at);
+    let n = end.min(buf.len()).saturating_sub(at).min(MOST_CARRIED);
     copies::down(buf, 0, at, n);
     n
 }

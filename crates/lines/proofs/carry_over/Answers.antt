@@ -4,12 +4,7 @@ use Rattle.lines.specs.LineLaws as law
 use native.Mathlib.Omega.{arith}
 use Rattle.lines.proofs.carry_over.Goals as goal
 
-pub returns-then-e-at : goal.returns-then-e-at
-returns-then-e-at c =
-    let a = c.args in
-    law.carry-none a.buf.now a.at a.end c.least-e.ensures c.if-e-at.true
-
 pub returns : goal.returns
 returns c =
     let a = c.args in
-    law.carry-some a.buf.now _ a.at a.end c.least-e.ensures (omega arith) c.least-n.ensures c.down.ensures
+    law.carry-all a.buf.now _ a.at a.end (omega (arith, c.min-n.ensures, c.saturating_sub.ensures, c.min.ensures)) c.down.ensures

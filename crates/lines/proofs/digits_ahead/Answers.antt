@@ -1,13 +1,17 @@
--- `lines::digits_ahead` meets its contract: the loop keeps that every character before `i` is a digit. Assumes nothing.
-use mathlib.Core.Path.{sym, ◌∙◌}
-use native.Mathlib.Omega.{arith}
+-- `lines::digits_ahead` meets its contract: each eight before the first that is not all digits is. Assumes nothing.
+use Rattle.std.proofs.Common.{rules, ℕ, ◌≡◌, ◌<◌, ◌≤◌, ◌/◌, [], true, get_or, length, ap}
+use Rattle.std.specs.Simd.{first_chunks}
+use Rattle.lines.specs.Line.{digits_from}
 use Rattle.lines.specs.LineLaws as law
+use native.Mathlib.Omega.{arith}
 use Rattle.lines.proofs.digits_ahead.Goals as goal
 
-pub loop-i-init : goal.loop-i-init
-loop-i-init c = (omega arith, λ j h. absurd (omega arith))
-
-pub loop-i-preserved : goal.loop-i-preserved
-loop-i-preserved c =
-    let a = c.args in
-    (omega arith, law.ahead-next a.s.now _ c.loop-i.invariant.1 (sym c.eight_digits.ensures ∙ c.if-not-eight_digits.false))
+pub returns : goal.returns
+returns c =
+    let s = c.args.s.now in
+    let k = c.unwrap_or.result in
+    let e = first_chunks 8 (length s / 8) s in
+    let i : k ≤ length e = search rules in
+    let b : (j : ℕ) → j < k → digits_from (get_or e j []) 0 8 ≡ true = search rules in
+    let h : k ≤ length s / 8 = omega (arith, i, c.as_chunks.ensures.front_len, ap length c.as_chunks.ensures.front) in
+    (omega arith, law.eights-digits (length s / 8) k s (omega arith) h b)

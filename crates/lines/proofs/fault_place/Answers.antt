@@ -1,25 +1,28 @@
--- `lines::fault_place` meets its contract: the loop starts behind digits and keeps that every character before `i` is one; where it stops, `i` is the first place that is none, or the end of the first 1,292.
+-- `lines::fault_place` meets its contract: the search goes over the first 1,292 characters, from a place on before which all are digits.
 -- Assumes nothing.
-use mathlib.Core.Path.{sym, ap, ◌∙◌}
-use mathlib.Core.Bool.{not}
-use borrow.Author.Count.{below_more}
+use Rattle.std.proofs.Common.{rules, ℕ, ◌≡◌, ◌+◌, ◌<◌, ◌-◌, true, false, get_or, drop, take, length, ◌∙◌}
+use Rattle.lines.specs.Line.{is_digit}
 use Rattle.lines.specs.LineLaws as law
 use native.Mathlib.Omega.{arith}
 use Rattle.lines.proofs.fault_place.Goals as goal
 
-pub loop-i-init : goal.loop-i-init
-loop-i-init c = (omega (arith, c.digits_ahead-i.ensures.0), λ j h. ap not (c.digits_ahead-i.ensures.1 j h))
+pub returns-in-Some : goal.returns-in-Some
+returns-in-Some c =
+    let s = take c.min.result c.args.s.now in
+    let a = c.digits_ahead-ahead.result in
+    let k = c.in-Some.k in
+    let p = take (length s - a) (drop a s) in
+    let i : k < length p = search rules in
+    let h : is_digit (get_or p k 0) ≡ false = search rules in
+    let b : (j : ℕ) → j < k → is_digit (get_or p j 0) ≡ true = search rules in
+    law.fault-from c.args.s.now _ a c.min.ensures c.digits_ahead-ahead.ensures.0 c.digits_ahead-ahead.ensures.1 k (omega arith) b (λ _. h)
 
-pub returns-then-not-is_digit : goal.returns-then-not-is_digit
-returns-then-not-is_digit c =
-    let a = c.args in
-    law.fault-is a.s.now _ _ c.least-n.ensures (omega arith) c.loop-i.invariant.1 (λ h. ap not (sym c.is_digit.ensures) ∙ ap not c.if-not-is_digit.true)
-
-pub loop-i-preserved : goal.loop-i-preserved
-loop-i-preserved c =
-    (omega arith, below_more _ _ c.loop-i.invariant.1 (ap not (sym c.is_digit.ensures) ∙ ap not c.if-not-is_digit.false))
-
-pub returns : goal.returns
-returns c =
-    let a = c.args in
-    law.fault-is a.s.now _ _ c.least-n.ensures (omega arith) c.loop-i.invariant.1 (λ h. absurd (omega arith))
+pub returns-in-None : goal.returns-in-None
+returns-in-None c =
+    let s = take c.min.result c.args.s.now in
+    let a = c.digits_ahead-ahead.result in
+    let p = take (length s - a) (drop a s) in
+    let b : (j : ℕ) → j < length p → is_digit (get_or p j 0) ≡ true = search rules in
+    let d = c.digits_ahead-ahead.ensures in
+    let e : length s ≡ a + length p = omega (arith, law.part-length s a, d.0) in
+    e ∙ law.fault-from c.args.s.now _ a c.min.ensures d.0 d.1 (length p) (omega arith) b (λ h. absurd (omega arith))

@@ -1,24 +1,25 @@
--- `lines::line_end` meets its contract: the loop keeps that no character from `at` up to `i` is an LF; where it stops, `i` is the first that is one, or the length.
--- Assumes nothing.
-use borrow.Author.Count.{below_more}
-use borrow.Author.Tests.{eq-eqb, ne_eqb}
+-- `lines::line_end` meets its contract: the search goes over the part from `at` on. Assumes nothing.
+use Rattle.std.proofs.Common.{rules, ℕ, ◌≡◌, ◌≢◌, ◌+◌, ◌<◌, ◌-◌, get_or, drop, take, length, ◌∙◌}
+use Rattle.lines.specs.Line.{lf}
 use Rattle.lines.specs.LineLaws as law
 use native.Mathlib.Omega.{arith}
 use Rattle.lines.proofs.line_end.Goals as goal
 
-pub loop-i-init : goal.loop-i-init
-loop-i-init c = (omega arith, omega arith, λ k h g. absurd (omega arith))
+pub returns-in-Some : goal.returns-in-Some
+returns-in-Some c =
+    let s = c.args.s.now in
+    let a = c.args.at in
+    let k = c.in-Some.k in
+    let i : k < length (take (length s - a) (drop a s)) = search rules in
+    let h : get_or (take (length s - a) (drop a s)) k 0 ≡ lf = search rules in
+    let b : (j : ℕ) → j < k → get_or (take (length s - a) (drop a s)) j 0 ≢ lf = search rules in
+    law.end-is s a k (omega arith) b (λ _. h)
 
-pub returns-then-s-i-eq-LF : goal.returns-then-s-i-eq-LF
-returns-then-s-i-eq-LF c =
-    let a = c.args in
-    law.end_is a.s.now a.at _ (omega arith) (omega arith) c.loop-i.invariant.2 (λ h. eq-eqb _ _ c.if-s-i-eq-LF.true)
-
-pub loop-i-preserved : goal.loop-i-preserved
-loop-i-preserved c = (omega arith, omega arith, below_more _ _ c.loop-i.invariant.2 (λ h. ne_eqb _ _ c.if-s-i-eq-LF.false))
-
-pub returns : goal.returns
-returns c =
-    let a = c.args in
-    let l = c.loop-i in
-    law.end_is a.s.now a.at l.i (omega arith) (omega arith) l.invariant.2 (λ h. absurd (omega arith))
+pub returns-in-None : goal.returns-in-None
+returns-in-None c =
+    let s = c.args.s.now in
+    let a = c.args.at in
+    let p = take (length s - a) (drop a s) in
+    let b : (j : ℕ) → j < length p → get_or p j 0 ≢ lf = search rules in
+    let e : length s ≡ a + length p = omega (arith, law.part-length s a) in
+    e ∙ law.end-is s a (length p) (omega arith) b (λ h. absurd (omega arith))

@@ -3,6 +3,7 @@
 use Rattle.lines.specs.LineLaws as law
 use native.Mathlib.Omega.{arith}
 use Rattle.lines.proofs.read_line.Goals as goal
+use Rattle.lines.proofs.read_line.Goals.{then-d-n-via-then-d-n, then-d-n-via-else-d-n+then-n-ne0}
 
 pub line_end-n-requires : goal.line_end-n-requires
 line_end-n-requires c = omega (arith, law.fault-le c.args.s.now, c.fault_place-d.ensures)
@@ -17,24 +18,18 @@ overflow_add-result c =
 
 pub returns-then-d-n : goal.returns-then-d-n
 returns-then-d-n c =
-    law.read-bad c.args.s.now c.fault_place-d.ensures c.line_end-n.ensures _ c.if-n-s.false c.if-d-n.true
-
-pub overflow_add-result-then-n-ne0 : goal.overflow_add-result-then-n-ne0
-overflow_add-result-then-n-ne0 c =
-    omega (arith, law.line-found c.args.s.now c.fault_place-d.ensures c.line_end-n.ensures)
-
-pub returns-then-n-ne0 : goal.returns-then-n-ne0
-returns-then-n-ne0 c =
-    law.read-odd c.args.s.now c.fault_place-d.ensures c.line_end-n.ensures _ c.if-n-s.false c.if-d-n.false c.if-n-ne0.true
+    let s = c.args.s.now in
+    let d = c.fault_place-d.ensures in
+    let n = c.line_end-n.ensures in
+    elim c.then-d-n.branch [
+      | then-d-n-via-then-d-n w ↦ law.read-bad s d n _ c.if-n-s.false w.if-d-n.true
+      | then-d-n-via-else-d-n+then-n-ne0 w ↦ law.read-odd s d n _ c.if-n-s.false w.if-d-n.false w.if-n-ne0.true
+    ]
 
 pub decode-requires : goal.decode-requires
 decode-requires c =
     let f = law.line-found c.args.s.now c.fault_place-d.ensures c.line_end-n.ensures in
     (omega arith, omega arith, λ j h. law.digits-before c.args.s.now c.fault_place-d.ensures c.line_end-n.ensures j (omega arith))
-
-pub overflow_add-result-2 : goal.overflow_add-result-2
-overflow_add-result-2 c =
-    omega (arith, law.line-found c.args.s.now c.fault_place-d.ensures c.line_end-n.ensures)
 
 pub returns : goal.returns
 returns c =

@@ -1,33 +1,12 @@
 -- `lines::write_line` meets its contract: without room nothing is stored; with room the digits are, and the LF behind them.
 -- Assumes nothing.
 use Rattle.lines.specs.LineLaws as law
-use native.Mathlib.Omega.{arith}
 use Rattle.lines.proofs.write_line.Goals as goal
 
 pub returns-then-not-has_room : goal.returns-then-not-has_room
 returns-then-not-has_room c =
     let a = c.args in
     law.write-full a.out.now a.answer.now a.at c.has_room.ensures c.if-not-has_room.true
-
-pub put_digits-requires : goal.put_digits-requires
-put_digits-requires c =
-    let a = c.args in
-    omega (arith, law.room-length a.out.now a.answer.now a.at c.has_room.ensures c.if-not-has_room.false)
-
-pub overflow_add-end : goal.overflow_add-end
-overflow_add-end c =
-    let a = c.args in
-    omega (arith, law.room-length a.out.now a.answer.now a.at c.has_room.ensures c.if-not-has_room.false)
-
-pub bounds-out-end : goal.bounds-out-end
-bounds-out-end c =
-    let a = c.args in
-    omega (arith, c.put_digits.auto.out, law.room-length a.out.now a.answer.now a.at c.has_room.ensures c.if-not-has_room.false)
-
-pub overflow_add-result : goal.overflow_add-result
-overflow_add-result c =
-    let a = c.args in
-    omega (arith, law.room-length a.out.now a.answer.now a.at c.has_room.ensures c.if-not-has_room.false)
 
 pub returns : goal.returns
 returns c =
