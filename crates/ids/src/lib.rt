@@ -3,17 +3,49 @@
 
 #![tactic(auto)]
 
+ghost use Rattle.std.specs.Prelude.{◌≡◌};
+ghost use Rattle.ids.specs.Refusals.{refusal_number};
+
 // A peer, 0 to 7 on a bus: the place of its rows in a peer's table.
-#[derive(Clone, Copy)]
+#[derive(Clone, Copy, Debug, PartialEq, Eq, PartialOrd, Ord)]
 pub struct Peer(pub usize);
 
 // A user, 0 to 3: whom a charge is counted under.
-#[derive(Clone, Copy)]
+#[derive(Clone, Copy, Debug, PartialEq, Eq, PartialOrd, Ord)]
 pub struct User(pub usize);
 
 // A handle's ID, as one peer knows a node.
-#[derive(Clone, Copy)]
+#[derive(Clone, Copy, Debug, PartialEq, Eq, PartialOrd, Ord)]
 pub struct HandleId(pub u64);
+
+// A refusal of the table: its number is the answer's first byte.
+#[derive(Clone, Copy, Debug, PartialEq, Eq)]
+pub enum Refusal {
+    EPERM = 1,
+    EIO = 5,
+    ENXIO = 6,
+    EBADF = 9,
+    EAGAIN = 11,
+    EEXIST = 17,
+    EINVAL = 22,
+    ENOTTY = 25,
+    EFBIG = 27,
+    ENOSPC = 28,
+    ERANGE = 34,
+    EOVERFLOW = 75,
+    EMSGSIZE = 90,
+    ESHUTDOWN = 108,
+    EHOSTUNREACH = 113,
+    EDQUOT = 122,
+}
+
+impl From<Refusal> for u8 {
+    ghost from_gives = { λ r n. n ≡ refusal_number r };
+
+    fn from(refusal: Refusal) -> u8 {
+        refusal as u8
+    }
+}
 
 // The refusal numbers of document 01's table, and 27 of document 02; specs/Refusals.antt has the row of each.
 pub const EPERM: u8 = 1;
