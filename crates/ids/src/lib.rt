@@ -3,16 +3,47 @@
 
 #![tactic(auto)]
 
-ghost use Rattle.std.specs.Prelude.{◌≡◌};
+ghost use Rattle.std.specs.Prelude.{◌≡◌, ◌<◌, ◌≤◌, MatchResult};
 ghost use Rattle.ids.specs.Refusals.{refusal_number};
+ghost use Rattle.ids.specs.declared.Refusal.TheVariants.{EINVAL as einval};
 
 // A peer, 0 to 7 on a bus: the place of its rows in a peer's table.
 #[derive(Clone, Copy, Debug, PartialEq, Eq, PartialOrd, Ord)]
 pub struct Peer(pub usize);
 
+// The peer that a byte names: EINVAL past the last.
+impl TryFrom<u8> for Peer {
+    type Error = Refusal;
+
+    ghost try_from_gives = { λ x r. MatchResult r (λ y. (y.0 ≡ x) × (x ≤ 7)) (λ e. (e ≡ einval) × (7 < x)) };
+
+    fn try_from(byte: u8) -> Result<Peer, Refusal> {
+        let number = usize::from(byte);
+        if PEERS <= number {
+            return Err(Refusal::EINVAL);
+        }
+        Ok(Peer(number))
+    }
+}
+
 // A user, 0 to 3: whom a charge is counted under.
 #[derive(Clone, Copy, Debug, PartialEq, Eq, PartialOrd, Ord)]
 pub struct User(pub usize);
+
+// The user that a byte names: EINVAL past the last.
+impl TryFrom<u8> for User {
+    type Error = Refusal;
+
+    ghost try_from_gives = { λ x r. MatchResult r (λ y. (y.0 ≡ x) × (x ≤ 3)) (λ e. (e ≡ einval) × (3 < x)) };
+
+    fn try_from(byte: u8) -> Result<User, Refusal> {
+        let number = usize::from(byte);
+        if USERS <= number {
+            return Err(Refusal::EINVAL);
+        }
+        Ok(User(number))
+    }
+}
 
 // A handle's ID, as one peer knows a node.
 #[derive(Clone, Copy, Debug, PartialEq, Eq, PartialOrd, Ord)]
