@@ -1,33 +1,15 @@
--- `answers::put_id` meets its contract: eight stores are a run of the eight bytes. Assumes nothing.
+-- `answers::put_id` meets its contract: the eight bytes of the ID are written. Assumes nothing.
 use native.Mathlib.Omega.{arith}
-use mathlib.Core.Path.{refl}
-use lib.ListN.{length-set}
-use Rattle.answers.proofs.Laws.{eight-stores}
+use mathlib.Core.Path.{ap, ◌∙◌}
+use mathlib.Core.List.{List}
+use Prim.Native.Nat.{ℕ}
+use lib.ListN.{length}
+use lib.Seq.{sets}
+use Rattle.laws.specs.Bytes.{be-length}
+use Rattle.answers.proofs.Laws.{eight-bytes}
 use Rattle.answers.proofs.put_id.Goals as goal
 
-pub bounds-out-at-2 : goal.bounds-out-at-2
-bounds-out-at-2 c = simp length-set (omega arith)
-
-pub bounds-out-at-3 : goal.bounds-out-at-3
-bounds-out-at-3 c = simp length-set (omega arith)
-
-pub bounds-out-at-4 : goal.bounds-out-at-4
-bounds-out-at-4 c = simp length-set (omega arith)
-
-pub bounds-out-at-5 : goal.bounds-out-at-5
-bounds-out-at-5 c = simp length-set (omega arith)
-
-pub bounds-out-at-6 : goal.bounds-out-at-6
-bounds-out-at-6 c = simp length-set (omega arith)
-
-pub bounds-out-at-7 : goal.bounds-out-at-7
-bounds-out-at-7 c = simp length-set (omega arith)
-
-pub bounds-out-at-8 : goal.bounds-out-at-8
-bounds-out-at-8 c = simp length-set (omega arith)
-
-pub shape_of-out : goal.shape_of-out
-shape_of-out c = simp length-set
-
 pub returns : goal.returns
-returns c = (refl, eight-stores c.args.out.now c.args.at c.args.x)
+returns c =
+    let e = c.to_be_bytes.ensures ∙ eight-bytes c.args.x in
+    (omega (arith, c.put.ensures.0, ap (λ (l : List ℕ). length l) e, be-length 8 c.args.x), c.put.ensures.1 ∙ ap (sets c.args.out.now c.args.at) e)

@@ -4,15 +4,12 @@ use mathlib.Core.Path.{refl}
 use Rattle.laws.specs.Bytes.{be-length}
 use Rattle.answers.specs.Answer.{holder_bytes, contents_of}
 use Rattle.answers.specs.AnswerLaws.{balance-length}
+use mathlib.Core.List.{[]}
+use Rattle.answers.proofs.Laws.{shows-nothing}
 use Rattle.answers.proofs.put_plain.Goals as goal
 
 pub returns-in-Refused : goal.returns-in-Refused
-unfolding contents_of holder_bytes
-returns-in-Refused c = rw c.in-Refused.is (refl, refl)
-
-pub returns-in-Done : goal.returns-in-Done
-unfolding contents_of holder_bytes
-returns-in-Done c = rw c.in-Done.is (refl, refl)
+returns-in-Refused c = rw (shows-nothing c.args.a [] [] c.in-Refused.is) (refl, refl)
 
 pub returns-in-Transferred : goal.returns-in-Transferred
 unfolding contents_of holder_bytes
@@ -20,7 +17,7 @@ returns-in-Transferred c = rw c.in-Transferred.is (omega (arith, c.put_id.ensure
 
 pub returns-in-Received : goal.returns-in-Received
 unfolding contents_of holder_bytes
-returns-in-Received c = rw c.in-Received.is c.put_bare.ensures
+returns-in-Received c = rw c.in-Received.is c.put_received.ensures
 
 pub returns-in-Quota : goal.returns-in-Quota
 unfolding contents_of holder_bytes
