@@ -24,7 +24,7 @@ use Rattle.answers.specs.declared.Answer.{Answer}
 use Rattle.answers.specs.declared.Received.{Received}
 use Rattle.answers.specs.declared.Answer.TheVariants.{Refused, Done, Transferred, Received as received, Quota, Holders}
 use Rattle.answers.specs.declared.Outcome.{Outcome}
-use Rattle.answers.specs.AnswerLaws.{ids-length, ids-append, charge-length, header-length, message-length, contents-size}
+use Rattle.answers.specs.AnswerLaws.{ids-length, ids-append, charge-length, balance-length, notice-length, header-length, message-length, contents-size}
 use Rattle.answers.specs.Answer.{id_bytes, bit, header_bytes, message_bytes, charge_bytes, balance_bytes, number_of, contents_of, answer_bytes, answer_after, outcome_of, answer_size, most_ids, most_bytes}
 
 -- a part written at once is its bytes stored one after another
@@ -156,3 +156,10 @@ module _ (o : List ℕ) {r : Outcome} {o' : List ℕ} where
 
   pub bare : {a : Answer} → a ≡ Done → (r ≡ outcome_of (Refused 0) [] [] o) × (o' ≡ answer_after (Refused 0) [] [] o) → (r ≡ outcome_of a [] [] o) × (o' ≡ answer_after a [] [] o)
   bare e h = rw e (bare-done h)
+
+-- what the search cites for the writers of the parts
+pub ruleset bytes = (be-length, two-bytes, eight-bytes)
+
+pub ruleset stores = (charge-stores, balance-stores)
+
+pub ruleset lengths = (be-length, notice-length, balance-length, shows-nothing, shows-none)

@@ -44,7 +44,7 @@ pub enum Answer {
 }
 
 // The number that a command returns, 0 or its refusal, and how many bytes of answer were written.
-#[derive(Clone, Copy)]
+#[derive(Clone, Copy, Debug, PartialEq, Eq)]
 pub struct Outcome {
     pub number: u8,
     pub len: usize,
@@ -60,6 +60,7 @@ fn put(out: &mut [u8], at: usize, bytes: &[u8]) -> usize
     end
 }
 
+#[tactic(auto, using(crate::proofs::Laws::bytes))]
 fn put_short(out: &mut [u8], at: usize, x: u16) -> usize
     requires { at + 2 ≤ length out.old }
     ensures { (result ≡ at + 2) × (out.new ≡ sets out.old at (be 2 x)) }
@@ -67,6 +68,7 @@ fn put_short(out: &mut [u8], at: usize, x: u16) -> usize
     put(out, at, &x.to_be_bytes())
 }
 
+#[tactic(auto, using(crate::proofs::Laws::bytes))]
 fn put_id(out: &mut [u8], at: usize, x: u64) -> usize
     requires { at + 8 ≤ length out.old }
     ensures { (result ≡ at + 8) × (out.new ≡ sets out.old at (be 8 x)) }
@@ -85,6 +87,7 @@ fn put_ids(out: &mut [u8], at: usize, ids: &[u64]) -> usize
     end
 }
 
+#[tactic(auto, using(crate::proofs::Laws::stores))]
 fn put_charge(out: &mut [u8], at: usize, c: Charge) -> usize
     requires { at + 6 ≤ length out.old }
     ensures { (result ≡ at + 6) × (out.new ≡ sets out.old at (charge_bytes c)) }
@@ -119,6 +122,7 @@ fn put_message(out: &mut [u8], kind: u8, h: Header, ids: &[u64], payload: &[u8])
     put(out, end, &payload[..m])
 }
 
+#[tactic(auto, unfolding(crate::specs::Answer::notice_bytes))]
 fn put_notice(out: &mut [u8], kind: u8, id: HandleId) -> usize
     requires { 10 ≤ length out.old }
     ensures { (result ≡ 10) × (out.new ≡ sets out.old 1 (notice_bytes kind id)) }
@@ -127,6 +131,8 @@ fn put_notice(out: &mut [u8], kind: u8, id: HandleId) -> usize
     put_id(out, 2, id.0)
 }
 
+// Each kind's byte stands here once, beside its variant, as in `received_bytes`.
+#[tactic(auto, using(crate::proofs::Laws::lengths), unfolding(crate::specs::Answer::received_bytes))]
 fn put_received(out: &mut [u8], r: Received, ids: &[u64], payload: &[u8]) -> usize
     requires { 591 ≤ length out.old }
     ensures { (result ≡ 1 + length (received_bytes r ids.now payload.now)) × (out.new ≡ sets out.old 1 (received_bytes r ids.now payload.now)) }
@@ -139,6 +145,7 @@ fn put_received(out: &mut [u8], r: Received, ids: &[u64], payload: &[u8]) -> usi
     }
 }
 
+#[tactic(auto, using(crate::proofs::Laws::stores))]
 fn put_balance(out: &mut [u8], b: Balance) -> usize
     requires { 591 ≤ length out.old }
     ensures { (result ≡ 13) × (out.new ≡ sets out.old 1 (balance_bytes b)) }
@@ -147,6 +154,7 @@ fn put_balance(out: &mut [u8], b: Balance) -> usize
     put_charge(out, at, b.left)
 }
 
+#[tactic(auto, unfolding(crate::specs::Answer::holder_bytes))]
 fn put_holders(out: &mut [u8], h: u8) -> usize
     requires { 591 ≤ length out.old }
     ensures { (result ≡ 3) × (out.new ≡ sets out.old 1 (holder_bytes h)) }
@@ -157,6 +165,7 @@ fn put_holders(out: &mut [u8], h: u8) -> usize
 }
 
 // The contents of an answer that shows no message.
+#[tactic(auto, using(crate::proofs::Laws::lengths), unfolding(crate::specs::Answer::contents_of, crate::specs::Answer::holder_bytes))]
 fn put_plain(out: &mut [u8], a: Answer) -> usize
     requires { 591 ≤ length out.old }
     ensures { (result ≡ 1 + length (contents_of a [] [])) × (out.new ≡ sets out.old 1 (contents_of a [] [])) }
@@ -170,6 +179,7 @@ fn put_plain(out: &mut [u8], a: Answer) -> usize
     }
 }
 
+#[tactic(auto, using(crate::proofs::Laws::lengths), unfolding(crate::specs::Answer::contents_of))]
 fn put_contents(out: &mut [u8], a: Answer, ids: &[u64], payload: &[u8]) -> usize
     requires { 591 ≤ length out.old }
     ensures { (result ≡ 1 + length (contents_of a ids.now payload.now)) × (out.new ≡ sets out.old 1 (contents_of a ids.now payload.now)) }
@@ -249,14 +259,6 @@ pub fn write_refusal(out: &mut [u8], n: u8) -> Outcome
     Outcome { number: n, len: 1 }
 }
 
-// Writes an answer that shows no message, with its contents, into a buffer that is long enough.
-fn write_contents(out: &mut [u8], a: Answer) -> Outcome
-    requires { 591 ≤ length out.old }
-    ensures { (result ≡ outcome_of a [] [] out.old) × (out.new ≡ answer_after a [] [] out.old) }
-{
-    write(out, number_of(a), |out| put_plain(out, a))
-}
-
 // Writes an answer that shows no message. A refusal and a bare 00 are one byte.
 pub fn write_plain(out: &mut [u8], a: Answer) -> Outcome
     ensures { (result ≡ outcome_of a [] [] out.old) × (out.new ≡ answer_after a [] [] out.old) }
@@ -270,6 +272,6 @@ pub fn write_plain(out: &mut [u8], a: Answer) -> Outcome
     match a {
         Answer::Refused(n) => write_refusal(out, n),
         Answer::Done => write_refusal(out, 0),
-        _ => write_contents(out, a),
+        _ => write(out, number_of(a), |out| put_plain(out, a)),
     }
 }
