@@ -1,12 +1,18 @@
 -- The answers' definitions as runs of stores: each piece behind the one before it.
 -- Assumes nothing.
 use Prim.Native.Nat.{ℕ, suc, ◌+◌, ◌*◌, ◌/◌, ◌%◌, ◌≤◌, ◌<◌, min}
-use mathlib.Core.Path.{◌≡◌, refl, ap, ◌∙◌}
+use mathlib.Core.Path.{◌≡◌, refl, sym, ap, ◌∙◌}
+use mathlib.Core.Logic.{◌⊎◌, inl, inr}
+use Rattle.std.specs.Prelude.{Bool, true, false}
+use Rattle.std.specs.Int.{from_bool, w16, w64, to_be_bytes}
+use Rattle.std.proofs.lemmas.List.Edits.{sets-eq}
+use Rattle.std.proofs.lemmas.Slice.{put_mid-paste}
+use borrow.Rule.Slice.PartMut.{put_mid}
 use mathlib.Core.List.{List, [], ◌∷◌, ◌++◌, append-nil}
 use native.Mathlib.Omega.{arith}
 use native.Mathlib.Numerals.{add-one}
-use lib.ListN.{length, get_or, take, set, length-take}
-use lib.Seq.{sets, take-suc, length-take-le}
+use lib.ListN.{length, get_or, take, drop, set, length-take}
+use lib.Seq.{sets, take-suc, take-length, length-take-le}
 use borrow.Author.Tests.{lt-ltb, le-ltb}
 use Rattle.ids.specs.Refusals.{EINVAL}
 use Rattle.laws.specs.Bytes.{be, be-two, be-eight, be-length}
@@ -15,41 +21,25 @@ use Rattle.quota.specs.declared.Charge.{Charge}
 use Rattle.quota.specs.declared.Balance.{Balance}
 use Rattle.answers.specs.declared.Header.{Header}
 use Rattle.answers.specs.declared.Answer.{Answer}
-use Rattle.answers.specs.declared.Answer.TheVariants.{Refused, Done}
+use Rattle.answers.specs.declared.Received.{Received}
+use Rattle.answers.specs.declared.Answer.TheVariants.{Refused, Done, Transferred, Received as received, Quota, Holders}
 use Rattle.answers.specs.declared.Outcome.{Outcome}
-use Rattle.answers.specs.AnswerLaws.{ids-length, ids-append, charge-length, header-length, message-length, contents-size}
+use Rattle.answers.specs.AnswerLaws.{ids-length, ids-append, charge-length, balance-length, notice-length, header-length, message-length, contents-size}
 use Rattle.answers.specs.Answer.{id_bytes, bit, header_bytes, message_bytes, charge_bytes, balance_bytes, number_of, contents_of, answer_bytes, answer_after, outcome_of, answer_size, most_ids, most_bytes}
 
-pub two-stores : (o : List ℕ) (t x : ℕ) → set (set o t (x / 256 % 256)) (t + 1) (x % 256) ≡ sets o t (be 2 x)
-two-stores o t x = let e : t + 1 ≡ suc t = omega arith in rw (be-two x, e)
+-- a part written at once is its bytes stored one after another
+pub part-sets : (o vs : List ℕ) (at k : ℕ) → length vs ≡ k → at + k ≤ length o → put_mid at k o vs ≡ sets o at vs
+part-sets o vs at k e h =
+    put_mid-paste at k o vs vs (length vs) refl e refl
+    ∙ ap (λ (l : List ℕ). take at o ++ l ++ drop (at + length vs) o) (take-length vs)
+    ∙ sym (sets-eq vs o at (omega arith))
 
-pub eight-stores : (o : List ℕ) (t x : ℕ) →
-    set
-    (set
-    (set
-    (set
-    (set
-    (set (set (set o t (x / 72057594037927936 % 256)) (t + 1) (x / 281474976710656 % 256)) (t + 2) (x / 1099511627776 % 256))
-    (t + 3)
-    (x / 4294967296 % 256))
-    (t + 4)
-    (x / 16777216 % 256))
-    (t + 5)
-    (x / 65536 % 256))
-    (t + 6)
-    (x / 256 % 256))
-    (t + 7)
-    (x % 256)
-    ≡ sets o t (be 8 x)
-eight-stores o t x =
-    let e1 : t + 1 ≡ suc t = omega arith in
-    let e2 : t + 2 ≡ suc (suc t) = omega arith in
-    let e3 : t + 3 ≡ suc (suc (suc t)) = omega arith in
-    let e4 : t + 4 ≡ suc (suc (suc (suc t))) = omega arith in
-    let e5 : t + 5 ≡ suc (suc (suc (suc (suc t)))) = omega arith in
-    let e6 : t + 6 ≡ suc (suc (suc (suc (suc (suc t))))) = omega arith in
-    let e7 : t + 7 ≡ suc (suc (suc (suc (suc (suc (suc t)))))) = omega arith in
-    rw (be-eight x, e1, e2, e3, e4, e5, e6, e7)
+-- the library's bytes of a number are those of `be`
+pub two-bytes : (x : ℕ) → to_be_bytes w16 x ≡ be 2 x
+two-bytes x = rw (be-two x)
+
+pub eight-bytes : (x : ℕ) → to_be_bytes w64 x ≡ be 8 x
+eight-bytes x = rw (be-eight x)
 
 -- IDs, one after another
 pub ids_next : (o o₁ o₂ is : List ℕ) (at k j : ℕ) → k < length is → o₁ ≡ sets o at (id_bytes (take k is)) → j ≡ at + 8 * k →
@@ -76,15 +66,27 @@ pub balance-stores : (o o₁ o₂ : List ℕ) (at : ℕ) (b : Balance) → o₁ 
 unfolding balance_bytes
 balance-stores o o₁ o₂ at b e f g = sets_then o o₁ o₂ 1 at (charge_bytes b.queued) (charge_bytes b.left) e (rw (charge-length b.queued) f) g
 
+-- the two lowest bytes of a length, and a flag's byte
+be-short : (x : ℕ) → be 2 (x % 65536) ≡ be 2 x
+be-short x =
+    let h : x % 65536 / 256 % 256 ≡ x / 256 % 256 = omega arith in
+    let l : x % 65536 % 256 ≡ x % 256 = omega arith in
+    rw (be-two x, be-two (x % 65536), h, l)
+
+bit-byte : (b : Bool) → from_bool b ≡ bit b
+bit-byte true = refl
+bit-byte false = refl
+
 -- the header: a byte, an ID, two bytes, a number of two bytes, a byte
-pub header-stores : (o o₁ o₂ : List ℕ) (at end kind : ℕ) (h : Header) → o₁ ≡ sets (set o 1 kind) 2 (be 8 h.to.0) → at ≡ 2 + 8 →
-    o₂ ≡ sets (set (set o₁ at (h.user.0 % 256)) (at + 1) (bit h.flag)) (at + 2) (be 2 h.nb) → end ≡ at + 2 + 2 →
+pub header-stores : (o o₁ o₂ : List ℕ) (at end kind flag : ℕ) (h : Header) → flag ≡ from_bool h.flag → o₁ ≡ sets (set o 1 kind) 2 (be 8 h.to.0) → at ≡ 2 + 8 →
+    o₂ ≡ sets (set (set o₁ at (h.user.0 % 256)) (at + 1) flag) (at + 2) (be 2 (h.nb % 65536)) → end ≡ at + 2 + 2 →
     set o₂ end (h.nh % 256) ≡ sets o 1 (header_bytes kind h)
 unfolding header_bytes
-header-stores o o₁ o₂ at end kind h e f g k =
+header-stores o o₁ o₂ at end kind flag h b e f g k =
+    let t : flag ≡ bit h.flag = b ∙ bit-byte h.flag in
     let i : at ≡ 10 = omega arith in
     let j : end ≡ 14 = omega arith in
-    let u : o₂ ≡ sets (set (set o₁ 10 (h.user.0 % 256)) 11 (bit h.flag)) 12 (be 2 h.nb) = rw i at g in
+    let u : o₂ ≡ sets (set (set o₁ 10 (h.user.0 % 256)) 11 (bit h.flag)) 12 (be 2 h.nb) = rw (i, t, be-short h.nb) at g in
     rw j
     (sets_then (set o 1 kind) o₁ (set o₂ 14 (h.nh % 256)) 2 10 (be 8 h.to.0) (h.user.0 % 256 ∷ bit h.flag ∷ be 2 h.nb ++ (h.nh % 256 ∷ [])) e
     (rw (be-length 8 h.to.0))
@@ -105,10 +107,27 @@ module _ (kind : ℕ) (h : Header) (is bs : List ℕ) where
       (sets_then o₁ o₂ o₃ at end (id_bytes (take most_ids is)) (take most_bytes bs) (rw t at g) (rw (ids-length (take most_ids is)) (rw t at j)) (rw s at l))
 
   pub message-end : (at end n m r : ℕ) → at ≡ 15 → n ≡ min (length is) most_ids → end ≡ at + 8 * length (take n is) → m ≡ min (length bs) most_bytes →
-      r ≡ end + m → r ≡ 1 + length (message_bytes kind h is bs)
+      r ≡ end + length (take m bs) → r ≡ 1 + length (message_bytes kind h is bs)
   message-end at end n m r f i j k l =
       let a : length (take n is) ≡ min n (length is) = length-take n is in
+      let b : length (take m bs) ≡ min m (length bs) = length-take m bs in
       omega (arith, message-length kind h is bs)
+
+-- a refusal and a bare 00 have no contents
+pub shows-nothing : (a : Answer) (is bs : List ℕ) → ((n : ℕ) × (a ≡ Refused n)) ⊎ (a ≡ Done) → contents_of a is bs ≡ []
+unfolding contents_of
+shows-nothing a is bs (inl (n, e)) = rw e
+shows-nothing a is bs (inr e) = rw e
+
+-- an answer that shows no message has the same contents whatever stands beside it
+pub shows-none : (a : Answer) (is bs : List ℕ) → ((r : Received) → a ≡ received r → ⊥) → contents_of a is bs ≡ contents_of a [] []
+unfolding contents_of
+shows-none (Refused n) is bs h = refl
+shows-none Done is bs h = refl
+shows-none (Transferred i) is bs h = refl
+shows-none (received r) is bs h = absurd (h r refl)
+shows-none (Quota b) is bs h = refl
+shows-none (Holders x) is bs h = refl
 
 -- an answer, written or refused for want of room
 module _ (a : Answer) (is bs o : List ℕ) where
@@ -137,3 +156,10 @@ module _ (o : List ℕ) {r : Outcome} {o' : List ℕ} where
 
   pub bare : {a : Answer} → a ≡ Done → (r ≡ outcome_of (Refused 0) [] [] o) × (o' ≡ answer_after (Refused 0) [] [] o) → (r ≡ outcome_of a [] [] o) × (o' ≡ answer_after a [] [] o)
   bare e h = rw e (bare-done h)
+
+-- what the search cites for the writers of the parts
+pub ruleset bytes = (be-length, two-bytes, eight-bytes)
+
+pub ruleset stores = (charge-stores, balance-stores)
+
+pub ruleset lengths = (be-length, notice-length, balance-length, shows-nothing, shows-none)

@@ -2,17 +2,17 @@
 
 #![tactic(auto)]
 
-ghost use Rattle.std.specs.Prelude.{◌≡◌, [], ◌∷◌, ◌+◌, ◌*◌, ◌<◌, ◌≤◌, min, length, take};
+ghost use Rattle.std.specs.Prelude.{◌≡◌, ℕ, List, [], ◌∷◌, ◌+◌, ◌*◌, ◌<◌, ◌≤◌, min, length, take};
 ghost use Rattle.std.proofs.lemmas.List.Edits.{sets};
+ghost use Rattle.std.specs.Fn.{FnOnceReturnsAtMut};
 ghost use Rattle.laws.specs.Bytes.{be};
 ghost use Rattle.answers.specs.Answer.{id_bytes, header_bytes, message_bytes, notice_bytes, received_bytes, charge_bytes, balance_bytes, holder_bytes, contents_of, number_of, answer_after, outcome_of};
+ghost use Rattle.answers.specs.declared.Answer.{Answer};
 ghost use Rattle.answers.specs.declared.Answer.TheVariants as answer;
 ghost use Rattle.answers.specs.declared.Received.TheVariants as received;
 
-use ids::{ANSWER_SIZE, EINVAL, HandleId, MOST_BYTES, User};
+use ids::{ANSWER_SIZE, EINVAL, HandleId, MOST_BYTES, MOST_IDS, User};
 use quota::{Balance, Charge};
-
-const MOST_IDS: usize = 8;
 
 // A message's numbers. Its IDs and its payload stand beside it.
 #[derive(Clone, Copy)]
@@ -44,56 +44,57 @@ pub enum Answer {
 }
 
 // The number that a command returns, 0 or its refusal, and how many bytes of answer were written.
-#[derive(Clone, Copy)]
+#[derive(Clone, Copy, Debug, PartialEq, Eq)]
 pub struct Outcome {
     pub number: u8,
     pub len: usize,
 }
 
-fn put_short(out: &mut [u8], at: usize, x: usize) -> usize
+// Writes the bytes from the place on, and gives the place behind them.
+fn put(out: &mut [u8], at: usize, bytes: &[u8]) -> usize
+    requires { at + length bytes.now ≤ length out.old }
+    ensures { (result ≡ at + length bytes.now) × (out.new ≡ sets out.old at bytes.now) }
+{
+    let end = at + bytes.len();
+    out[at..end].copy_from_slice(bytes);
+    end
+}
+
+#[tactic(auto, using(crate::proofs::Laws::bytes))]
+fn put_short(out: &mut [u8], at: usize, x: u16) -> usize
     requires { at + 2 ≤ length out.old }
     ensures { (result ≡ at + 2) × (out.new ≡ sets out.old at (be 2 x)) }
 {
-    out[at] = (x / 256 % 256) as u8;
-    out[at + 1] = (x % 256) as u8;
-    at + 2
+    put(out, at, &x.to_be_bytes())
 }
 
+#[tactic(auto, using(crate::proofs::Laws::bytes))]
 fn put_id(out: &mut [u8], at: usize, x: u64) -> usize
     requires { at + 8 ≤ length out.old }
     ensures { (result ≡ at + 8) × (out.new ≡ sets out.old at (be 8 x)) }
 {
-    out[at] = (x / 72057594037927936 % 256) as u8;
-    out[at + 1] = (x / 281474976710656 % 256) as u8;
-    out[at + 2] = (x / 1099511627776 % 256) as u8;
-    out[at + 3] = (x / 4294967296 % 256) as u8;
-    out[at + 4] = (x / 16777216 % 256) as u8;
-    out[at + 5] = (x / 65536 % 256) as u8;
-    out[at + 6] = (x / 256 % 256) as u8;
-    out[at + 7] = (x % 256) as u8;
-    at + 8
+    put(out, at, &x.to_be_bytes())
 }
 
 fn put_ids(out: &mut [u8], at: usize, ids: &[u64]) -> usize
     requires { at + 8 * length ids.now ≤ length out.old }
     ensures { (result ≡ at + 8 * length ids.now) × (out.new ≡ sets out.old at (id_bytes ids.now)) }
 {
-    let mut k = 0;
     let mut end = at;
-    while k < ids.len() {
-        end = put_id(out, end, ids[k]);
-        k += 1;
+    for id in ids {
+        end = put_id(out, end, *id);
     }
     end
 }
 
+#[tactic(auto, using(crate::proofs::Laws::stores))]
 fn put_charge(out: &mut [u8], at: usize, c: Charge) -> usize
     requires { at + 6 ≤ length out.old }
     ensures { (result ≡ at + 6) × (out.new ≡ sets out.old at (charge_bytes c)) }
 {
-    let a = put_short(out, at, c.messages as usize);
-    let b = put_short(out, a, c.bytes as usize);
-    put_short(out, b, c.handles as usize)
+    let a = put_short(out, at, c.messages);
+    let b = put_short(out, a, c.bytes);
+    put_short(out, b, c.handles)
 }
 
 // The numbers of a message, from the place 1 on.
@@ -102,12 +103,10 @@ fn put_header(out: &mut [u8], kind: u8, h: Header) -> usize
     ensures { (result ≡ 15) × (out.new ≡ sets out.old 1 (header_bytes kind h)) }
 {
     out[1] = kind;
-    let to = h.to;
-    let at = put_id(out, 2, to.0);
-    let user = h.user;
-    out[at] = (user.0 % 256) as u8;
-    out[at + 1] = h.flag as u8;
-    let end = put_short(out, at + 2, h.nb);
+    let at = put_id(out, 2, h.to.0);
+    out[at] = (h.user.0 % 256) as u8;
+    out[at + 1] = u8::from(h.flag);
+    let end = put_short(out, at + 2, (h.nb % 65536) as u16);
     out[end] = (h.nh % 256) as u8;
     end + 1
 }
@@ -117,13 +116,13 @@ fn put_message(out: &mut [u8], kind: u8, h: Header, ids: &[u64], payload: &[u8])
     ensures { (result ≡ 1 + length (message_bytes kind h ids.now payload.now)) × (out.new ≡ sets out.old 1 (message_bytes kind h ids.now payload.now)) }
 {
     let at = put_header(out, kind, h);
-    let n = copies::least(ids.len(), MOST_IDS);
+    let n = ids.len().min(MOST_IDS);
     let end = put_ids(out, at, &ids[..n]);
-    let m = copies::least(payload.len(), MOST_BYTES);
-    copies::put(out, end, &payload[..m]);
-    end + m
+    let m = payload.len().min(MOST_BYTES);
+    put(out, end, &payload[..m])
 }
 
+#[tactic(auto, unfolding(crate::specs::Answer::notice_bytes))]
 fn put_notice(out: &mut [u8], kind: u8, id: HandleId) -> usize
     requires { 10 ≤ length out.old }
     ensures { (result ≡ 10) × (out.new ≡ sets out.old 1 (notice_bytes kind id)) }
@@ -132,6 +131,8 @@ fn put_notice(out: &mut [u8], kind: u8, id: HandleId) -> usize
     put_id(out, 2, id.0)
 }
 
+// Each kind's byte stands here once, beside its variant, as in `received_bytes`.
+#[tactic(auto, using(crate::proofs::Laws::lengths), unfolding(crate::specs::Answer::received_bytes))]
 fn put_received(out: &mut [u8], r: Received, ids: &[u64], payload: &[u8]) -> usize
     requires { 591 ≤ length out.old }
     ensures { (result ≡ 1 + length (received_bytes r ids.now payload.now)) × (out.new ≡ sets out.old 1 (received_bytes r ids.now payload.now)) }
@@ -144,36 +145,48 @@ fn put_received(out: &mut [u8], r: Received, ids: &[u64], payload: &[u8]) -> usi
     }
 }
 
+#[tactic(auto, using(crate::proofs::Laws::stores))]
 fn put_balance(out: &mut [u8], b: Balance) -> usize
     requires { 591 ≤ length out.old }
     ensures { (result ≡ 13) × (out.new ≡ sets out.old 1 (balance_bytes b)) }
 {
-    let queued = b.queued;
-    let left = b.left;
-    let at = put_charge(out, 1, queued);
-    put_charge(out, at, left)
+    let at = put_charge(out, 1, b.queued);
+    put_charge(out, at, b.left)
 }
 
+#[tactic(auto, unfolding(crate::specs::Answer::holder_bytes))]
 fn put_holders(out: &mut [u8], h: u8) -> usize
     requires { 591 ≤ length out.old }
     ensures { (result ≡ 3) × (out.new ≡ sets out.old 1 (holder_bytes h)) }
 {
     out[1] = h;
-    out[2] = u8::count_ones(h) as u8;
+    out[2] = h.count_ones() as u8;
     3
 }
 
+// The contents of an answer that shows no message.
+#[tactic(auto, using(crate::proofs::Laws::lengths), unfolding(crate::specs::Answer::contents_of, crate::specs::Answer::holder_bytes))]
+fn put_plain(out: &mut [u8], a: Answer) -> usize
+    requires { 591 ≤ length out.old }
+    ensures { (result ≡ 1 + length (contents_of a [] [])) × (out.new ≡ sets out.old 1 (contents_of a [] [])) }
+{
+    match a {
+        Answer::Refused(_) | Answer::Done => 1,
+        Answer::Transferred(id) => put_id(out, 1, id.0),
+        Answer::Received(r) => put_received(out, r, &[], &[]),
+        Answer::Quota(b) => put_balance(out, b),
+        Answer::Holders(h) => put_holders(out, h),
+    }
+}
+
+#[tactic(auto, using(crate::proofs::Laws::lengths), unfolding(crate::specs::Answer::contents_of))]
 fn put_contents(out: &mut [u8], a: Answer, ids: &[u64], payload: &[u8]) -> usize
     requires { 591 ≤ length out.old }
     ensures { (result ≡ 1 + length (contents_of a ids.now payload.now)) × (out.new ≡ sets out.old 1 (contents_of a ids.now payload.now)) }
 {
     match a {
-        Answer::Refused(_) => 1,
-        Answer::Done => 1,
-        Answer::Transferred(id) => put_id(out, 1, id.0),
         Answer::Received(r) => put_received(out, r, ids, payload),
-        Answer::Quota(b) => put_balance(out, b),
-        Answer::Holders(h) => put_holders(out, h),
+        _ => put_plain(out, a),
     }
 }
 
@@ -182,12 +195,27 @@ fn number_of(a: Answer) -> u8
 {
     match a {
         Answer::Refused(n) => n,
-        Answer::Done => 0,
-        Answer::Transferred(_) => 0,
-        Answer::Received(_) => 0,
-        Answer::Quota(_) => 0,
-        Answer::Holders(_) => 0,
+        _ => 0,
     }
+}
+
+// Writes the number and what stands behind it; into a buffer under 591 bytes nothing.
+fn write<F: FnOnce(&mut [u8]) -> usize>(out: &mut [u8], number: u8, contents: F) -> Outcome
+    requires { (o : _) → 591 ≤ length o.now → F.pre contents o }
+    ensures { (a : Answer) (is bs : List ℕ) → number ≡ number_of a
+        → ((o o' : List ℕ) (n : ℕ) → FnOnceReturnsAtMut F.FnOnce contents o n o'
+        → (n ≡ 1 + length (contents_of a is bs)) × (o' ≡ sets o 1 (contents_of a is bs)))
+        → (result ≡ outcome_of a is bs out.old) × (out.new ≡ answer_after a is bs out.old) }
+{
+    if out.len() < ANSWER_SIZE {
+        return Outcome {
+            number: EINVAL,
+            len: 0,
+        };
+    }
+    out[0] = number;
+    let len = contents(out);
+    Outcome { number, len }
 }
 
 // Writes the answer's bytes at the start of the buffer and leaves the rest of it alone; into a buffer under 591 bytes it
@@ -195,75 +223,31 @@ fn number_of(a: Answer) -> u8
 pub fn write_answer(out: &mut [u8], a: Answer, ids: &[u64], payload: &[u8]) -> Outcome
     ensures { (result ≡ outcome_of a ids.now payload.now out.old) × (out.new ≡ answer_after a ids.now payload.now out.old) }
 {
-    if out.len() < ANSWER_SIZE {
-        return Outcome {
-            number: EINVAL,
-            len: 0,
-        };
-    }
-    let number = number_of(a);
-    out[0] = number;
-    let len = put_contents(out, a, ids, payload);
-    Outcome { number, len }
+    write(out, number_of(a), |out| put_contents(out, a, ids, payload))
 }
 
 // Writes what a receive took out, without IDs and payload: a notice.
+#[tactic(auto, unfolding(crate::specs::Answer::contents_of))]
 pub fn write_received(out: &mut [u8], r: Received) -> Outcome
     ensures { (result ≡ outcome_of (answer.Received r) [] [] out.old) × (out.new ≡ answer_after (answer.Received r) [] [] out.old) }
 {
-    if out.len() < ANSWER_SIZE {
-        return Outcome {
-            number: EINVAL,
-            len: 0,
-        };
-    }
-    out[0] = 0;
-    let len = put_bare(out, r);
-    Outcome { number: 0, len }
+    write(out, 0, |out| put_received(out, r, &[], &[]))
 }
 
 // Writes a seed with its IDs and its payload. Apart from `write_answer`, so that this one has one caller, a message's, and
 // is compiled into it.
+#[tactic(auto, unfolding(crate::specs::Answer::contents_of))]
 pub fn write_seed(out: &mut [u8], h: Header, ids: &[u64], payload: &[u8]) -> Outcome
     ensures { let a = answer.Received (received.Seed h) in
         let is = ids.now in
         let bytes = payload.now in
         (result ≡ outcome_of a is bytes out.old) × (out.new ≡ answer_after a is bytes out.old) }
 {
-    if out.len() < ANSWER_SIZE {
-        return Outcome {
-            number: EINVAL,
-            len: 0,
-        };
-    }
-    out[0] = 0;
-    let len = put_received(out, Received::Seed(h), ids, payload);
-    Outcome { number: 0, len }
-}
-
-// What was received, without IDs and payload.
-fn put_bare(out: &mut [u8], r: Received) -> usize
-    requires { 591 ≤ length out.old }
-    ensures { (result ≡ 1 + length (received_bytes r [] [])) × (out.new ≡ sets out.old 1 (received_bytes r [] [])) }
-{
-    let ids = [0u64; 1];
-    let bytes = [0u8; 1];
-    put_received(out, r, &ids[..0], &bytes[..0])
-}
-
-// The contents of an answer that shows no message.
-fn put_plain(out: &mut [u8], a: Answer) -> usize
-    requires { 591 ≤ length out.old }
-    ensures { (result ≡ 1 + length (contents_of a [] [])) × (out.new ≡ sets out.old 1 (contents_of a [] [])) }
-{
-    match a {
-        Answer::Refused(_) => 1,
-        Answer::Done => 1,
-        Answer::Transferred(id) => put_id(out, 1, id.0),
-        Answer::Received(r) => put_bare(out, r),
-        Answer::Quota(b) => put_balance(out, b),
-        Answer::Holders(h) => put_holders(out, h),
-    }
+    write(
+        out,
+        0,
+        |out| put_received(out, Received::Seed(h), ids, payload),
+    )
 }
 
 // Writes a refusal, one byte, into a buffer that is long enough.
@@ -273,17 +257,6 @@ pub fn write_refusal(out: &mut [u8], n: u8) -> Outcome
 {
     out[0] = n;
     Outcome { number: n, len: 1 }
-}
-
-// Writes an answer that shows no message, with its contents, into a buffer that is long enough.
-fn write_contents(out: &mut [u8], a: Answer) -> Outcome
-    requires { 591 ≤ length out.old }
-    ensures { (result ≡ outcome_of a [] [] out.old) × (out.new ≡ answer_after a [] [] out.old) }
-{
-    let number = number_of(a);
-    out[0] = number;
-    let len = put_plain(out, a);
-    Outcome { number, len }
 }
 
 // Writes an answer that shows no message. A refusal and a bare 00 are one byte.
@@ -299,6 +272,6 @@ pub fn write_plain(out: &mut [u8], a: Answer) -> Outcome
     match a {
         Answer::Refused(n) => write_refusal(out, n),
         Answer::Done => write_refusal(out, 0),
-        _ => write_contents(out, a),
+        _ => write(out, number_of(a), |out| put_plain(out, a)),
     }
 }

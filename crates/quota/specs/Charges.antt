@@ -42,6 +42,10 @@ fresh_charges = record { by = replicate users nothing }
 abbrev pub own : Charges → User → Charge
 own c u = get_or c.by u.0 nothing
 
+-- The charges with v at a user's place: as they were where that is no user's number.
+abbrev pub put : Charges → User → Charge → Charges
+put c u v = record { by = set c.by u.0 v }
+
 -- One place changed.
 abbrev pub charged : Charges → User → Charge → Charges
 charged c u a = record { by = set c.by u.0 (plus (own c u) a) }
