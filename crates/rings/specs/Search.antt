@@ -4,9 +4,8 @@ use Rattle.std.specs.Prelude.{ℕ, ◌+◌, ◌*◌, ◌≤◌, ◌<◌, ◌≡�
 use Rattle.std.proofs.Common.{sym, ap, ◌∙◌, arith, below_more}
 use Rattle.std.proofs.lemmas.List.{set-get_or}
 use Rattle.laws.specs.Search.{first, first-le, first-before, first-is}
-use Rattle.rings.specs.Rings.{ring_size, rows_of, rings_of, Sized, entry_at, row_of, head_of, length_of, matches, removed}
+use Rattle.rings.specs.Rings.{ring_size, rows_of, rings_of, Sized, entry_at, row_of, head_of, length_of, queue_of, matches, removed, Swept, swept, kept_entries}
 use Rattle.rings.specs.Sweep.{sweep-from, sweep-done}
-use Rattle.rings.specs.Code.{remove-made}
 use Rattle.rings.specs.declared.Match.{Match}
 use Rattle.ids.specs.Sizes.{end_fields}
 
@@ -34,7 +33,15 @@ module _ (e : List ℕ) (p h n : ℕ) (m : Match) where
       passing-next y =
           record { read = omega arith; none = λ c k. below_more (λ j. matches m (entry_at (rows_of e c k) (row_of p h j)) ≡ false) i (v.none c k) (tested c k ∙ y) }
 
--- remove: what is before the place found, and a queue in which nothing is found.
+-- remove: a swept queue with its new length, what is before the place found, and a queue in which nothing is found.
+pub remove-made : (d e c n : List ℕ) (p : ℕ) (m : Match) {h k w : ℕ} {e' c' n' : List ℕ} → h ≡ head_of d p → k ≡ length_of d p →
+    swept w (rows_of e' c' n') ≡ kept_entries (rows_of e c n) p h k m → rings_of (set d (p * end_fields + 1) w) e' c' n' ≡ removed (rings_of d e c n) p m
+unfolding removed queue_of kept_entries
+remove-made d e c n p m eh ek s =
+    let a = ap (λ (z : Swept). z.count) s in
+    let b = ap (λ (z : Swept). z.rows) s in
+    rw (← eh, ← ek, ← a, ← b)
+
 module _ (e c n : List ℕ) (p h k : ℕ) (m : Match) {f : ℕ} (ef : (c n : List ℕ) → f ≡ first (λ i. matches m (entry_at (rows_of e c n) (row_of p h i))) k) where
   pub found_within : f ≤ k
   found_within = rw (ef c n) (first-le (λ i. matches m (entry_at (rows_of e c n) (row_of p h i))) k)

@@ -15,14 +15,12 @@ ghost use Rattle.rings.specs.Rings.{slot_in, matches_of, matches, one_slot, remo
 
 use ids::{CARRIED_FIELDS, END_FIELDS, ENTRY_FIELDS, Peer, RING, SLOTS};
 
-// The kinds of entry: a message (so is any other number), a destroy notice, a release notice; and how many there are.
+// The kinds of entry: a message (so is any other number), a destroy notice, a release notice.
 pub const MESSAGE: u16 = 0;
 
 pub const DESTROYED: u16 = 1;
 
 pub const RELEASED: u16 = 2;
-
-const KINDS: u16 = 3;
 
 // The bit of each kind among those that a removal takes out; those of the notices, and all.
 pub const MESSAGE_BIT: u8 = 1 << MESSAGE;
@@ -39,6 +37,7 @@ pub const ALL_BITS: u8 = MESSAGE_BIT + NOTICE_BITS;
 // their slots; a notice has the slot that it is about.
 #[derive(Clone, Copy)]
 pub struct Entry {
+    // A plain number, and not an enum: a sweep moves a row bit for bit, and any number has a meaning (`kept_entry`).
     pub kind: u16,
     pub slot: u16,
     pub user: u16,
@@ -61,7 +60,7 @@ pub struct Match {
 pub fn wide(x: u16) -> usize
     ensures { (result ≡ x) × (result < 65536) }
 {
-    x as usize
+    usize::from(x)
 }
 
 // The row of the i-th entry of a queue whose head is given.
@@ -76,71 +75,55 @@ pub fn head_of(ends: &[u16], p: Peer) -> usize
     requires { (length ends.now ≡ ends_size) × (p.0 < peers) }
     ensures { (result ≡ head_of ends.now p.0) × (result < 65536) }
 {
-    wide(ends[p.0 * END_FIELDS])
+    usize::from(ends[p.0 * END_FIELDS])
 }
 
 pub fn len_of(ends: &[u16], p: Peer) -> usize
     requires { (length ends.now ≡ ends_size) × (p.0 < peers) }
     ensures { (result ≡ length_of ends.now p.0) × (result < 65536) }
 {
-    wide(ends[p.0 * END_FIELDS + 1])
+    usize::from(ends[p.0 * END_FIELDS + 1])
 }
 
 // The entry in a row of the tables.
+#[tactic(auto, using(laws::specs::Rows::chunk_row), unfolding(crate::specs::Rings::entry_at))]
 pub fn get_entry(entries: &[u16], carried: &[u8], numbers: &[u64], row: usize) -> Entry
     requires { Sized (rows_of entries.now carried.now numbers.now) × (row < row_count) }
     ensures { result ≡ entry_at (rows_of entries.now carried.now numbers.now) row }
 {
-    let a = ENTRY_FIELDS * row;
-    let c = CARRIED_FIELDS * row;
+    let [kind, slot, user, nb, nh] = entries.as_chunks::<ENTRY_FIELDS>().0[row];
+    let carried = carried.as_chunks::<CARRIED_FIELDS>().0[row];
     Entry {
-        kind: entries[a],
-        slot: entries[a + 1],
-        user: entries[a + 2],
-        nb: entries[a + 3],
-        nh: entries[a + 4],
-        carried: [
-            carried[c],
-            carried[c + 1],
-            carried[c + 2],
-            carried[c + 3],
-            carried[c + 4],
-            carried[c + 5],
-            carried[c + 6],
-            carried[c + 7],
-        ],
+        kind,
+        slot,
+        user,
+        nb,
+        nh,
+        carried,
         number: numbers[row],
     }
 }
 
+#[tactic(auto, using(laws::specs::Rows::run_stored), unfolding(crate::specs::Rings::fields_of))]
 fn put_fields(entries: &mut [u16], row: usize, e: Entry)
     requires { (length entries.old ≡ entries_size) × (row < row_count) }
     ensures { entries.new ≡ sets entries.old (entry_fields * row) (fields_of e) }
 {
     let a = ENTRY_FIELDS * row;
-    entries[a] = e.kind;
-    entries[a + 1] = e.slot;
-    entries[a + 2] = e.user;
-    entries[a + 3] = e.nb;
-    entries[a + 4] = e.nh;
+    entries[a..a + ENTRY_FIELDS].copy_from_slice(&[e.kind, e.slot, e.user, e.nb, e.nh]);
 }
 
+#[tactic(auto, using(laws::specs::Rows::array_stored))]
 fn put_carried(carried: &mut [u8], row: usize, v: [u8; 8])
     requires { (length carried.old ≡ carried_size) × (row < row_count) }
     ensures { carried.new ≡ sets carried.old (carried_fields * row) (row_in carried_fields v 0) }
 {
     let c = CARRIED_FIELDS * row;
-    carried[c] = v[0];
-    carried[c + 1] = v[1];
-    carried[c + 2] = v[2];
-    carried[c + 3] = v[3];
-    carried[c + 4] = v[4];
-    carried[c + 5] = v[5];
-    carried[c + 6] = v[6];
-    carried[c + 7] = v[7];
+    carried[c..c + CARRIED_FIELDS].copy_from_slice(&v);
 }
 
 // A row of the tables written anew.
+#[tactic(auto, unfolding(crate::specs::Rings::put_at))]
 pub fn put_entry(entries: &mut [u16], carried: &mut [u8], numbers: &mut [u64], row: usize, e: Entry)
     requires { Sized (rows_of entries.old carried.old numbers.old) × (row < row_count) }
     ensures { let before = rows_of entries.old carried.old numbers.old in
@@ -148,12 +131,12 @@ pub fn put_entry(entries: &mut [u16], carried: &mut [u8], numbers: &mut [u64], r
         after ≡ put_at before row e }
 {
     put_fields(entries, row, e);
-    let v = e.carried;
-    put_carried(carried, row, v);
+    put_carried(carried, row, e.carried);
     numbers[row] = e.number;
 }
 
 // The oldest entry of a queue, or what its place holds where the queue is empty.
+#[tactic(auto, unfolding(crate::specs::Rings::first_of))]
 pub fn first_entry(ends: &[u16], entries: &[u16], carried: &[u8], numbers: &[u64], p: Peer) -> Entry
     requires { QueueTables ends.now entries.now carried.now numbers.now × (p.0 < peers) }
     ensures { result ≡ first_of (rings_of ends.now entries.now carried.now numbers.now) p.0 }
@@ -164,6 +147,7 @@ pub fn first_entry(ends: &[u16], entries: &[u16], carried: &[u8], numbers: &[u64
 }
 
 // An entry appended to a queue that has room.
+#[tactic(auto, unfolding(crate::specs::Rings::pushed))]
 pub fn push(
     ends: &mut [u16],
     entries: &mut [u16],
@@ -185,14 +169,8 @@ pub fn push(
     ends[at] = (len + 1) as u16;
 }
 
-// One less, at least 0.
-fn one_less(n: usize) -> usize
-    ensures { result ≡ n - 1 }
-{
-    if n == 0 { 0 } else { n - 1 }
-}
-
 // The oldest entry dropped; of an empty queue, nothing but its place.
+#[tactic(auto, unfolding(crate::specs::Rings::popped))]
 pub fn pop(ends: &mut [u16], p: Peer)
     requires { (length ends.old ≡ ends_size) × (p.0 < peers) }
     ensures { ends.new ≡ popped ends.old p.0 }
@@ -201,10 +179,11 @@ pub fn pop(ends: &mut [u16], p: Peer)
     let len = len_of(ends, p);
     let at = p.0 * END_FIELDS;
     ends[at] = ((head + 1) % RING) as u16;
-    ends[at + 1] = one_less(len) as u16;
+    ends[at + 1] = len.saturating_sub(1) as u16;
 }
 
 // All entries dropped.
+#[tactic(auto, unfolding(crate::specs::Rings::cleared))]
 pub fn clear(ends: &mut [u16], p: Peer)
     requires { (length ends.old ≡ ends_size) × (p.0 < peers) }
     ensures { ends.new ≡ cleared ends.old p.0 }
@@ -225,39 +204,39 @@ pub fn bit(x: usize, k: usize) -> bool
 fn kind_bit(kind: u16) -> usize
     ensures { (result ≡ kind_bit kind) × (result < kind_count) }
 {
-    if kind < KINDS { kind as usize } else { 0 }
+    match kind {
+        DESTROYED | RELEASED => usize::from(kind),
+        _ => usize::from(MESSAGE),
+    }
 }
 
+#[tactic(auto, unfolding(crate::specs::Rings::slot_in))]
 fn has_slot(first: usize, mask: usize, slot: usize) -> bool
     ensures { result ≡ slot_in first mask slot }
 {
-    if slot < first {
-        return false;
+    match slot.checked_sub(first) {
+        Some(k) if k < SLOTS => bit(mask, k),
+        _ => false,
     }
-    let k = slot - first;
-    if SLOTS <= k {
-        return false;
-    }
-    bit(mask, k)
 }
 
 // A byte of a table as an index.
 pub fn byte_wide(x: u8) -> usize
     ensures { result ≡ x }
 {
-    x as usize
+    usize::from(x)
 }
 
 impl Match {
     // The entries of some kinds about one slot.
+    #[tactic(auto, unfolding(crate::specs::Rings::one_slot))]
     pub fn one_slot(kinds: u8, slot: usize) -> Self
         ensures { result ≡ one_slot kinds slot }
     {
-        let one: usize = 1;
         Self {
-            kinds: kinds,
+            kinds,
             first: slot / SLOTS * SLOTS,
-            mask: (one << (slot % SLOTS)) as u16,
+            mask: 1 << (slot % SLOTS),
         }
     }
 }
@@ -266,14 +245,12 @@ impl Match {
 fn takes(m: Match, kind: u16, slot: u16) -> bool
     ensures { result ≡ matches_of m kind slot }
 {
-    if !has_slot(m.first, wide(m.mask), wide(slot)) {
-        return false;
-    }
-    let k = kind_bit(kind);
-    bit(byte_wide(m.kinds), k)
+    has_slot(m.first, usize::from(m.mask), usize::from(slot))
+        && bit(usize::from(m.kinds), kind_bit(kind))
 }
 
 // Does a removal take the entry out?
+#[tactic(auto, unfolding(crate::specs::Rings::matches))]
 pub fn is_match(m: Match, e: Entry) -> bool
     ensures { result ≡ matches m e }
 {
@@ -281,6 +258,7 @@ pub fn is_match(m: Match, e: Entry) -> bool
 }
 
 // Does a removal take out the entry in the row? Its kind and its slot say so, whatever the other tables hold.
+#[tactic(auto, using(laws::specs::Rows::row5), unfolding(crate::specs::Rings::matches, crate::specs::Rings::entry_at))]
 fn is_match_at(entries: &[u16], row: usize, m: Match) -> bool
     requires { (length entries.now ≡ entries_size) × (row < row_count) }
     ensures { (c n : List ℕ) → result ≡ matches m (entry_at (rows_of entries.now c n) row) }
@@ -294,13 +272,11 @@ pub fn first_match(entries: &[u16], p: Peer, head: usize, len: usize, m: Match) 
     requires { (length entries.now ≡ entries_size) × (p.0 < peers) × (head < 65536) × (len ≤ ring_size) }
     ensures { (c n : List ℕ) → result ≡ first (λ i. matches m (entry_at (rows_of entries.now c n) (row_of p.0 head i))) len }
 {
-    let mut i = 0;
-    while i < len {
+    for i in 0..len {
         let row = row_of(p, head, i);
         if is_match_at(entries, row, m) {
             return i;
         }
-        i += 1;
     }
     len
 }
@@ -315,6 +291,7 @@ struct At {
 }
 
 // The next entry moves behind those that were kept, unless it matches. How many are kept now.
+#[tactic(auto, unfolding(crate::specs::Rings::kept_entry))]
 fn keep_entry(
     entries: &mut [u16],
     carried: &mut [u8],
@@ -356,21 +333,14 @@ fn sweep(
         (swept result after ≡ kept_entries before p.0 head len m) × (result ≤ len) }
 {
     let mut kept = from;
-    let mut read = from;
-    while read < len {
-        kept = keep_entry(
-            entries,
-            carried,
-            numbers,
-            At {
-                p: p,
-                head: head,
-                read: read,
-                kept: kept,
-            },
-            m,
-        );
-        read += 1;
+    for read in from..len {
+        let at = At {
+            p,
+            head,
+            read,
+            kept,
+        };
+        kept = keep_entry(entries, carried, numbers, at, m);
     }
     kept
 }

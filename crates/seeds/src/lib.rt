@@ -19,13 +19,6 @@ const SET: u8 = 1;
 // A slot is read modulo the slots of all peers.
 const MODULUS: u8 = 128;
 
-// A byte of the table as an index.
-fn wide(x: u8) -> usize
-    ensures { (result ≡ x) × (result < 256) }
-{
-    x as usize
-}
-
 // Has the peer a seed?
 pub fn is_set(seeds: &[u8], p: Peer) -> bool
     requires { (length seeds.now ≡ seeds_size) × (p.0 < peers) }
@@ -39,7 +32,7 @@ pub fn nh_of(seeds: &[u8], p: Peer) -> usize
     requires { (length seeds.now ≡ seeds_size) × (p.0 < peers) }
     ensures { (result ≡ count_at seeds.now p.0) × (result ≤ most_ids) }
 {
-    copies::least(wide(seeds[SEED_FIELDS * p.0 + 1]), MOST_IDS)
+    usize::from(seeds[SEED_FIELDS * p.0 + 1]).min(MOST_IDS)
 }
 
 // How many bytes of payload it has.
@@ -48,10 +41,11 @@ pub fn nb_of(seeds: &[u8], p: Peer) -> usize
     ensures { (result ≡ bytes_at seeds.now p.0) × (result ≤ most_bytes) }
 {
     let a = SEED_FIELDS * p.0;
-    copies::least(wide(seeds[a + 2]) * 256 + wide(seeds[a + 3]), MOST_BYTES)
+    usize::from(u16::from_be_bytes([seeds[a + 2], seeds[a + 3]])).min(MOST_BYTES)
 }
 
 // Its eight slots, of which it carries the first.
+#[tactic(auto, unfolding(crate::specs::Seeds::slots_at, laws::specs::Build::build))]
 pub fn slots_of(seeds: &[u8], p: Peer) -> [u8; 8]
     requires { (length seeds.now ≡ seeds_size) × (p.0 < peers) }
     ensures { result ≡ slots_at seeds.now p.0 }
@@ -79,45 +73,40 @@ pub fn piece(seeds: &[u8], p: Peer, nb: usize) -> &[u8]
 }
 
 // The first four bytes of a row: a seed is set, and its sizes.
+#[tactic(auto, using(laws::specs::Rows::run_stored))]
 fn put_head(seeds: &mut [u8], p: Peer, nh: usize, nb: usize)
     requires { (length seeds.old ≡ seeds_size) × (p.0 < peers) × (nb ≤ most_bytes) }
     ensures { seeds.new ≡ sets seeds.old (row_at p.0) (head_of nh nb) }
 {
     let a = SEED_FIELDS * p.0;
-    let n = copies::least(nh, MOST_IDS);
-    seeds[a] = SET;
-    seeds[a + 1] = n as u8;
-    seeds[a + 2] = (nb / 256) as u8;
-    seeds[a + 3] = (nb % 256) as u8;
+    let n = nh.min(MOST_IDS) as u8;
+    let [high, low] = (nb as u16).to_be_bytes();
+    seeds[a..a + 4].copy_from_slice(&[SET, n, high, low]);
 }
 
+#[tactic(auto, using(laws::specs::Rows::array_stored))]
 fn put_slots(seeds: &mut [u8], p: Peer, v: [u8; 8])
     requires { (length seeds.old ≡ seeds_size) × (p.0 < peers) }
     ensures { seeds.new ≡ sets seeds.old (row_at p.0 + 4) (row_in most_ids v 0) }
 {
     let a = SEED_FIELDS * p.0 + 4;
-    seeds[a] = v[0];
-    seeds[a + 1] = v[1];
-    seeds[a + 2] = v[2];
-    seeds[a + 3] = v[3];
-    seeds[a + 4] = v[4];
-    seeds[a + 5] = v[5];
-    seeds[a + 6] = v[6];
-    seeds[a + 7] = v[7];
+    seeds[a..a + MOST_IDS].copy_from_slice(&v);
 }
 
 // The peer's seed, set anew. Of a longer payload the first MOST_BYTES count, of the slots the first nh, at most MOST_IDS.
+#[tactic(auto, unfolding(crate::specs::Seeds::stored))]
 pub fn put(seeds: &mut [u8], p: Peer, nh: usize, slots: [u8; 8], payload: &[u8])
     requires { (length seeds.old ≡ seeds_size) × (p.0 < peers) }
     ensures { seeds.new ≡ stored seeds.old p.0 nh slots payload.now }
 {
-    let nb = copies::least(payload.len(), MOST_BYTES);
+    let nb = payload.len().min(MOST_BYTES);
     put_head(seeds, p, nh, nb);
     put_slots(seeds, p, slots);
     copies::put(seeds, SEED_BYTES + MOST_BYTES * p.0, &payload[0..nb]);
 }
 
 // The peer has no seed.
+#[tactic(auto, unfolding(crate::specs::Seeds::dropped))]
 pub fn drop_seed(seeds: &mut [u8], p: Peer)
     requires { (length seeds.old ≡ seeds_size) × (p.0 < peers) }
     ensures { seeds.new ≡ dropped seeds.old p.0 }
@@ -132,12 +121,10 @@ fn is_among(seeds: &[u8], p: Peer, n: usize, s: usize) -> bool
     ensures { result ≡ any (eqb s) (take n (slots_at seeds.now p.0)) }
 {
     let a = SEED_FIELDS * p.0 + 4;
-    let mut k = 0;
-    while k < n {
-        if wide(seeds[a + k]) % NODES == s {
+    for k in 0..n {
+        if usize::from(seeds[a + k]) % NODES == s {
             return true;
         }
-        k += 1;
     }
     false
 }
@@ -147,11 +134,7 @@ fn names_at(seeds: &[u8], p: Peer, s: usize) -> bool
     requires { (length seeds.now ≡ seeds_size) × (p.0 < peers) }
     ensures { result ≡ any (eqb s) (seed_carries (seed_v seeds.now p.0)) }
 {
-    if !is_set(seeds, p) {
-        return false;
-    }
-    let n = nh_of(seeds, p);
-    is_among(seeds, p, n, s)
+    is_set(seeds, p) && is_among(seeds, p, nh_of(seeds, p), s)
 }
 
 // Does a seed name the slot?
@@ -159,12 +142,10 @@ pub fn names(seeds: &[u8], s: usize) -> bool
     requires { length seeds.now ≡ seeds_size }
     ensures { result ≡ seeded (seed_v seeds.now) s }
 {
-    let mut q = 0;
-    while q < PEERS {
+    for q in 0..PEERS {
         if names_at(seeds, Peer(q), s) {
             return true;
         }
-        q += 1;
     }
     false
 }

