@@ -2,8 +2,8 @@
 use Rattle.tables.specs.CodeLaws.{holds_not, holds-this}
 use Rattle.tables.proofs.holds.Goals as goal
 
-pub returns-then-e-id : goal.returns-then-e-id
-returns-then-e-id c = holds_not _ _ _ _ c.look-e.ensures c.if-e-id.true
+pub returns-then-r-id : goal.returns-then-r-id
+returns-then-r-id c = holds-this _ _ _ _ c.look-r.ensures c.if-r-id.true
 
-pub returns : goal.returns
-returns c = holds-this _ _ _ _ c.look-e.ensures c.if-e-id.false
+pub returns-else-r-id : goal.returns-else-r-id
+returns-else-r-id c = holds_not _ _ _ _ c.look-r.ensures c.if-r-id.false

@@ -4,7 +4,7 @@ use Prim.Native.Nat.{◌-◌}
 use Rattle.tables.proofs.place_in.Given as goal
 
 abbrev pub invariant-loop-low : goal.invariant-loop-low
-invariant-loop-low l = Halving l.handles l.p.0 l.id.0 l.n l.reads l.low l.high l.count
+invariant-loop-low l = Halving l.handles l.p.0 l.id.0 l.n l.initial.reads l.low l.high l.reads
 
 abbrev pub decreases-loop-low : goal.decreases-loop-low
 decreases-loop-low l = l.high - l.low

@@ -1,9 +1,10 @@
 -- `tables::seek` meets its contract: the two searches, each with its bound. Assumes nothing.
-use Rattle.tables.specs.CodeLaws.{sought-own, sought-listed}
+use Rattle.tables.specs.CodeLaws.{found-own, found-listed}
+use native.Mathlib.Omega.{arith}
 use Rattle.tables.proofs.seek.Goals as goal
 
 pub returns-then-id-eq0 : goal.returns-then-id-eq0
-returns-then-id-eq0 c = sought-own _ _ _ c.if-id-eq0.true c.seek_own.ensures
+returns-then-id-eq0 c = (found-own _ _ _ c.if-id-eq0.true c.seek_own-found.ensures.0, omega (arith, c.seek_own-found.ensures.1))
 
-pub returns : goal.returns
-returns c = sought-listed _ _ _ c.if-id-eq0.false c.seek_listed.ensures
+pub returns-else-id-eq0 : goal.returns-else-id-eq0
+returns-else-id-eq0 c = (found-listed _ _ _ c.if-id-eq0.false c.seek_listed-found.ensures.0, omega (arith, c.seek_listed-found.ensures.1))

@@ -3,10 +3,10 @@ use Rattle.tables.specs.CodeLaws.{among-past, among-other, among-this}
 use Rattle.tables.proofs.seek_among.Goals as goal
 
 pub returns-then-n-k : goal.returns-then-n-k
-returns-then-n-k c = among-past _ _ _ _ _ c.place_in-w.ensures c.if-n-k.true
+returns-then-n-k c = among-past _ _ _ _ _ c.place_in-k.ensures c.if-n-k.true
 
 pub returns-then-e-id : goal.returns-then-e-id
-returns-then-e-id c = among-other _ _ _ _ _ c.place_in-w.ensures c.if-n-k.false c.entry_at-e.ensures c.if-e-id.true
+returns-then-e-id c = among-this _ _ _ _ _ c.place_in-k.ensures c.if-n-k.false c.record_at-e.ensures c.if-e-id.true
 
-pub returns : goal.returns
-returns c = among-this _ _ _ _ _ c.place_in-w.ensures c.if-n-k.false c.entry_at-e.ensures c.if-e-id.false
+pub returns-else-e-id : goal.returns-else-e-id
+returns-else-e-id c = among-other _ _ _ _ _ c.place_in-k.ensures c.if-n-k.false c.record_at-e.ensures c.if-e-id.false

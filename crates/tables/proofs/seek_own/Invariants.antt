@@ -2,12 +2,12 @@
 use Rattle.tables.specs.Handles.{has_at}
 use mathlib.Core.Bool.{false}
 use mathlib.Core.Path.{◌≡◌}
-use Prim.Native.Nat.{ℕ, ◌+◌, ◌*◌, ◌≤◌, ◌-◌, ◌<◌}
+use Prim.Native.Nat.{ℕ, ◌+◌, ◌*◌, ◌<◌}
 use Rattle.ids.specs.Sizes.{slots}
 use Rattle.tables.proofs.seek_own.Given as goal
 
 abbrev pub invariant-loop-k : goal.invariant-loop-k
-invariant-loop-k l = (l.k ≤ slots) × (l.reads ≡ l.k) × ((j : ℕ) → j < l.k → has_at l.handles l.p.0 l.id.0 (l.p.0 * slots + j) ≡ false)
-
-abbrev pub decreases-loop-k : goal.decreases-loop-k
-decreases-loop-k l = slots - l.k
+invariant-loop-k l = record {
+  counted : l.reads ≡ l.initial.reads + l.k;
+  before : (j : ℕ) → j < l.k → has_at l.handles l.p.0 l.id.0 (l.p.0 * slots + j) ≡ false;
+}

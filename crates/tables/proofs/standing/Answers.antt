@@ -1,12 +1,12 @@
--- `tables::standing` meets its contract: each return is the refusal of that state. Assumes nothing.
-use Rattle.tables.specs.CodeLaws.{standing-open, standing-left, standing-none}
+-- `tables::standing` meets its contract: each arm is the refusal of that status. Assumes nothing.
+use Rattle.tables.specs.CodeLaws.{standing-is}
 use Rattle.tables.proofs.standing.Goals as goal
 
-pub returns-then-state-eq-OPEN : goal.returns-then-state-eq-OPEN
-returns-then-state-eq-OPEN c = standing-open _ _ c.if-state-eq-OPEN.true
+pub returns-in-Open : goal.returns-in-Open
+returns-in-Open c = standing-is _ _ c.in-Open.ensures
 
-pub returns-then-state-eq-DISCONNECTED : goal.returns-then-state-eq-DISCONNECTED
-returns-then-state-eq-DISCONNECTED c = standing-left _ _ c.if-state-eq-OPEN.false c.if-state-eq-DISCONNECTED.true
+pub returns-in-Disconnected : goal.returns-in-Disconnected
+returns-in-Disconnected c = standing-is _ _ c.in-Disconnected.ensures
 
-pub returns : goal.returns
-returns c = standing-none _ _ c.if-state-eq-OPEN.false c.if-state-eq-DISCONNECTED.false
+pub returns-in-Unopened : goal.returns-in-Unopened
+returns-in-Unopened c = standing-is _ _ c.in-Unopened.ensures

@@ -4,12 +4,13 @@ use native.Mathlib.Omega.{arith}
 use Rattle.tables.proofs.total.Goals as goal
 
 pub loop-q-init : goal.loop-q-init
-loop-q-init c = (omega arith, omega arith, total-none _ _)
+loop-q-init c = record { fits = omega arith; so_far = total-none _ _ }
 
 pub loop-q-preserved : goal.loop-q-preserved
-loop-q-preserved c =
-    let loop = c.loop-q in
-    (omega arith, omega (arith, loop.invariant.1, c.count_of-c.ensures.1), total-more _ _ _ c.count_of-c.ensures.0 loop.invariant.2)
+loop-q-preserved c = record {
+  fits = omega (arith, c.loop-q.invariant.fits, c.count_of-sum.ensures.1);
+  so_far = total-more _ _ _ c.count_of-sum.ensures.0 c.loop-q.invariant.so_far;
+}
 
 pub returns : goal.returns
-returns c = total-all _ _ _ c.loop-q.invariant.2 (omega (arith, c.loop-q.invariant.0, c.loop-q-test.false))
+returns c = total-all _ _ c.loop-q.q c.loop-q.invariant.so_far (omega (arith, c.loop-q.auto.q-end, c.loop-q-test.false))

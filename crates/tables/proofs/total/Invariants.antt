@@ -2,12 +2,11 @@
 use Rattle.tables.specs.Peers.{modulus}
 use Rattle.tables.specs.Handles.{total_below}
 use mathlib.Core.Path.{◌≡◌}
-use Prim.Native.Nat.{◌≤◌, ◌*◌, ◌-◌}
-use Rattle.ids.specs.Sizes.{peers}
+use Prim.Native.Nat.{◌≤◌, ◌*◌}
 use Rattle.tables.proofs.total.Given as goal
 
 abbrev pub invariant-loop-q : goal.invariant-loop-q
-invariant-loop-q l = (l.q ≤ peers) × (l.sum ≤ l.q * modulus) × (l.sum ≡ total_below l.handles l.s l.q)
-
-abbrev pub decreases-loop-q : goal.decreases-loop-q
-decreases-loop-q l = peers - l.q
+invariant-loop-q l = record {
+  fits : l.sum ≤ l.q * modulus;
+  so_far : l.sum ≡ total_below l.handles l.s l.q;
+}
