@@ -76,46 +76,50 @@ module _ (ns hs : List ℕ) (q : ℕ) (a : Asked) (k : ℕ) {b : Bool} where
 pub fair-falling : (a : Asked) {p : Peer} → Fair a → a ≡ Falling p → p.0 < peers
 fair-falling a f e = rw e at f
 
--- bit_asked, bit_told
-module _ (a : Bool) (bit : ℕ) {b : Bool} (eb : b ≡ a) where
-  pub bit-some : b ≡ true → (bit ≡ pick a bit 0) × (bit ≤ bit)
-  bit-some t = (rw (← eb, t), omega arith)
-
-  pub bit-none : b ≡ false → (0 ≡ pick a bit 0) × (0 ≤ bit)
-  bit-none f = (rw (← eb, f), omega arith)
-
 word-bit : (k : ℕ) → k ≤ slots → 2 ^ k ≤ 65536
 word-bit k l = let m : 2 ^ k ≤ 2 ^ slots = pow_mono l in omega arith
 
--- set_of: the bit of the place k, and the bits of the places below it
-pub record Asking (ns hs : List ℕ) (q : ℕ) (a : Asked) (k bit set : ℕ) : Type 0 where
-  pub places : k ≤ slots
-  pub power : bit ≡ 2 ^ k
-  pub word : bit ≤ 65536
-  pub below : set < bit
-  pub sum : set ≡ bits (asks ns hs q a) k
+-- set_where: the bits of the places passed, of each test that the calls answered as
+pub record Setting (answers : ℕ → Bool → Type 0) (k set : ℕ) : Type 0 where
+  pub below : set < 2 ^ k
+  pub sum : (t : ℕ → Bool) → ((j : ℕ) → j < k → (b : Bool) → answers j b → b ≡ t j) → set ≡ bits t k
 
-module _ (ns hs : List ℕ) (q : ℕ) (a : Asked) where
-  pub asking-none : Asking ns hs q a 0 1 0
+module _ {answers : ℕ → Bool → Type 0} where
+  pub setting-none : Setting answers 0 0
   unfolding bits sum_to
-  asking-none = record { places = omega arith; power = refl; word = omega arith; below = omega arith; sum = refl }
+  setting-none = record { below = omega arith; sum = λ t h. refl }
 
-  pub asking-more : (k bit set : ℕ) {b : ℕ} → Asking ns hs q a k bit set → k < slots → (b ≡ pick (asks ns hs q a k) bit 0) × (b ≤ bit) → Asking ns hs q a (k + 1) (2 * bit) (b + set)
-  unfolding bits sum_to
-  asking-more k bit set {b} g l e =
-      let x : 2 ^ (k + 1) ≡ 2 * 2 ^ k = rw add-one (omega arith) in
-      let y : 2 * bit ≡ 2 ^ (k + 1) = rw (x, g.power) in
-      record {
-        places = omega arith;
-        power = y;
-        word = rw y (word-bit (k + 1) (omega arith));
-        below = omega (arith, g.below, e.1);
-        sum = rw (add-one, e.0, g.power, g.sum);
-      }
+  module _ {k set : ℕ} (v : Setting answers k set) (l : k < slots) where
+    fits-word : 2 * 2 ^ k ≤ 65536
+    fits-word = let x : 2 ^ (k + 1) ≡ 2 * 2 ^ k = rw add-one (omega arith) in omega (arith, x, word-bit (k + 1) (omega arith))
 
-  pub asking-all : (k : ℕ) {bit set : ℕ} → Asking ns hs q a k bit set → k ≡ slots → set ≡ set_of ns hs q a
-  unfolding set_of
-  asking-all k g f = rw (← f) g.sum
+    shifted : 1 * 2 ^ k % 65536 ≡ 2 ^ k
+    shifted = omega (arith, fits-word)
+
+    pub setting-fits : set + 1 * 2 ^ k % 65536 < 65536
+    setting-fits = omega (arith, shifted, fits-word, v.below)
+
+    module _ {b : Bool} (a : answers k b) where
+      pub setting-in : b ≡ true → {w : ℕ} → w ≡ set + 1 * 2 ^ k % 65536 → Setting answers (k + 1) w
+      unfolding bits sum_to
+      setting-in e {w} ew =
+          let x : 2 ^ (k + 1) ≡ 2 * 2 ^ k = rw add-one (omega arith) in
+          record {
+            below = omega (arith, x, ew, shifted, v.below);
+            sum = λ t h. let y = v.sum t (λ j m. h j (omega arith)) in rw (add-one, ← h k (omega arith) b a, e, ← y) (omega (arith, ew, shifted));
+          }
+
+      pub setting-out : b ≡ false → {w : ℕ} → w ≡ set → Setting answers (k + 1) w
+      unfolding bits sum_to
+      setting-out e {w} ew =
+          let x : 2 ^ (k + 1) ≡ 2 * 2 ^ k = rw add-one (omega arith) in
+          record {
+            below = omega (arith, x, ew, v.below);
+            sum = λ t h. let y = v.sum t (λ j m. h j (omega arith)) in rw (add-one, ← h k (omega arith) b a, e, ← y) (omega (arith, ew));
+          }
+
+  pub setting-all : {k set n : ℕ} → Setting answers k set → k ≡ n → (t : ℕ → Bool) → ((j : ℕ) → j < n → (b : Bool) → answers j b → b ≡ t j) → set ≡ bits t n
+  setting-all v e t h = v.sum t (λ j l. h j (omega (arith, e, l))) ∙ ap (bits t) e
 
 -- lower
 module _ (hs : List ℕ) (q : ℕ) (found : Option ℕ) (k : ℕ) where
@@ -220,40 +224,6 @@ module _ (hs cs : List ℕ) (r : Rings) (s n o : ℕ) {c : ℕ} (ec : c ≡ coun
 
   pub concerns-carrier : c ≡ 0 → {b : Bool} → b ≡ carried_before cs r s n o → b ≡ tells_at hs cs r s n o
   concerns-carrier z eb = rw (← ec, z) eb
-
-byte-bit : (o : ℕ) → o ≤ peers → 2 ^ o ≤ 256
-byte-bit o l = let m : 2 ^ o ≤ 2 ^ peers = pow_mono l in omega arith
-
--- addressees: the bit of the peer o, and the bits of the peers below it
-pub record Addressing (hs cs : List ℕ) (r : Rings) (s n o bit set : ℕ) : Type 0 where
-  pub passed : o ≤ peers
-  pub power : bit ≡ 2 ^ o
-  pub byte : bit ≤ 256
-  pub below : set < bit
-  pub sum : set ≡ bits (tells_at hs cs r s n) o
-
-module _ (hs cs : List ℕ) (r : Rings) (s n : ℕ) where
-  pub addressing-none : Addressing hs cs r s n 0 1 0
-  unfolding bits sum_to
-  addressing-none = record { passed = omega arith; power = refl; byte = omega arith; below = omega arith; sum = refl }
-
-  pub addressing-more : (o bit set : ℕ) {b : ℕ} → Addressing hs cs r s n o bit set → o < peers → (b ≡ pick (tells_at hs cs r s n o) bit 0) × (b ≤ bit) →
-      Addressing hs cs r s n (o + 1) (2 * bit) (b + set)
-  unfolding bits sum_to
-  addressing-more o bit set {b} v l e =
-      let x : 2 ^ (o + 1) ≡ 2 * 2 ^ o = rw add-one (omega arith) in
-      let y : 2 * bit ≡ 2 ^ (o + 1) = rw (x, v.power) in
-      record {
-        passed = omega arith;
-        power = y;
-        byte = rw y (byte-bit (o + 1) (omega arith));
-        below = omega (arith, v.below, e.1);
-        sum = rw (add-one, e.0, v.power, v.sum);
-      }
-
-  pub addressing-all : (o : ℕ) {bit set : ℕ} → Addressing hs cs r s n o bit set → o ≡ peers → set ≡ addressees hs cs r s n
-  unfolding addressees
-  addressing-all o v f = rw (← f) v.sum
 
 -- addressees_at
 module _ (hs cs : List ℕ) (r : Rings) (p set n k : ℕ) {w : ℕ} (ew : w ≡ set) {b : Bool} (eb : b ≡ bit_at w k) where
@@ -516,9 +486,9 @@ module _ (ns hs cs : List ℕ) (p : ℕ) (t : ℕ → Bool) (f : ℕ → ℕ) (r
   expiring-start m s = record { within = omega arith; fit = record { ends = m; rows = s }; so = refl }
 
   module _ {r : Rings} {k : ℕ} (v : Expiring ns hs cs p t f r₀ r k n) where
-    pub expiring-in : k < n → t k ≡ true → {r' : Rings} → r' ≡ expired ns hs cs p r (f k) → Expiring ns hs cs p t f r₀ r' (k + 1) n
+    pub expiring-in : k < n → t k ≡ true → {s : ℕ} → s ≡ f k → {r' : Rings} → r' ≡ expired ns hs cs p r s → Expiring ns hs cs p t f r₀ r' (k + 1) n
     unfolding expired_at
-    expiring-in l y er = record { within = omega arith; fit = rw er (expire-fit ns hs cs p r (f k) v.fit); so = rw (add-one, y, ← v.so) er }
+    expiring-in l y {s} es er = record { within = omega arith; fit = rw er (expire-fit ns hs cs p r s v.fit); so = rw (add-one, y, ← v.so, ← es) er }
 
     pub expiring-out : k < n → t k ≡ false → {r' : Rings} → r' ≡ r → Expiring ns hs cs p t f r₀ r' (k + 1) n
     unfolding expired_at
@@ -533,11 +503,12 @@ module _ (p : ℕ) (ss is : List ℕ) (k : ℕ) where
   shown-valid d = rw (ne_eqb (get_or is k 0) invalid d)
 
   module _ (e : get_or is k 0 ≡ invalid) where
-    pub shown-own : get_or ss k 0 % nodes / slots ≡ p → own_invalid p ss is k ≡ true
-    shown-own o = rw (eq-eqb (get_or is k 0) invalid e, eq-eqb (get_or ss k 0 % nodes / slots) p o)
+    module _ {s : ℕ} (es : s ≡ get_or ss k 0) where
+      pub shown-own : s % nodes / slots ≡ p → own_invalid p ss is k ≡ true
+      shown-own o = rw (eq-eqb (get_or is k 0) invalid e, ← es, eq-eqb (s % nodes / slots) p o)
 
-    pub shown-other : (get_or ss k 0 % nodes / slots ≡ p → ⊥) → own_invalid p ss is k ≡ false
-    shown-other d = rw (eq-eqb (get_or is k 0) invalid e, ne_eqb (get_or ss k 0 % nodes / slots) p d)
+      pub shown-other : (s % nodes / slots ≡ p → ⊥) → own_invalid p ss is k ≡ false
+      shown-other d = rw (eq-eqb (get_or is k 0) invalid e, ← es, ne_eqb (s % nodes / slots) p d)
 
 pub rings-same : {a a' b b' c c' d d' : List ℕ} → a ≡ a' → b ≡ b' → c ≡ c' → d ≡ d' → rings_of a b c d ≡ rings_of a' b' c' d'
 rings-same ea eb ec ed = rw (ea, eb, ec, ed)
@@ -551,9 +522,9 @@ module _ (ns hs cs : List ℕ) (p : ℕ) (r : Rings) (i : ℕ) {h : ℕ} (eh : h
   unfolding expired_place
   place_other d = rw (place-entry, ne_eqb e.kind kind_destroyed d)
 
-  pub place-notice : e.kind ≡ kind_destroyed → {r' : Rings} → r' ≡ expired ns hs cs p r (e.slot % nodes) → r' ≡ expired_place ns hs cs p r i
+  pub place-notice : e.kind ≡ kind_destroyed → {s : ℕ} → s ≡ e.slot → {r' : Rings} → r' ≡ expired ns hs cs p r (s % nodes) → r' ≡ expired_place ns hs cs p r i
   unfolding expired_place
-  place-notice k er = rw (place-entry, eq-eqb e.kind kind_destroyed k) er
+  place-notice k es er = rw (place-entry, eq-eqb e.kind kind_destroyed k, ← es) er
 
 place-fit : (ns hs cs : List ℕ) (p : ℕ) (r : Rings) (i : ℕ) → Fit r → Fit (expired_place ns hs cs p r i)
 unfolding expired_place

@@ -21,13 +21,12 @@ use Rattle.tables.specs.Nodes.{live_at, died_at}
 use Rattle.tables.specs.NodesView.{life_v, live-is, died-is}
 use Rattle.tables.specs.HandlesView.{handle_v}
 use Rattle.model.specs.Numbers.{nodes, peers}
-use Rattle.model.specs.Lists.{both, either, any}
+use Rattle.model.specs.Lists.{both, either}
 use Rattle.model.specs.Occurs.{either-false}
-use Rattle.model.specs.State.{Life, is_live, Handle, Message, Entry, messages_in, earlier, concerned, State}
+use Rattle.model.specs.State.{Life, is_live, Handle, Message, Entry, concerned}
 use Rattle.model.specs.State.Life.{dead}
 use Rattle.model.specs.State.Entry.{message, destroyed, released}
-use Rattle.model.specs.Tables.{with_queues}
-use Rattle.model.specs.Changes.{stays, settle, settled}
+use Rattle.model.specs.Changes.{stays, settle}
 use Rattle.model.specs.Notices.{Stands}
 use Rattle.model.specs.Founded.{carries-keep, settle-founded}
 use Rattle.model.specs.SimQueues.{messages-kept}

@@ -17,7 +17,7 @@ use Rattle.laws.specs.Weights.{All, keep, all-imp}
 use Rattle.laws.specs.Loads.{keep-every}
 use Rattle.laws.specs.Sums.{sum-at}
 use Rattle.laws.specs.Bits.{bits, bits-ext, bits_none, Walked, bits-walk}
-use Rattle.laws.specs.Build.{build, build-at}
+use Rattle.laws.specs.Build.{build-at}
 use Rattle.rings.specs.declared.Entry.{Entry as Row}
 use Rattle.rings.specs.Rings.{kind_destroyed, kind_released, slots, ring_size, ends_size, Rings, Sized, length_of, bit_at, one_slot}
 use Rattle.rings.specs.Matches.{bit-one}

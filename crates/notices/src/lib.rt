@@ -3,8 +3,8 @@
 
 #![tactic(auto)]
 
-ghost use Rattle.std.specs.Prelude.{◌≡◌, ◌<◌, ◌≤◌, length};
-ghost use Rattle.laws.specs.Tests.{pick};
+ghost use Rattle.std.specs.Prelude.{◌≡◌, ◌<◌, ◌≤◌, ℕ, Bool, length};
+ghost use Rattle.laws.specs.Bits.{bits};
 ghost use Rattle.rings.specs.Rings.{ring_size, rings_of, one_slot, QueueTables, released_bit};
 ghost use Rattle.tables.specs.Handles.{handles_size};
 ghost use Rattle.tables.specs.Charges.{charges_size};
@@ -62,7 +62,7 @@ fn is_above(handles: &[u64], q: Peer, set: u16, j: usize, k: usize) -> bool
     requires { (length handles.now ≡ handles_size) × (q.0 < peer_count) × (k < slots) }
     ensures { result ≡ above_at handles.now q.0 set j k }
 {
-    if !rings::bit(rings::wide(set), k) {
+    if !rings::bit(usize::from(set), k) {
         return false;
     }
     let low = tables::id_of(handles, q, q.0 * SLOTS + j % SLOTS);
@@ -82,15 +82,19 @@ fn is_asked(nodes: &[u64], handles: &[u64], q: Peer, a: Asked, k: usize) -> bool
     }
 }
 
-// The bit where the slot is asked for, else 0.
-fn bit_asked(nodes: &[u64], handles: &[u64], q: Peer, a: Asked, k: usize, bit: usize) -> usize
-    requires { (length nodes.now ≡ nodes_size) × (length handles.now ≡ handles_size) × (q.0 < peer_count) × (k < slots) × Fair a }
-    ensures { (result ≡ pick (asks nodes.now handles.now q.0 a k) bit 0) × (result ≤ bit) }
+// The set of those of the first n numbers that pass the test: a bit for each.
+fn set_where<F: Fn(usize) -> bool>(n: usize, test: F) -> u16
+    requires few { n ≤ slots }
+    requires callable { (k : ℕ) → k < n → F.pre test k }
+    ensures { (t : ℕ → Bool) → ((k : ℕ) → k < n → (b : Bool) → F.post test k b → b ≡ t k) → result ≡ bits t n }
 {
-    if is_asked(nodes, handles, q, a, k) {
-        return bit;
+    let mut set = 0;
+    for k in 0..n {
+        if test(k) {
+            set += 1 << k;
+        }
     }
-    0
+    set
 }
 
 // The slots of the peer q that are asked for.
@@ -98,16 +102,7 @@ pub fn set_of(nodes: &[u64], handles: &[u64], q: Peer, a: Asked) -> u16
     requires { (length nodes.now ≡ nodes_size) × (length handles.now ≡ handles_size) × (q.0 < peer_count) × Fair a }
     ensures { result ≡ set_of nodes.now handles.now q.0 a }
 {
-    let mut k = 0;
-    let mut bit = 1;
-    let mut set = 0;
-    while k < SLOTS {
-        let b = bit_asked(nodes, handles, q, a, k, bit);
-        set = b + set;
-        bit = 2 * bit;
-        k += 1;
-    }
-    set as u16
+    set_where(SLOTS, |k| is_asked(nodes, handles, q, a, k))
 }
 
 // Of a place that was found and the place k the one with the lower ID.
@@ -132,12 +127,10 @@ fn least_id(handles: &[u64], q: Peer, set: u16) -> Option<usize>
     ensures { result ≡ least_at handles.now q.0 set slots }
 {
     let mut found = None;
-    let mut k = 0;
-    while k < SLOTS {
-        if rings::bit(rings::wide(set), k) {
+    for k in 0..SLOTS {
+        if rings::bit(usize::from(set), k) {
             found = lower(handles, q, found, k);
         }
-        k += 1;
     }
     found
 }
@@ -157,15 +150,13 @@ fn post(
         after ≡ posted_to before e set peer_count }
 {
     let mut rest = set;
-    let mut k = 0usize;
-    while k < PEERS {
+    for _ in 0..PEERS {
         if rest == 0 {
             return;
         }
         let q = tables::lowest(rest) % PEERS;
         queues::enter(ends, entries, carried, numbers, Peer(q), e);
         rest = tables::without(rest, q);
-        k += 1;
     }
 }
 
@@ -193,30 +184,6 @@ fn concerns(
     queues::carried_before(charges, ends, entries, carried, numbers, o, s, n)
 }
 
-// The bit where the peer is told that the command n destroyed the slot's node, else 0.
-fn bit_told(
-    handles: &[u64],
-    charges: &[u16],
-    ends: &[u16],
-    entries: &[u16],
-    carried: &[u8],
-    numbers: &[u64],
-    o: Peer,
-    s: usize,
-    n: u64,
-    bit: u64,
-) -> u64
-    requires { (length handles.now ≡ handles_size) × (length charges.now ≡ charges_size)
-        × QueueTables ends.now entries.now carried.now numbers.now × (o.0 < peer_count) × (s < node_count) }
-    ensures { let rings = rings_of ends.now entries.now carried.now numbers.now in
-        (result ≡ pick (tells_at handles.now charges.now rings s n o.0) bit 0) × (result ≤ bit) }
-{
-    if concerns(handles, charges, ends, entries, carried, numbers, o, s, n) {
-        return bit;
-    }
-    0
-}
-
 // Who is told of the destruction: one bit for each peer.
 fn addressees(
     handles: &[u64],
@@ -233,11 +200,8 @@ fn addressees(
     ensures { let rings = rings_of ends.now entries.now carried.now numbers.now in
         result ≡ addressees_bits handles.now charges.now rings s n }
 {
-    let mut o = 0;
-    let mut bit = 1u64;
-    let mut set = 0u64;
-    while o < PEERS {
-        let b = bit_told(
+    set_where(PEERS, |o| {
+        concerns(
             handles,
             charges,
             ends,
@@ -247,13 +211,8 @@ fn addressees(
             Peer(o),
             s,
             n,
-            bit,
-        );
-        set = b + set;
-        bit = 2 * bit;
-        o += 1;
-    }
-    set as u8
+        )
+    }) as u8
 }
 
 // The same of the peer's own slot at the place k, where it is in the set; else nobody.
@@ -274,7 +233,7 @@ fn addressees_at(
     ensures { let rings = rings_of ends.now entries.now carried.now numbers.now in
         result ≡ addressees_at handles.now charges.now rings p.0 set n k }
 {
-    if !rings::bit(rings::wide(set), k) {
+    if !rings::bit(usize::from(set), k) {
         return 0;
     }
     let s = p.0 * SLOTS + k;
@@ -299,12 +258,10 @@ fn addressees_of(
         result ≡ addressees_of handles.now charges.now rings p.0 set n }
 {
     let mut to = [0u8; 16];
-    let mut k = 0;
-    while k < SLOTS {
+    for k in 0..SLOTS {
         to[k] = addressees_at(
             handles, charges, ends, entries, carried, numbers, p, set, n, k,
         );
-        k += 1;
     }
     to
 }
@@ -330,8 +287,7 @@ pub fn tell(
         after ≡ told handles.now to q.0 kind n before set slots }
 {
     let mut rest = set;
-    let mut k = 0;
-    while k < SLOTS {
+    for _ in 0..SLOTS {
         let Some(j) = least_id(handles, q, rest) else {
             return;
         };
@@ -339,7 +295,6 @@ pub fn tell(
         let e = notice(kind, s, n);
         post(ends, entries, carried, numbers, to[j % SLOTS], e);
         rest = set_of(nodes, handles, q, Asked::Above(rest, j));
-        k += 1;
     }
 }
 
@@ -348,12 +303,10 @@ fn bury(nodes: &mut [u64], p: Peer, set: u16, n: u64)
     requires { (length nodes.old ≡ nodes_size) × (p.0 < peer_count) }
     ensures { nodes.new ≡ dead_all nodes.old p.0 set n slots }
 {
-    let mut k = 0;
-    while k < SLOTS {
-        if rings::bit(rings::wide(set), k) {
+    for k in 0..SLOTS {
+        if rings::bit(usize::from(set), k) {
             tables::set_dead(nodes, p.0 * SLOTS + k, n);
         }
-        k += 1;
     }
 }
 
@@ -437,8 +390,7 @@ pub fn tell_owners(
         let after = rings_of ends.new entries.new carried.new numbers.new in
         after ≡ told_owners nodes.now handles.now p.0 n before peer_count }
 {
-    let mut q = 0;
-    while q < PEERS {
+    for q in 0..PEERS {
         let set = set_of(nodes, handles, Peer(q), Asked::Falling(p));
         tell(
             nodes,
@@ -453,7 +405,6 @@ pub fn tell_owners(
             RELEASED,
             n,
         );
-        q += 1;
     }
 }
 
@@ -507,17 +458,15 @@ pub fn expire_shown(
         let after = rings_of ends.new entries.new carried.new numbers.new in
         after ≡ expired_shown nodes.now handles.now charges.now p.0 slots ids before nh }
 {
-    let mut k = 0;
-    while k < nh {
+    for k in 0..nh {
         if ids[k] == INVALID {
-            let s = slots[k] as usize % NODES;
+            let s = usize::from(slots[k]) % NODES;
             if s / SLOTS == p.0 {
                 expire(
                     nodes, handles, charges, ends, entries, carried, numbers, p, s,
                 );
             }
         }
-        k += 1;
     }
 }
 
@@ -545,7 +494,7 @@ fn expire_at(
     if e.kind != DESTROYED {
         return;
     }
-    let s = e.slot as usize % NODES;
+    let s = usize::from(e.slot) % NODES;
     expire(
         nodes, handles, charges, ends, entries, carried, numbers, p, s,
     );
@@ -569,12 +518,11 @@ pub fn expire_all(
         let after = rings_of ends.new entries.new carried.new numbers.new in
         after ≡ expired_all nodes.now handles.now charges.now p.0 before }
 {
-    let mut i = rings::len_of(ends, p);
-    if RING < i {
+    let len = rings::len_of(ends, p);
+    if RING < len {
         return;
     }
-    while 0 < i {
-        i -= 1;
+    for i in (0..len).rev() {
         expire_at(
             nodes, handles, charges, ends, entries, carried, numbers, p, i,
         );

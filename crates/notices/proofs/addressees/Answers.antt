@@ -1,17 +1,20 @@
--- `notices::addressees` meets its contract: the loop's invariant is the sum of the bits of the peers passed, which is below the next bit. Assumes nothing.
-use Rattle.rings.specs.Rings.{rings_of}
-use Rattle.notices.specs.Code.{Addressing, addressing-none, addressing-more, addressing-all}
-use Prim.Native.Nat.{◌-◌}
+-- `notices::addressees` meets its contract: the test of a peer is the definition's, and eight bits are a byte. Assumes nothing.
 use native.Mathlib.Omega.{arith}
 use borrow.Author.Rules.{rules}
-use Rattle.ids.specs.Sizes.{peers}
+use Rattle.laws.specs.Bits.{bits_below}
+use Rattle.rings.specs.Rings.{rings_of}
+use Rattle.notices.specs.Notices.{tells_at, addressees}
 use Rattle.notices.proofs.addressees.Goals as goal
 
-pub loop-o-init : goal.loop-o-init
-loop-o-init c = addressing-none _ _ _ _ _
-
-pub loop-o-preserved : goal.loop-o-preserved
-loop-o-preserved c = addressing-more _ _ _ _ _ _ _ _ c.loop-o.invariant c.loop-o-test.true c.bit_told-b.ensures
+pub overflow_cast-result : goal.overflow_cast-result
+overflow_cast-result c =
+    let a = c.args in
+    let t = tells_at a.handles.now a.charges.now (rings_of a.ends.now a.entries.now a.carried.now a.numbers.now) a.s a.n in
+    omega (arith, c.set_where.ensures t (λ k l b e. search rules), bits_below t 8)
 
 pub returns : goal.returns
-returns c = addressing-all _ _ _ _ _ c.loop-o.o c.loop-o.invariant (omega (arith, c.loop-o.invariant.passed, c.loop-o-test.false))
+unfolding addressees
+returns c =
+    let a = c.args in
+    let t = tells_at a.handles.now a.charges.now (rings_of a.ends.now a.entries.now a.carried.now a.numbers.now) a.s a.n in
+    c.set_where.ensures t (λ k l b e. search rules)

@@ -1,12 +1,8 @@
 -- `notices::bury` meets its contract: the loop's invariant is the table with the nodes of the places passed dead. Assumes nothing.
 use lib.ListN.{length}
-use mathlib.Core.Path.{◌≡◌, refl, ap, ◌∙◌}
-use Prim.Native.Nat.{◌-◌, ◌≤◌}
-use Rattle.notices.specs.Notices.{dead_all}
+use mathlib.Core.Path.{refl, ap, ◌∙◌}
 use Rattle.notices.specs.Code.{bury-length, bury-none, bury-in, bury-out, bury-all}
 use native.Mathlib.Omega.{arith}
-use borrow.Author.Rules.{rules}
-use Rattle.ids.specs.Sizes.{slots}
 use Rattle.notices.proofs.bury.Goals as goal
 use Rattle.notices.proofs.bury.Goals.{then-bit, else-bit}
 
@@ -19,10 +15,10 @@ loop-k-preserved c =
     let v = c.loop-k.invariant.2 in
     elim c.if-bit.branch [
       | then-bit w ↦
-          let next = bury-in a.nodes.now a.p.0 a.set a.n c.loop-k.k v c.wide.ensures.0 c.bit.ensures w.if-bit.true w.set_dead.ensures w.nodes-is in
+          let next = bury-in a.nodes.now a.p.0 a.set a.n c.loop-k.k v c.from.ensures c.bit.ensures w.if-bit.true w.set_dead.ensures w.nodes-is in
           (omega arith, ap length next ∙ bury-length _ _ _ _ _, next)
       | else-bit w ↦
-          let next = bury-out a.nodes.now a.p.0 a.set a.n c.loop-k.k v c.wide.ensures.0 c.bit.ensures w.if-bit.false w.nodes-is in
+          let next = bury-out a.nodes.now a.p.0 a.set a.n c.loop-k.k v c.from.ensures c.bit.ensures w.if-bit.false w.nodes-is in
           (omega arith, ap length next ∙ bury-length _ _ _ _ _, next)
     ]
 

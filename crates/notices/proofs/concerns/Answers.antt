@@ -1,7 +1,6 @@
 -- `notices::concerns` meets its contract: each return is one side of the definition's test. Assumes nothing.
 use Rattle.rings.specs.Rings.{rings_of}
 use Rattle.notices.specs.Code.{concerns-holder, concerns-carrier}
-use borrow.Author.Rules.{rules}
 use Rattle.notices.proofs.concerns.Goals as goal
 
 pub returns-then-count_of-ne0 : goal.returns-then-count_of-ne0

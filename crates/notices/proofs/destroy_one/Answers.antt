@@ -2,15 +2,6 @@
 use Rattle.rings.specs.Rings.{rings_of}
 use Rattle.notices.specs.Code.{destroy-one}
 use native.Mathlib.Omega.{arith}
-use borrow.Author.Rules.{rules}
-use Rattle.notices.proofs.destroy_one.Reads as reads
-use Rattle.notices.proofs.destroy_one.Lts as lts
-use Rattle.notices.proofs.addressees.Reads as addressees-reads
-use Rattle.notices.proofs.notice.Reads as notice-reads
-use Rattle.notices.proofs.post.Reads as post-reads
-use Rattle.queues.proofs.withdraw.Reads as withdraw-reads
-use Rattle.rings.proofs.Match.one_slot.Reads as one-slot-reads
-use Rattle.tables.proofs.set_dead.Reads as set-dead-reads
 use Rattle.notices.proofs.destroy_one.Goals as goal
 
 pub notice-e-requires : goal.notice-e-requires

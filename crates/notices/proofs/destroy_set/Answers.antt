@@ -2,13 +2,6 @@
 use Rattle.rings.specs.Rings.{rings_of}
 use Rattle.notices.specs.Code.{destroy-done}
 use native.Mathlib.Omega.{arith}
-use borrow.Author.Rules.{rules}
-use Rattle.notices.proofs.destroy_set.Reads as reads
-use Rattle.notices.proofs.destroy_set.Lts as lts
-use Rattle.notices.proofs.addressees_of.Reads as addressees-of-reads
-use Rattle.notices.proofs.bury.Reads as bury-reads
-use Rattle.notices.proofs.tell.Reads as tell-reads
-use Rattle.queues.proofs.withdraw.Reads as withdraw-reads
 use Rattle.notices.proofs.destroy_set.Goals as goal
 
 pub tell-requires : goal.tell-requires

@@ -1,7 +1,6 @@
 -- `notices::expire` meets its contract: each return is one side of the definition's tests. Assumes nothing.
 use Rattle.rings.specs.Rings.{rings_of}
 use Rattle.notices.specs.Code.{expire-live, expire-kept, expire-gone}
-use borrow.Author.Rules.{rules}
 use Rattle.notices.proofs.expire.Goals as goal
 
 pub returns-then-is_live : goal.returns-then-is_live

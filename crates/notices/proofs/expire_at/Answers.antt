@@ -2,7 +2,6 @@
 use native.Mathlib.Omega.{arith}
 use Rattle.rings.specs.Rings.{rings_of}
 use Rattle.notices.specs.Code.{place_other, place-notice}
-use borrow.Author.Rules.{rules}
 use Rattle.notices.proofs.expire_at.Goals as goal
 
 pub returns-then-e-ne-DESTROYED : goal.returns-then-e-ne-DESTROYED
@@ -12,4 +11,4 @@ pub expire-requires : goal.expire-requires
 expire-requires c = let z = c.requires in (z.0, z.1, z.2, z.3, z.4, omega arith)
 
 pub returns : goal.returns
-returns c = let a = c.args in place-notice a.nodes.now a.handles.now a.charges.now a.p.0 (rings_of a.ends.now a.entries.now a.carried.now a.numbers.now) a.i c.head_of-head.ensures.0 c.row_of-row.ensures.0 c.get_entry-e.ensures c.if-e-ne-DESTROYED.false c.expire.ensures
+returns c = let a = c.args in place-notice a.nodes.now a.handles.now a.charges.now a.p.0 (rings_of a.ends.now a.entries.now a.carried.now a.numbers.now) a.i c.head_of-head.ensures.0 c.row_of-row.ensures.0 c.get_entry-e.ensures c.if-e-ne-DESTROYED.false c.from-s.ensures c.expire.ensures

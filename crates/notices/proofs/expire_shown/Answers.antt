@@ -1,12 +1,11 @@
 -- `notices::expire_shown` meets its contract: the loop's invariant is the rings after the places passed. Assumes nothing.
-use Prim.Native.Nat.{ℕ, ◌-◌, ◌%◌}
-use mathlib.Core.Path.{◌∙◌}
+use Prim.Native.Nat.{ℕ, ◌%◌}
+use mathlib.Core.Path.{ap, ◌∙◌}
 use lib.ListN.{get_or}
 use Rattle.rings.specs.Rings.{rings_of}
 use Rattle.notices.specs.Notices.{own_invalid}
-use Rattle.notices.specs.Code.{Expiring, expiring-start, expiring-in, expiring-out, expiring-all, shown-valid, shown-own, shown-other, rings-same}
+use Rattle.notices.specs.Code.{expiring-start, expiring-in, expiring-out, expiring-all, shown-valid, shown-own, shown-other, rings-same}
 use Rattle.model.specs.Numbers.{nodes as node_count}
-use borrow.Author.Rules.{rules}
 use Rattle.notices.proofs.expire_shown.Goals as goal
 use Rattle.notices.proofs.expire_shown.Goals.{then-ids-k+then-s-p, then-ids-k+else-s-p, else-ids-k}
 
@@ -24,11 +23,12 @@ loop-k-preserved c =
     elim c.if-ids-k.branch [
       | then-ids-k+then-s-p w ↦
           expiring-in a.nodes.now a.handles.now a.charges.now a.p.0 here slot_at before a.nh v l
-          (shown-own a.p.0 a.slots a.ids c.loop-k.k w.if-ids-k.true w.if-s-p.true)
+          (shown-own a.p.0 a.slots a.ids c.loop-k.k w.if-ids-k.true w.from-s.ensures w.if-s-p.true)
+          (ap (λ (x : ℕ). x % node_count) w.from-s.ensures)
           (rings-same w.ends-is w.entries-is w.carried-is w.numbers-is ∙ w.expire.ensures)
       | then-ids-k+else-s-p w ↦
           expiring-out a.nodes.now a.handles.now a.charges.now a.p.0 here slot_at before a.nh v l
-          (shown-other a.p.0 a.slots a.ids c.loop-k.k w.if-ids-k.true w.if-s-p.false)
+          (shown-other a.p.0 a.slots a.ids c.loop-k.k w.if-ids-k.true w.from-s.ensures w.if-s-p.false)
           (rings-same w.ends-is w.entries-is w.carried-is w.numbers-is)
       | else-ids-k w ↦
           expiring-out a.nodes.now a.handles.now a.charges.now a.p.0 here slot_at before a.nh v l

@@ -1,7 +1,5 @@
 -- `notices::falls` meets its contract: each return is one side of the definition's tests. Assumes nothing.
-use borrow.Author.Tests.{not-true, not-false}
 use Rattle.notices.specs.Code.{falls-dead, falls-none, falls-some}
-use borrow.Author.Rules.{rules}
 use Rattle.notices.proofs.falls.Goals as goal
 
 pub returns-then-not-is_live : goal.returns-then-not-is_live

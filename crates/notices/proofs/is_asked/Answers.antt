@@ -1,7 +1,6 @@
 -- `notices::is_asked` meets its contract: each arm is one clause of the definition; a peer that is asked about is one of the eight. Assumes nothing.
 use Rattle.notices.specs.Code.{asks-living, asks-falling, asks-above, fair-falling}
 use native.Mathlib.Omega.{arith}
-use borrow.Author.Rules.{rules}
 use Rattle.notices.proofs.is_asked.Goals as goal
 
 pub falls-requires : goal.falls-requires

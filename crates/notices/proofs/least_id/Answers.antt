@@ -1,11 +1,6 @@
 -- `notices::least_id` meets its contract: the loop's invariant is the place with the least ID among the places passed. Assumes nothing.
-use mathlib.Core.Path.{◌≡◌}
-use Prim.Native.Nat.{◌-◌, ◌≤◌}
-use Rattle.notices.specs.Notices.{least_at}
 use Rattle.notices.specs.Code.{least-none, least-in, least-out, least-all}
 use native.Mathlib.Omega.{arith}
-use borrow.Author.Rules.{rules}
-use Rattle.ids.specs.Sizes.{slots}
 use Rattle.notices.proofs.least_id.Goals as goal
 use Rattle.notices.proofs.least_id.Goals.{then-bit, else-bit}
 
@@ -16,8 +11,8 @@ pub loop-k-preserved : goal.loop-k-preserved
 loop-k-preserved c = (
   omega arith,
   elim c.if-bit.branch [
-    | then-bit w ↦ least-in _ _ _ c.loop-k.k c.loop-k.invariant.1 c.wide.ensures.0 c.bit.ensures w.if-bit.true w.lower-found.ensures w.found-is
-    | else-bit w ↦ least-out _ _ _ c.loop-k.k c.loop-k.invariant.1 c.wide.ensures.0 c.bit.ensures w.if-bit.false w.found-is
+    | then-bit w ↦ least-in _ _ _ c.loop-k.k c.loop-k.invariant.1 c.from.ensures c.bit.ensures w.if-bit.true w.lower-found.ensures w.found-is
+    | else-bit w ↦ least-out _ _ _ c.loop-k.k c.loop-k.invariant.1 c.from.ensures c.bit.ensures w.if-bit.false w.found-is
   ],
 )
 

@@ -1,6 +1,5 @@
 -- `notices::lower` meets its contract: each return is one clause of the definition, or one side of its test. Assumes nothing.
 use Rattle.notices.specs.Code.{lower-first, lower-new, lower-old}
-use borrow.Author.Rules.{rules}
 use Rattle.notices.proofs.lower.Goals as goal
 
 pub returns-in_default : goal.returns-in_default

@@ -1,14 +1,6 @@
 -- `notices::tell_owners` meets its contract: the loop's invariant is the rings after the owners passed are told. Assumes nothing.
-use Prim.Native.Nat.{◌-◌}
 use Rattle.rings.specs.Rings.{rings_of}
-use Rattle.notices.specs.Code.{Owning, owning-start, owning-next, owning-all}
-use Rattle.ids.specs.Sizes.{peers}
-use native.Mathlib.Omega.{arith}
-use borrow.Author.Rules.{rules}
-use Rattle.notices.proofs.tell_owners.Reads as reads
-use Rattle.notices.proofs.tell_owners.Lts as lts
-use Rattle.notices.proofs.set_of.Reads as set-of-reads
-use Rattle.notices.proofs.tell.Reads as tell-reads
+use Rattle.notices.specs.Code.{owning-start, owning-next, owning-all}
 use Rattle.notices.proofs.tell_owners.Goals as goal
 
 pub loop-q-init : goal.loop-q-init
