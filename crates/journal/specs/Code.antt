@@ -1,6 +1,6 @@
 -- One law for each return of a command with a journal, over plain variables.
 -- Assumes nothing.
-use Rattle.std.specs.Prelude.{ℕ, ◌+◌, ◌*◌, ◌-◌, ◌≤◌, ◌<◌, ◌≡◌, Bool, true, List, [], ltb}
+use Rattle.std.specs.Prelude.{ℕ, ◌+◌, ◌*◌, ◌-◌, ◌≤◌, ◌<◌, ◌≡◌, Bool, true, List, [], ltb, Option, Some, None}
 use Rattle.std.proofs.Math.Path.{refl, sym}
 use Rattle.std.proofs.Common.{ap, ◌∙◌, lt-ltb, le-ltb}
 use Rattle.std.proofs.Math.Bool.{false}
@@ -12,8 +12,6 @@ use Rattle.frames.specs.declared.Parsed.{Parsed}
 use Rattle.frames.specs.declared.Parsed.TheVariants.{Read, Refused}
 use Rattle.frames.specs.Frame.{parse}
 use Rattle.lines.specs.Line.{room_for, lines_after, line_written}
-use Rattle.lines.specs.declared.Written.{Written}
-use Rattle.lines.specs.declared.Written.TheVariants.{Next, Full}
 use Rattle.answers.specs.declared.Answer.{Answer}
 use Rattle.answers.specs.declared.Answer.TheVariants.{Refused as is_refused}
 use Rattle.answers.specs.declared.Outcome.{Outcome}
@@ -33,15 +31,15 @@ use Rattle.journal_model.specs.declared.JournalOutcome.{JournalOutcome}
 abbrev Wrote : Answer → List ℕ → Outcome → List ℕ → Type 0
 Wrote a out o out' = (o ≡ outcome_of a [] [] out) × (out' ≡ answer_after a [] [] out)
 
-abbrev is_full : Written → Bool
-is_full Full = true
-is_full (Next n) = false
+abbrev is_full : Option ℕ → Bool
+is_full None = true
+is_full (Some n) = false
 
-abbrev place_of : Written → ℕ
-place_of Full = 0
-place_of (Next n) = n
+abbrev place_of : Option ℕ → ℕ
+place_of None = 0
+place_of (Some n) = n
 
-full-room : (j f : List ℕ) (u : ℕ) → line_written j u f ≡ Full → room_for j u f ≡ false
+full-room : (j f : List ℕ) (u : ℕ) → line_written j u f ≡ None → room_for j u f ≡ false
 unfolding line_written
 full-room j f u e = go (look (room_for j u f))
   where
@@ -49,7 +47,7 @@ full-room j f u e = go (look (room_for j u f))
     go (is_false r) = r
     go (is_true r) = clash (sym (ap is_full (rw r at e)))
 
-next-room : (j f : List ℕ) (u n : ℕ) → line_written j u f ≡ Next n → (room_for j u f ≡ true) × (n ≡ u + (2 * length f + 1))
+next-room : (j f : List ℕ) (u n : ℕ) → line_written j u f ≡ Some n → (room_for j u f ≡ true) × (n ≡ u + (2 * length f + 1))
 unfolding line_written
 next-room j f u n e = go (look (room_for j u f))
   where
@@ -59,10 +57,10 @@ next-room j f u n e = go (look (room_for j u f))
 
 -- The line appended.
 module _ (j f : List ℕ) (u : ℕ) (o : Order) {t : Bool} (e : t ≡ changing o) where
-  pub append-none : t ≡ false → (Next u ≡ append_written o j u f) × (j ≡ journal_after o j u f)
+  pub append-none : t ≡ false → (Some u ≡ append_written o j u f) × (j ≡ journal_after o j u f)
   append-none n = (rw (← e, n) refl, rw (← e, n) refl)
 
-  pub append-written : t ≡ true → {w : Written} {j' : List ℕ} → (w ≡ line_written j u f) × (j' ≡ lines_after j u f) → (w ≡ append_written o j u f) × (j' ≡ journal_after o j u f)
+  pub append-written : t ≡ true → {w : Option ℕ} {j' : List ℕ} → (w ≡ line_written j u f) × (j' ≡ lines_after j u f) → (w ≡ append_written o j u f) × (j' ≡ journal_after o j u f)
   append-written y h = (rw (← e, y) h.0, rw (← e, y) h.1)
 
 -- The order carried out, by what came of the line.
@@ -72,38 +70,38 @@ module _ (b : Bus) (f out j : List ℕ) (u : ℕ) {r s : Ruling} (e : r ≡ s) {
   unfolding executed_with
   executed-alone n d ek = rw (← e, ← et, n, ek) (ap (λ (x : Done). with_journal x j u) d)
 
-  module _ (y : t ≡ true) {w : Written} (ew : w ≡ line_written j u f) {j' : List ℕ} (ej : j' ≡ lines_after j u f) where
-    executed-full : w ≡ Full → {o : Outcome} {out' : List ℕ} → Wrote (is_refused EFBIG) out o out' → {k : JournalOutcome} → k ≡ outcome_with o u → returned_with k b out' j' ≡ executed_with b f out s j u
+  module _ (y : t ≡ true) {w : Option ℕ} (ew : w ≡ line_written j u f) {j' : List ℕ} (ej : j' ≡ lines_after j u f) where
+    executed-full : w ≡ None → {o : Outcome} {out' : List ℕ} → Wrote (is_refused EFBIG) out o out' → {k : JournalOutcome} → k ≡ outcome_with o u → returned_with k b out' j' ≡ executed_with b f out s j u
     unfolding executed_with lines_after
     executed-full q wr ek =
         let z : room_for j u f ≡ false = full-room j f u (sym ew ∙ q) in
         let jj : j' ≡ j = ej ∙ rw z refl in
         rw (← e, ← et, y, z, jj, ek, wr.0, wr.1) refl
 
-    executed-next : {n : ℕ} → w ≡ Next n → {o : Outcome} {b' : Bus} {out' : List ℕ} → done_of o b' out' ≡ carried_out b f out r → {k : JournalOutcome} → k ≡ outcome_with o n →
+    executed-next : {n : ℕ} → w ≡ Some n → {o : Outcome} {b' : Bus} {out' : List ℕ} → done_of o b' out' ≡ carried_out b f out r → {k : JournalOutcome} → k ≡ outcome_with o n →
         returned_with k b' out' j' ≡ executed_with b f out s j u
     unfolding executed_with
     executed-next {n = n} q d ek =
         let z = next-room j f u n (sym ew ∙ q) in
         rw (← e, ← et, y, z.0, ek, ← ej, z.1) (ap (λ (x : Done). with_journal x j' (u + (2 * length f + 1))) d)
 
-module _ (b : Bus) (f out j : List ℕ) (u : ℕ) {r s : Ruling} (e : r ≡ s) {w : Written} {j' : List ℕ} (a : (w ≡ append_written r.order j u f) × (j' ≡ journal_after r.order j u f)) where
-  pub execute-full : w ≡ Full → {o : Outcome} {out' : List ℕ} → Wrote (is_refused EFBIG) out o out' → {k : JournalOutcome} → k ≡ outcome_with o u →
+module _ (b : Bus) (f out j : List ℕ) (u : ℕ) {r s : Ruling} (e : r ≡ s) {w : Option ℕ} {j' : List ℕ} (a : (w ≡ append_written r.order j u f) × (j' ≡ journal_after r.order j u f)) where
+  pub execute-full : w ≡ None → {o : Outcome} {out' : List ℕ} → Wrote (is_refused EFBIG) out o out' → {k : JournalOutcome} → k ≡ outcome_with o u →
       returned_with k b out' j' ≡ executed_with b f out s j u
   execute-full q {out' = out'} wr {k = k} ek = go (look (changing r.order))
     where
       go : Seen (changing r.order) → returned_with k b out' j' ≡ executed_with b f out s j u
       go (is_true t) = executed-full b f out j u e refl t (a.0 ∙ rw t refl) (a.1 ∙ rw t refl) q wr ek
-      go (is_false t) = let z : w ≡ Next u = a.0 ∙ rw t refl in clash (ap is_full (sym q ∙ z))
+      go (is_false t) = let z : w ≡ Some u = a.0 ∙ rw t refl in clash (ap is_full (sym q ∙ z))
 
-  pub execute-next : {n : ℕ} → w ≡ Next n → {o : Outcome} {b' : Bus} {out' : List ℕ} → done_of o b' out' ≡ carried_out b f out r → {k : JournalOutcome} → k ≡ outcome_with o n →
+  pub execute-next : {n : ℕ} → w ≡ Some n → {o : Outcome} {b' : Bus} {out' : List ℕ} → done_of o b' out' ≡ carried_out b f out r → {k : JournalOutcome} → k ≡ outcome_with o n →
       returned_with k b' out' j' ≡ executed_with b f out s j u
   execute-next {n = n} q {o = o} {b' = b'} {out' = out'} d {k = k} ek = go (look (changing r.order))
     where
       go : Seen (changing r.order) → returned_with k b' out' j' ≡ executed_with b f out s j u
       go (is_true t) = executed-next b f out j u e refl t (a.0 ∙ rw t refl) (a.1 ∙ rw t refl) q d ek
       go (is_false t) =
-          let y : w ≡ Next u = a.0 ∙ rw t refl in
+          let y : w ≡ Some u = a.0 ∙ rw t refl in
           let z : n ≡ u = ap place_of (sym q ∙ y) in
           let i : j' ≡ j = a.1 ∙ rw t refl in
           rw i (executed-alone b f out j u e refl t d (ek ∙ ap (outcome_with o) z))

@@ -18,7 +18,6 @@ use frames::{Command, Parsed};
 use ids::{ANSWER_SIZE, EFBIG, EINVAL, EIO};
 use journal_model::JournalOutcome;
 use judges::Order;
-use lines::Written;
 
 fn with_used(o: Outcome, used: usize) -> JournalOutcome
     ensures { result ≡ outcome_with o used }
@@ -43,12 +42,12 @@ fn is_change(order: Order) -> bool
 }
 
 // The line of a command whose order changes the bus, appended to the journal; a refusal and a question are not kept.
-fn append_line(journal: &mut [u8], used: usize, f: &[u8], order: Order) -> Written
+fn append_line(journal: &mut [u8], used: usize, f: &[u8], order: Order) -> Option<usize>
     ensures { (result ≡ append_written order journal.old used f.now)
         × (journal.new ≡ journal_after order journal.old used f.now) }
 {
     if !is_change(order) {
-        return Written::Next(used);
+        return Some(used);
     }
     lines::write_line(journal, used, f)
 }
@@ -85,7 +84,7 @@ fn execute(
 {
     let r = judges::judge(ps, ns, hs, cs, ends, es, carried, numbers, seeds, f, c);
     let order = r.order;
-    let Written::Next(next) = append_line(journal, used, f, order) else {
+    let Some(next) = append_line(journal, used, f, order) else {
         return with_used(answers::write_refusal(out, EFBIG), used);
     };
     let o = execution::carry_out(

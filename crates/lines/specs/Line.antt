@@ -1,14 +1,12 @@
 -- Document 01, "Commands, one frame a line": lines of lowercase hexadecimal ended by LF, what is refused, and the place of the first fault.
 -- Assumes nothing.
-use Rattle.std.specs.Prelude.{ℕ, zero, suc, ◌+◌, ◌*◌, ◌-◌, ◌/◌, ◌%◌, min, Bool, true, false, not, ◌&&◌, List, [], ◌∷◌, ◌++◌, length, get_or, take, drop, eqb, ltb, leb}
+use Rattle.std.specs.Prelude.{ℕ, zero, suc, ◌+◌, ◌*◌, ◌-◌, ◌/◌, ◌%◌, min, Bool, true, false, not, ◌&&◌, List, [], ◌∷◌, ◌++◌, length, get_or, take, drop, eqb, ltb, leb, Option, Some, None}
 use Rattle.std.proofs.lemmas.List.Edits.{sets}
 use Rattle.laws.specs.Tests.{pick}
 use Rattle.laws.specs.Search.{first}
 use Rattle.laws.specs.Build.{build}
 use Rattle.lines.specs.declared.LineRead.{LineRead}
 use Rattle.lines.specs.declared.LineRead.TheVariants.{Frame, Bad, Piece}
-use Rattle.lines.specs.declared.Written.{Written}
-use Rattle.lines.specs.declared.Written.TheVariants.{Next, Full}
 
 -- LF.
 abbrev pub lf : ℕ
@@ -86,8 +84,8 @@ answer_line a = digits_of a ++ (lf ∷ [])
 abbrev pub room_for : List ℕ → ℕ → List ℕ → Bool
 room_for o at a = leb (at + (2 * length a + 1)) (length o)
 
-unfoldable pub line_written : List ℕ → ℕ → List ℕ → Written
-line_written o at a = pick (room_for o at a) (Next (at + (2 * length a + 1))) Full
+unfoldable pub line_written : List ℕ → ℕ → List ℕ → Option ℕ
+line_written o at a = pick (room_for o at a) (Some (at + (2 * length a + 1))) None
 
 unfoldable pub lines_after : List ℕ → ℕ → List ℕ → List ℕ
 lines_after o at a = pick (room_for o at a) (sets o at (answer_line a)) o

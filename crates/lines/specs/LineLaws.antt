@@ -1,7 +1,7 @@
 -- Laws of lines: what the code's loops add up to, and the first line of an input by its fault's place.
 -- Assumes nothing.
 use Prim.Native.Nat.{ℕ, zero, suc, ◌+◌, ◌*◌, ◌-◌, ◌/◌, ◌%◌, ◌≤◌, ◌<◌, min}
-use Rattle.std.specs.Prelude.{◌≡◌, Bool, true, false, not, ◌&&◌, List, [], ◌∷◌, ◌++◌, get_or, set, take, drop, eqb, ltb, leb}
+use Rattle.std.specs.Prelude.{◌≡◌, Bool, true, false, not, ◌&&◌, List, [], ◌∷◌, ◌++◌, get_or, set, take, drop, eqb, ltb, leb, Some, None}
 use Rattle.std.proofs.Math.Path.{refl, sym}
 use Rattle.std.proofs.Common.{ap, ◌∙◌, add-one, arith, length-append, length-drop, drop_of_length-le, take-suc, length-take-le, get_or-take, get_or-drop, ext_get_or}
 use Rattle.std.proofs.Math.ListN.{length, length-take}
@@ -16,7 +16,6 @@ use Rattle.laws.specs.Stores.{sets-append, over}
 use Rattle.lines.specs.Line.{lf, most_digits, most_carried, is_digit, digits_from, fault_place, line_length, digit_value, pair_at, line_read, read_line, after_read, frame_after, digit_of, digits_of, answer_line, room_for, line_written, lines_after, carried_of}
 use Rattle.lines.specs.declared.LineRead.{LineRead}
 use Rattle.lines.specs.declared.LineRead.TheVariants.{Frame, Bad, Piece}
-use Rattle.lines.specs.declared.Written.TheVariants.{Next, Full}
 
 -- a character that is no digit
 abbrev pub bad_at : List ℕ → ℕ → Bool
@@ -229,12 +228,12 @@ room-same n at m h = go (look (leb m ((n - at - 1) / 2)))
     go (is_true e) = let l = leb-true m ((n - at - 1) / 2) e in e ∙ sym (le-leb (at + (2 * m + 1)) n (omega arith))
     go (is_false e) = let l = leb-false m ((n - at - 1) / 2) e in e ∙ sym (lt-leb (at + (2 * m + 1)) n (omega arith))
 
-pub write-full : (o a : List ℕ) (at : ℕ) {r : Bool} → r ≡ room_for o at a → r ≡ false → (Full ≡ line_written o at a) × (o ≡ lines_after o at a)
+pub write-full : (o a : List ℕ) (at : ℕ) {r : Bool} → r ≡ room_for o at a → r ≡ false → (None ≡ line_written o at a) × (o ≡ lines_after o at a)
 unfolding line_written lines_after
 write-full o a at e f = let z : room_for o at a ≡ false = sym e ∙ f in (rw z, rw z)
 
 pub write-next : (o l a : List ℕ) (at : ℕ) {r : Bool} → r ≡ room_for o at a → r ≡ true → l ≡ sets o at (digits_of a) →
-    (Next (at + 2 * length a + 1) ≡ line_written o at a) × (set l (at + 2 * length a) lf ≡ lines_after o at a)
+    (Some (at + 2 * length a + 1) ≡ line_written o at a) × (set l (at + 2 * length a) lf ≡ lines_after o at a)
 unfolding line_written lines_after
 write-next o l a at e f h =
     let z : room_for o at a ≡ true = sym e ∙ f in

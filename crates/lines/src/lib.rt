@@ -24,13 +24,6 @@ pub enum LineRead {
     Piece(usize),
 }
 
-// Where the next answer line goes, or that the buffer had no room for this one.
-#[derive(Clone, Copy)]
-pub enum Written {
-    Next(usize),
-    Full,
-}
-
 fn is_digit(c: u8) -> bool
     ensures { result ≡ is_digit c }
 {
@@ -170,17 +163,18 @@ fn put_digits(out: &mut [u8], at: usize, bytes: &[u8])
     }
 }
 
-// Writes the line of an answer into the buffer from `at` on, whole or not at all.
-pub fn write_line(out: &mut [u8], at: usize, answer: &[u8]) -> Written
+// Writes the line of an answer into the buffer from `at` on, whole or not at all. Where the next answer line goes, or none
+// where the buffer had no room for this one.
+pub fn write_line(out: &mut [u8], at: usize, answer: &[u8]) -> Option<usize>
     ensures { (result ≡ line_written out.old at answer.now) × (out.new ≡ lines_after out.old at answer.now) }
 {
     if !has_room(out.len(), at, answer.len()) {
-        return Written::Full;
+        return None;
     }
     put_digits(out, at, answer);
     let end = at + 2 * answer.len();
     out[end] = LF;
-    Written::Next(end + 1)
+    Some(end + 1)
 }
 
 // Moves what is left of a chunk, from `at` up to `end`, to the front of the buffer, at most 1,293 characters of it, and

@@ -3,7 +3,6 @@
 use Rattle.std.specs.Prelude.{ℕ, zero, suc, ◌+◌, Bool, true, false, List, [], take, drop}
 use Rattle.laws.specs.Tests.{pick}
 use Rattle.lines.specs.Line.{read_line, frame_after}
-use Rattle.lines.specs.declared.Written.TheVariants.{Next}
 use Rattle.lines.specs.declared.LineRead.{LineRead}
 use Rattle.lines.specs.declared.LineRead.TheVariants.{Frame, Bad, Piece}
 use Rattle.view.specs.View.{Bus}

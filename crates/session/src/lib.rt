@@ -13,7 +13,7 @@ ghost use Rattle.view.specs.View.{bus_of};
 ghost use Rattle.session.specs.Session.{longest, Served, Stopped, Put, PutRead, Holds, used_by, Turned, goes_on};
 
 use ids::{ANSWER_SIZE, EINVAL, FRAME_SIZE};
-use lines::{LineRead, Written};
+use lines::LineRead;
 
 // The longest answer line: the digits of 591 bytes, and its LF.
 const LONGEST: usize = 2 * ANSWER_SIZE + 1;
@@ -26,8 +26,8 @@ fn put_line(text: &mut [u8], at: usize, bytes: &[u8]) -> usize
         × (result ≡ at + (2 * length bytes.now + 1)) }
 {
     match lines::write_line(text, at, bytes) {
-        Written::Next(next) => next,
-        Written::Full => at,
+        Some(next) => next,
+        None => at,
     }
 }
 

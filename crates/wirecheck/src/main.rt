@@ -19,7 +19,7 @@ ghost use Rattle.std.specs.Prelude.{◌≡◌, ◌+◌, ◌≤◌, length};
 use answers::{Answer, Header, Received};
 use frames::{Command, Parsed};
 use ids::{HandleId, Peer, User};
-use lines::{LineRead, Written};
+use lines::LineRead;
 use quota::{Charge, Charges};
 use std::io::Read;
 
@@ -158,7 +158,7 @@ fn ids_shown(answer: Answer) -> usize
 // Writes an answer line. A write that failed is not told of.
 fn say(rt: &impl Print, bytes: &[u8]) {
     let mut line = [0u8; 1184];
-    let Written::Next(n) = lines::write_line(&mut line, 0, bytes) else {
+    let Some(n) = lines::write_line(&mut line, 0, bytes) else {
         return;
     };
     let end = copies::least(n, 1184);

@@ -21,4 +21,4 @@ pub shape_of-journal : goal.shape_of-journal
 shape_of-journal c = omega (arith, c.append_line.auto.journal)
 
 pub returns : goal.returns
-returns c = execute-next _ _ _ _ _ c.judge-r.ensures c.append_line.ensures c.in-Next.is c.carry_out-o.ensures c.with_used-2.ensures
+returns c = execute-next _ _ _ _ _ c.judge-r.ensures c.append_line.ensures c.in-Some.is c.carry_out-o.ensures c.with_used-2.ensures
