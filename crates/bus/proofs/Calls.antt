@@ -1,7 +1,6 @@
 -- Runs of calls of the code: of each call nothing is known but what the function's own contract ensures, and the buffers go from call to call. Such a run is a run of the
 -- definitions (Ran), so everything that holds of those holds of the calls: each number and each answer buffer is the model's, byte for byte.
 -- Assumes nothing.
-use Prim.Native.Nat.{ℕ, ◌≤◌, ◌<◌}
 use mathlib.Core.Path.{◌≡◌, refl, sym, ap, ap₂, ◌∙◌}
 use mathlib.Core.Bool.{Bool, true}
 use mathlib.Core.List.{List, [], ◌∷◌, ◌++◌, map, append_assoc, append-nil}

@@ -2,7 +2,7 @@
 
 #![tactic(auto)]
 
-ghost use Rattle.std.specs.Prelude.{◌≡◌, ◌<◌, ◌≤◌, length, replicate};
+ghost use Rattle.std.specs.Prelude.{◌≡◌, ◌<◌, ◌≤◌, length};
 ghost use Rattle.answers.specs.Answer.{answer_size};
 ghost use Rattle.frames.specs.Legal.{Legal};
 ghost use Rattle.view.specs.View.{bus_of, Shape};
@@ -24,6 +24,7 @@ use ids::{
 const RING_ROWS: u16 = RING as u16;
 
 // Have the bus buffers their lengths?
+#[tactic(auto, unfolding(bus_model::specs::Command::sized_ok))]
 fn sized(
     peers: &[u64],
     nodes: &[u64],
@@ -40,55 +41,30 @@ fn sized(
         ends.now entries.now carried.now numbers.now pool.now seeds.now in
         result ≡ sized_ok bus }
 {
-    if peers.len() != PEERS_SIZE {
-        return false;
-    }
-    if nodes.len() != NODES_SIZE {
-        return false;
-    }
-    if handles.len() != HANDLES_SIZE {
-        return false;
-    }
-    if charges.len() != CHARGES_SIZE {
-        return false;
-    }
-    if ends.len() != ENDS_SIZE {
-        return false;
-    }
-    if entries.len() != ENTRIES_SIZE {
-        return false;
-    }
-    if carried.len() != CARRIED_SIZE {
-        return false;
-    }
-    if numbers.len() != NUMBERS_SIZE {
-        return false;
-    }
-    if pool.len() != POOL_SIZE {
-        return false;
-    }
-    seeds.len() == SEEDS_SIZE
+    peers.len() == PEERS_SIZE
+        && nodes.len() == NODES_SIZE
+        && handles.len() == HANDLES_SIZE
+        && charges.len() == CHARGES_SIZE
+        && ends.len() == ENDS_SIZE
+        && entries.len() == ENTRIES_SIZE
+        && carried.len() == CARRIED_SIZE
+        && numbers.len() == NUMBERS_SIZE
+        && pool.len() == POOL_SIZE
+        && seeds.len() == SEEDS_SIZE
 }
 
 // Are the numbers of a peer in their ranges?
+#[tactic(auto, unfolding(bus_model::specs::Command::peer_ok))]
 fn peer_in_range(peers: &[u64], ends: &[u16], p: usize) -> bool
     requires { (length peers.now ≡ peers_size) × (length ends.now ≡ ends_size) × (p < peer_count) }
     ensures { result ≡ peer_ok peers.now ends.now p }
 {
     let at = 1 + PEER_FIELDS * p;
-    if 2 < peers[at] {
-        return false;
-    }
-    if 3 < peers[at + 1] {
-        return false;
-    }
-    if GIVEN_END <= peers[at + 2] {
-        return false;
-    }
-    if RING_ROWS <= ends[p * END_FIELDS] {
-        return false;
-    }
-    ends[p * END_FIELDS + 1] <= RING_ROWS
+    peers[at] <= 2
+        && peers[at + 1] <= 3
+        && peers[at + 2] < GIVEN_END
+        && ends[p * END_FIELDS] < RING_ROWS
+        && ends[p * END_FIELDS + 1] <= RING_ROWS
 }
 
 // Are the numbers that steer everything in their ranges?
@@ -96,17 +72,16 @@ fn in_range(peers: &[u64], ends: &[u16]) -> bool
     requires { (length peers.now ≡ peers_size) × (length ends.now ≡ ends_size) }
     ensures { result ≡ ranges_ok peers.now ends.now }
 {
-    let mut p = 0;
-    while p < PEERS {
+    for p in 0..PEERS {
         if !peer_in_range(peers, ends, p) {
             return false;
         }
-        p += 1;
     }
     peers[0] < ACCEPTED_END
 }
 
 // Have the buffers their lengths and their numbers their ranges?
+#[tactic(auto, unfolding(bus_model::specs::Command::sound_ok))]
 pub fn is_sound(
     peers: &[u64],
     nodes: &[u64],
@@ -123,12 +98,9 @@ pub fn is_sound(
         ends.now entries.now carried.now numbers.now pool.now seeds.now in
         result ≡ sound_ok bus }
 {
-    if !sized(
+    sized(
         peers, nodes, handles, charges, ends, entries, carried, numbers, pool, seeds,
-    ) {
-        return false;
-    }
-    in_range(peers, ends)
+    ) && in_range(peers, ends)
 }
 
 // From here to `obey` the tables peers, nodes, handles and charges are ps, ns, hs and cs, and the frame is f, as in the
@@ -202,6 +174,7 @@ fn obey(
 
 // One command. Its answer is written into the answer buffer; the number, 0 or the refusal, and the answer's length come
 // back.
+#[tactic(auto, unfolding(bus_model::specs::Command::command_of))]
 pub fn command(
     peers: &mut [u64],
     nodes: &mut [u64],
@@ -233,36 +206,6 @@ pub fn command(
     )
 }
 
-fn clear_words(t: &mut [u64])
-    ensures { t.new ≡ replicate (length t.old) 0 }
-{
-    let mut i = 0;
-    while i < t.len() {
-        t[i] = 0;
-        i += 1;
-    }
-}
-
-fn clear_shorts(t: &mut [u16])
-    ensures { t.new ≡ replicate (length t.old) 0 }
-{
-    let mut i = 0;
-    while i < t.len() {
-        t[i] = 0;
-        i += 1;
-    }
-}
-
-fn clear_bytes(t: &mut [u8])
-    ensures { t.new ≡ replicate (length t.old) 0 }
-{
-    let mut i = 0;
-    while i < t.len() {
-        t[i] = 0;
-        i += 1;
-    }
-}
-
 // A fresh bus, no peer opened. The number is 0, or 5 where a buffer lacks its length: then nothing is written.
 pub fn fresh(
     peers: &mut [u64],
@@ -287,15 +230,15 @@ pub fn fresh(
     ) {
         return EIO;
     }
-    clear_words(peers);
-    clear_words(nodes);
-    clear_words(handles);
-    clear_shorts(charges);
-    clear_shorts(ends);
-    clear_shorts(entries);
-    clear_bytes(carried);
-    clear_words(numbers);
-    clear_bytes(pool);
-    clear_bytes(seeds);
+    peers.fill(0);
+    nodes.fill(0);
+    handles.fill(0);
+    charges.fill(0);
+    ends.fill(0);
+    entries.fill(0);
+    carried.fill(0);
+    numbers.fill(0);
+    pool.fill(0);
+    seeds.fill(0);
     0
 }

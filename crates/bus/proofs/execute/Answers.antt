@@ -1,6 +1,5 @@
 -- `bus::execute` meets its contract: what is judged is fair, and it is carried out. Assumes nothing.
 use Rattle.bus.specs.Code.{fair-ruling, executed}
-use borrow.Author.Rules.{rules}
 use Rattle.bus.proofs.execute.Goals as goal
 
 pub judge-r-requires : goal.judge-r-requires

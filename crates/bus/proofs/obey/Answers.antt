@@ -1,9 +1,7 @@
 -- `bus::obey` meets its contract: one law for each return, in the order of the tests. Assumes nothing.
 use mathlib.Core.Path.{sym, ◌∙◌}
-use borrow.Author.Tests.{not-true, not-false}
 use Rattle.frames.proofs.Legal.{legal-command}
 use Rattle.bus.specs.Code.{not_sound, not-read, was_read, sound-then}
-use borrow.Author.Rules.{rules}
 use Rattle.bus.proofs.obey.Goals as goal
 
 pub returns-then-not-is_sound : goal.returns-then-not-is_sound
