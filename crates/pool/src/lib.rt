@@ -8,9 +8,10 @@ ghost use Rattle.rings.specs.Rings.{peers, ring_size, rings_of, QueueTables, len
 ghost use Rattle.pool.specs.Pool.{area_size, pool_size, piece_of, appended, closed, bytes_in, kept, kept_piece, kept_pieces};
 
 use ids::{AREA, Peer};
-use rings::{Entry, Match};
+use rings::{DESTROYED, Entry, Match, RELEASED};
 
 // The n bytes from a place of a peer's area on.
+#[tactic(auto, unfolding(crate::specs::Pool::piece_of))]
 pub fn piece(pool: &[u8], p: Peer, at: usize, n: usize) -> &[u8]
     requires { (length pool.now ≡ pool_size) × (p.0 < peers) × (at + n ≤ area_size) }
     ensures { result.now ≡ piece_of pool.now p.0 at n }
@@ -20,6 +21,7 @@ pub fn piece(pool: &[u8], p: Peer, at: usize, n: usize) -> &[u8]
 }
 
 // A payload stored behind the bytes that a peer's area uses.
+#[tactic(auto, unfolding(crate::specs::Pool::appended))]
 pub fn append(pool: &mut [u8], p: Peer, used: usize, bytes: &[u8])
     requires { (p.0 < peers) × (used ≤ area_size) }
     ensures { pool.new ≡ appended pool.old p.0 used bytes.now }
@@ -28,6 +30,7 @@ pub fn append(pool: &mut [u8], p: Peer, used: usize, bytes: &[u8])
 }
 
 // The n bytes from a place on taken out of those used: what stands behind them moves down.
+#[tactic(auto, unfolding(crate::specs::Pool::closed, crate::specs::Pool::piece_of))]
 pub fn close(pool: &mut [u8], p: Peer, at: usize, n: usize, used: usize)
     requires { (p.0 < peers) × (at + n ≤ used) × (used ≤ area_size) }
     ensures { pool.new ≡ closed pool.old p.0 at n used }
@@ -37,19 +40,18 @@ pub fn close(pool: &mut [u8], p: Peer, at: usize, n: usize, used: usize)
 }
 
 // The payload bytes of an entry: a notice has none.
+#[tactic(auto, unfolding(crate::specs::Pool::bytes_in))]
 fn bytes_in(e: Entry) -> usize
     ensures { (result ≡ bytes_in e) × (result < 65536) }
 {
-    if e.kind == rings::DESTROYED {
-        return 0;
+    match e.kind {
+        DESTROYED | RELEASED => 0,
+        _ => usize::from(e.nb),
     }
-    if e.kind == rings::RELEASED {
-        return 0;
-    }
-    e.nb as usize
 }
 
 // The payload of one entry moves behind those that stay, unless the entry is taken out. The place behind those that stay now.
+#[tactic(auto, unfolding(crate::specs::Pool::kept_piece, crate::specs::Pool::piece_of))]
 fn keep_piece(pool: &mut [u8], p: Peer, read: usize, at: usize, e: Entry, m: Match) -> usize
     requires { (p.0 < peers) × (at ≤ read) × (read ≤ ring_size * 65535) }
     ensures { kept result pool.new ≡ kept_piece pool.old p.0 read at m e }
@@ -79,15 +81,13 @@ pub fn remove(
 {
     let head = rings::head_of(ends, p);
     let len = rings::len_of(ends, p);
-    let mut i = 0;
     let mut read = 0;
     let mut stays = 0;
-    while i < len {
+    for i in 0..len {
         let row = rings::row_of(p, head, i);
         let e = rings::get_entry(entries, carried, numbers, row);
         stays = keep_piece(pool, p, read, stays, e, m);
         read += bytes_in(e);
-        i += 1;
     }
     stays
 }

@@ -1,4 +1,4 @@
--- `pool::remove` meets its contract: after each turn what is left to do gives what the whole gives; the measure is what is left to read. Assumes nothing.
+-- `pool::remove` meets its contract: after each turn what is left to do gives what the whole gives. Assumes nothing.
 use native.Mathlib.Omega.{arith}
 use Rattle.rings.specs.Rings.{rings_of}
 use Rattle.pool.specs.Removal.{moving-start, moving-turn, moving-done}
@@ -16,7 +16,7 @@ keep_piece-stays-requires c =
 pub loop-i-preserved : goal.loop-i-preserved
 loop-i-preserved c =
     let a = c.args in
-    moving-turn (rings_of a.ends.now a.entries.now a.carried.now a.numbers.now) c.loop-i.invariant c.head_of-head.ensures.0 c.len_of-len.ensures.0 c.loop-i-test.true c.row_of-row.ensures.0 c.get_entry-e.ensures c.keep_piece-stays.ensures c.bytes_in-read.ensures.0 c.bytes_in-read.ensures.1
+    moving-turn (rings_of a.ends.now a.entries.now a.carried.now a.numbers.now) c.loop-i.invariant c.head_of-head.ensures.0 c.len_of-len.ensures.0 (omega arith) c.row_of-row.ensures.0 c.get_entry-e.ensures c.keep_piece-stays.ensures c.bytes_in-read.ensures.0 c.bytes_in-read.ensures.1
 
 pub shape_of-pool : goal.shape_of-pool
 shape_of-pool c = c.loop-i.invariant.size
