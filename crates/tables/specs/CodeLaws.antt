@@ -16,13 +16,18 @@ use Rattle.std.proofs.Math.Seq.{paste, get_or-set_other}
 use Rattle.std.proofs.lemmas.List.{get_or-drop, get_or-replicate, length-take, length-drop, length-replicate}
 use Rattle.std.proofs.lemmas.List.Edits.{paste_none, paste_more}
 use Rattle.std.proofs.lemmas.Slice.{put_mid-paste}
+use Rattle.std.specs.Option.{option_map}
+use Rattle.std.proofs.lemmas.Option.{none-some}
+use Rattle.std.proofs.lemmas.Bool.{eqb-false}
+use Rattle.std.proofs.Common.{ltb, ltb-true, eqb-true}
 use borrow.Rule.Slice.PartMut.{put_mid}
 use borrow.Author.Tests.{ne_eqb, eq-eqb, lt-ltb, le-ltb, le-leb, lt-leb}
-use Rattle.laws.specs.Tests.{pick}
+use Rattle.laws.specs.Tests.{pick, Seen, Seen.is_true, Seen.is_false, look}
 use Rattle.laws.specs.Sums.{sum_to}
 use Rattle.laws.specs.Search.{first, first-is}
 use Rattle.laws.specs.Halving.{halve, halve-down, halve-up, halve-done}
 use Rattle.ids.specs.declared.HandleId.{HandleId}
+use Rattle.tables.specs.declared.Entry.{Entry}
 use Rattle.tables.specs.declared.Status.{Status}
 use Rattle.laws.specs.Build.{build, build-ext, build-list}
 use Rattle.quota.specs.declared.Charge.{Charge}
@@ -31,7 +36,7 @@ use Rattle.quota.specs.Charges.{users, nothing}
 use Rattle.laws.specs.Bits.{bits}
 use Rattle.tables.specs.Peers.{modulus, status_at, refusal_of, standing_at}
 use Rattle.model.specs.Numbers.{nodes}
-use Rattle.tables.specs.Handles.{own_step, handle_row, list_block, length_block, block_size, handles_size, halvings, list_reads, id_at, count_at, has_in, has_at, found_by, found_own, list_length, listed_id, word_at, guess, at_least, place_in, spot, found_among, found_listed, lookup, total_below, total_at, holders_below, holders_at, put_handle, clear_below, clear_peer, enlisted, shifted, taken_out, unlisted, raised, reduced}
+use Rattle.tables.specs.Handles.{own_step, handle_row, list_block, length_block, block_size, handles_size, halvings, list_reads, id_at, count_at, has_in, has_at, found_by, found_own, list_length, listed_id, word_at, guess, guessed, at_least, place_in, spot, found_among, found_listed, entry_of, lookup, total_below, total_at, holders_below, holders_at, put_handle, clear_below, clear_peer, enlisted, shifted, taken_out, unlisted, raised, reduced}
 use Rattle.tables.specs.Charges.{charge_at, charges_at, put_charge, put_below, put_charges}
 use Rattle.ids.specs.Sizes.{peers, slots, handle_fields}
 
@@ -93,16 +98,6 @@ module _ (h : List ℕ) (p i : ℕ) where
   unfolding found_own
   own-nothing before = found_nothing h p i (λ j. p * slots + j) slots before
 
--- find
-module _ (h : List ℕ) (p i : ℕ) {r : Option ℕ} where
-  pub found-own : i % 4 ≡ 0 → r ≡ found_own h p i → r ≡ lookup h p i
-  unfolding lookup
-  found-own e f = rw (eq-eqb (i % 4) 0 e) f
-
-  pub found-listed : (i % 4 ≡ 0 → ⊥) → r ≡ found_listed h p i → r ≡ lookup h p i
-  unfolding lookup
-  found-listed ne f = rw (ne_eqb (i % 4) 0 ne) f
-
 -- place_in
 -- The span in which the place is, with the reads of records that are left for it.
 pub record Halving (h : List ℕ) (p i n r low high c : ℕ) : Type 0 where
@@ -162,38 +157,8 @@ module _ (h : List ℕ) (p i n r : ℕ) where
   pub halving-done : (low high c : ℕ) → Halving h p i n r low high c → high ≤ low → (low ≡ place_in h p i n) × (c ≤ r + halvings)
   halving-done low high c w l = (sym (w.place ∙ halve-done (at_least h p i) (r + halvings - c) low high l), w.last)
 
--- seek_among
-module _ (h : List ℕ) (p i n r : ℕ) {k c : ℕ} (ek : (k ≡ place_in h p i n) × (c ≤ r + halvings)) where
-  pub among-past : n ≤ k → (None ≡ found_among h p i n) × (c ≤ r + (halvings + 1))
-  unfolding found_among
-  among-past l = (rw (← ek.0, le-ltb k n l), omega (arith, ek.1))
-
-  module _ (l : k < n) {v x d : ℕ} (e : (v ≡ listed_id h p k) × (x ≡ word_at h (list_block p) k) × (d ≡ c + 1)) where
-    pub among-other : (v ≡ i → ⊥) → (None ≡ found_among h p i n) × (d ≤ r + (halvings + 1))
-    unfolding found_among
-    among-other ne = (rw (← ek.0, lt-ltb k n l, ← e.0, ne_eqb v i ne), omega (arith, ek.1, e.2))
-
-    pub among-this : v ≡ i → (Some (x % nodes) ≡ found_among h p i n) × (d ≤ r + (halvings + 1))
-    unfolding found_among
-    among-this q = (rw (← ek.0, lt-ltb k n l, ← e.0, eq-eqb v i q, e.1), omega (arith, ek.1, e.2))
-
--- seek_listed
 long : (h : List ℕ) (p : ℕ) {a : ℕ} → a ≡ id_at h length_block p → {n : ℕ} → n ≡ min a nodes → list_length h p ≡ n
 long h p ea en = sym (en ∙ ap (λ (x : ℕ). min x nodes) ea)
-
-module _ (h : List ℕ) (p i r : ℕ) {a v c : ℕ} (e : (a ≡ id_at h length_block p) × (v ≡ word_at h length_block p) × (c ≡ r + 1)) {n : ℕ} (en : n ≡ min a nodes) where
-  pub listed-none : n ≡ 0 → (None ≡ found_listed h p i) × (c ≤ r + list_reads)
-  unfolding found_listed
-  listed-none z = (rw (long h p e.0 en, z), omega (arith, e.2))
-
-  module _ (some : n ≡ 0 → ⊥) {k : ℕ} (ek : (k ≡ guess v i n) × (k < n)) {w y m : ℕ} (f : (w ≡ listed_id h p k) × (y ≡ word_at h (list_block p) k) × (m ≡ c + 1)) where
-    pub listed-there : w ≡ i → (Some (y % nodes) ≡ found_listed h p i) × (m ≤ r + list_reads)
-    unfolding found_listed
-    listed-there q = (rw (long h p e.0 en, ne_eqb n 0 some, ← e.1, ← ek.0, ← f.0, eq-eqb w i q, f.1), omega (arith, e.2, f.2))
-
-    pub listed-else : (w ≡ i → ⊥) → {s : Option ℕ} {o : ℕ} → (s ≡ found_among h p i n) × (o ≤ m + (halvings + 1)) → (s ≡ found_listed h p i) × (o ≤ r + list_reads)
-    unfolding found_listed
-    listed-else q {s} {o} t = (rw (long h p e.0 en, ne_eqb n 0 some, ← e.1, ← ek.0, ← f.0, ne_eqb w i q) t.0, omega (arith, e.2, f.2, t.1))
 
 -- spot
 module _ (h : List ℕ) (p i n : ℕ) {v : ℕ} (e : v ≡ word_at h length_block p) {k : ℕ} (ek : (k ≡ guess v i n) × (k < n)) {w : ℕ} (f : w ≡ listed_id h p k) where
@@ -204,6 +169,84 @@ module _ (h : List ℕ) (p i n : ℕ) {v : ℕ} (e : v ≡ word_at h length_bloc
   spot-else : (w ≡ i → ⊥) → {j : ℕ} → j ≡ place_in h p i n → j ≡ spot h p i n
   unfolding spot
   spot-else q g = rw (← e, ← ek.0, ← f, ne_eqb w i q) g
+
+-- find_entry
+module _ (h : List ℕ) (p i r : ℕ) {a v c : ℕ} (e : (a ≡ id_at h length_block p) × (v ≡ word_at h length_block p) × (c ≡ r + 1)) {n : ℕ} (en : n ≡ min a nodes) where
+  pub entry_none : n ≡ 0 → (None ≡ entry_of h p i) × (c ≤ r + list_reads)
+  unfolding entry_of
+  entry_none z = (rw (long h p e.0 en, z, le-ltb (spot h p i 0) 0 (omega arith)), omega (arith, e.2))
+
+  module _ {g : ℕ} (eg : (g ≡ guess v i n) × (g < n)) {w y m : ℕ} (f : (w ≡ listed_id h p g) × (y ≡ word_at h (list_block p) g) × (m ≡ c + 1)) where
+    pub entry-there : w ≡ i → (Some (record { place = g; slot = y % nodes }) ≡ entry_of h p i) × (m ≤ r + list_reads)
+    unfolding entry_of
+    entry-there q = (rw (long h p e.0 en, ← spot-there h p i n e.1 eg f.0 q, lt-ltb g n eg.1, ← f.0, eq-eqb w i q, f.1), omega (arith, e.2, f.2))
+
+    module _ (other : w ≡ i → ⊥) {k o : ℕ} (ek : (k ≡ place_in h p i n) × (o ≤ m + halvings)) where
+      pub entry-past : n ≤ k → (None ≡ entry_of h p i) × (o ≤ r + list_reads)
+      unfolding entry_of
+      entry-past l = (rw (long h p e.0 en, ← spot-else h p i n e.1 eg f.0 other ek.0, le-ltb k n l), omega (arith, e.2, f.2, ek.1))
+
+      module _ (l : k < n) {u x d : ℕ} (z : (u ≡ listed_id h p k) × (x ≡ word_at h (list_block p) k) × (d ≡ o + 1)) where
+        pub entry-other : (u ≡ i → ⊥) → (None ≡ entry_of h p i) × (d ≤ r + list_reads)
+        unfolding entry_of
+        entry-other q = (rw (long h p e.0 en, ← spot-else h p i n e.1 eg f.0 other ek.0, lt-ltb k n l, ← z.0, ne_eqb u i q), omega (arith, e.2, f.2, ek.1, z.2))
+
+        pub entry-this : u ≡ i → (Some (record { place = k; slot = x % nodes }) ≡ entry_of h p i) × (d ≤ r + list_reads)
+        unfolding entry_of
+        entry-this q = (rw (long h p e.0 en, ← spot-else h p i n e.1 eg f.0 other ek.0, lt-ltb k n l, ← z.0, eq-eqb u i q, z.1), omega (arith, e.2, f.2, ek.1, z.2))
+
+module _ (h : List ℕ) (p i : ℕ) where
+  pub entry-is : {e : Entry} → Some e ≡ entry_of h p i →
+      (e.place ≡ spot h p i (list_length h p)) × (spot h p i (list_length h p) < list_length h p) × (listed_id h p (spot h p i (list_length h p)) ≡ i)
+  unfolding entry_of
+  entry-is {e} q = go (look (ltb k n)) (look (eqb (listed_id h p k) i))
+    where
+      place_of_entry : Option Entry → ℕ
+      place_of_entry (Some x) = x.place
+      place_of_entry None = 0
+
+      n : ℕ
+      n = list_length h p
+
+      k : ℕ
+      k = spot h p i n
+
+      go : Seen (ltb k n) → Seen (eqb (listed_id h p k) i) → (e.place ≡ k) × (k < n) × (listed_id h p k ≡ i)
+      go (is_false x) y = absurd (none-some e (sym (rw x at q)))
+      go (is_true x) (is_false y) = absurd (none-some e (sym (rw (x, y) at q)))
+      go (is_true x) (is_true y) = (ap place_of_entry (rw (x, y) at q), ltb-true k n x, eqb-true (listed_id h p k) i y)
+
+-- what is found in the list is the slot of the entry
+entry-slot : (h : List ℕ) (p i : ℕ) → option_map (λ (e : Entry). e.slot) (entry_of h p i) ≡ found_listed h p i
+unfolding entry_of found_listed found_among spot
+entry-slot h p i = go (look (eqb n 0)) (look (eqb (listed_id h p g) i)) (look (ltb k n)) (look (eqb (listed_id h p k) i))
+  where
+    n : ℕ
+    n = list_length h p
+
+    g : ℕ
+    g = guessed h p i
+
+    k : ℕ
+    k = place_in h p i n
+
+    go : Seen (eqb n 0) → Seen (eqb (listed_id h p g) i) → Seen (ltb k n) → Seen (eqb (listed_id h p k) i) →
+        option_map (λ (e : Entry). e.slot) (entry_of h p i) ≡ found_listed h p i
+    go (is_true x) y z w = let e = eqb-true n 0 x in rw (e, le-ltb (spot h p i 0) 0 (omega arith))
+    go (is_false x) (is_true y) z w = let l : g < n = omega (arith, eqb-false n 0 x) in rw (x, y, lt-ltb g n l, y)
+    go (is_false x) (is_false y) (is_false z) w = rw (x, y, z)
+    go (is_false x) (is_false y) (is_true z) (is_true w) = rw (x, y, z, w)
+    go (is_false x) (is_false y) (is_true z) (is_false w) = rw (x, y, z, w)
+
+-- find
+module _ (h : List ℕ) (p i : ℕ) {r : Option ℕ} where
+  pub found-own : i % 4 ≡ 0 → r ≡ found_own h p i → r ≡ lookup h p i
+  unfolding lookup
+  found-own e f = rw (eq-eqb (i % 4) 0 e) f
+
+  pub found-listed : (i % 4 ≡ 0 → ⊥) → r ≡ option_map (λ (e : Entry). e.slot) (entry_of h p i) → r ≡ lookup h p i
+  unfolding lookup
+  found-listed ne f = rw (ne_eqb (i % 4) 0 ne) (f ∙ entry-slot h p i)
 
 -- a record written where a list is copied to
 record-pasted : (h s : List ℕ) (to m : ℕ) {g : List ℕ} {at x y : ℕ} → to + (handle_fields * m + 1) < length h → handle_fields * m + 1 < length s → at ≡ to + handle_fields * m →
@@ -262,39 +305,38 @@ module _ (h : List ℕ) (p : ℕ) where
         let m : end - from ≡ handle_fields * (n - 1 - k) = omega (arith, r, ef, ee) in
         e ∙ rw (m, et, ef) (sym (shifted-copy (n - 1 - k) (omega (arith, r))))
 
-    pub take-out-done : (n : ℕ) {h₁ h₂ : List ℕ} {l a : ℕ} → h₁ ≡ shifted h p k (n - 1 - k) → l ≡ n - 1 - 1 → a ≡ handle_row (list_block p) l →
-        h₂ ≡ put_handle h₁ length_block p (n - 1) (get_or h₁ a 0) → h₂ ≡ taken_out h p k n
+    pub take-out-done : (n : ℕ) {h₁ h₂ : List ℕ} {l a : ℕ} → n ≡ list_length h p → h₁ ≡ shifted h p k (n - 1 - k) → l ≡ n - 1 - 1 → a ≡ handle_row (list_block p) l →
+        h₂ ≡ put_handle h₁ length_block p (n - 1) (get_or h₁ a 0) → h₂ ≡ taken_out h p k (list_length h p)
     unfolding taken_out
-    take-out-done n e el f g = rw (← e, ← el, ← f) g
+    take-out-done n en e el f g = rw (← en, ← e, ← el, ← f) g
 
 module _ (h : List ℕ) (p i : ℕ) where
   pub unlist-chosen : i % 4 ≡ 0 → h ≡ unlisted h p i
   unfolding unlisted
   unlist-chosen e = rw (eq-eqb (i % 4) 0 e)
 
-  module _ (ne : i % 4 ≡ 0 → ⊥) {a v : ℕ} (ea : a ≡ id_at h length_block p) (ev : v ≡ word_at h length_block p) {n : ℕ} (en : n ≡ min a nodes) where
-    pub unlist-empty : n ≡ 0 → h ≡ unlisted h p i
+  module _ (ne : i % 4 ≡ 0 → ⊥) where
+    pub unlist-entry : {e : Entry} → Some e ≡ entry_of h p i → {h₁ : List ℕ} → h₁ ≡ taken_out h p e.place (list_length h p) → h₁ ≡ unlisted h p i
     unfolding unlisted
-    unlist-empty z = rw (ne_eqb (i % 4) 0 ne, long h p ea en, z, le-ltb (spot h p i 0) 0 (omega arith))
+    unlist-entry {e} q {h₁} t =
+        let k = spot h p i (list_length h p) in
+        let w = entry-is h p i q in
+        rw (ne_eqb (i % 4) 0 ne, lt-ltb k (list_length h p) w.1, eq-eqb (listed_id h p k) i w.2, ← w.0) t
 
-    module _ {g : ℕ} (eg : (g ≡ guess v i n) × (g < n)) {w : ℕ} (f : w ≡ listed_id h p g) where
-      pub unlist-there : w ≡ i → {h₁ : List ℕ} → h₁ ≡ taken_out h p g n → h₁ ≡ unlisted h p i
-      unfolding unlisted
-      unlist-there q t = rw (ne_eqb (i % 4) 0 ne, long h p ea en, ← spot-there h p i n ev eg f q, lt-ltb g n eg.1, ← f, eq-eqb w i q) t
+    pub unlist-none : None ≡ entry_of h p i → h ≡ unlisted h p i
+    unfolding unlisted entry_of
+    unlist-none q = rw (ne_eqb (i % 4) 0 ne) (go (look (ltb k n)) (look (eqb (listed_id h p k) i)))
+      where
+        n : ℕ
+        n = list_length h p
 
-      module _ (other : w ≡ i → ⊥) {k : ℕ} (ek : k ≡ place_in h p i n) where
-        pub unlist-past : n ≤ k → h ≡ unlisted h p i
-        unfolding unlisted
-        unlist-past l = rw (ne_eqb (i % 4) 0 ne, long h p ea en, ← spot-else h p i n ev eg f other ek, le-ltb k n l)
+        k : ℕ
+        k = spot h p i n
 
-        module _ (l : k < n) {u : ℕ} (z : u ≡ listed_id h p k) where
-          pub unlist-other : (u ≡ i → ⊥) → h ≡ unlisted h p i
-          unfolding unlisted
-          unlist-other q = rw (ne_eqb (i % 4) 0 ne, long h p ea en, ← spot-else h p i n ev eg f other ek, lt-ltb k n l, ← z, ne_eqb u i q)
-
-          pub unlist-this : u ≡ i → {h₁ : List ℕ} → h₁ ≡ taken_out h p k n → h₁ ≡ unlisted h p i
-          unfolding unlisted
-          unlist-this q t = rw (ne_eqb (i % 4) 0 ne, long h p ea en, ← spot-else h p i n ev eg f other ek, lt-ltb k n l, ← z, eq-eqb u i q) t
+        go : Seen (ltb k n) → Seen (eqb (listed_id h p k) i) → h ≡ pick (ltb k n) (pick (eqb (listed_id h p k) i) (taken_out h p k n) h) h
+        go (is_false x) y = rw x
+        go (is_true x) (is_false y) = rw (x, y)
+        go (is_true x) (is_true y) = absurd (none-some _ (rw (x, y) at q))
 
 module _ (h : List ℕ) (p s i : ℕ) {c : ℕ} (ec : c ≡ count_at h p s) {h₁ : List ℕ} (e₁ : h₁ ≡ put_handle h p s i (c + 1)) where
   pub raise-more : (c ≡ 0 → ⊥) → h₁ ≡ raised h p s i

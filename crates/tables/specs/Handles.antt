@@ -12,6 +12,7 @@ use Rattle.model.specs.Numbers.{peers, slots, nodes}
 use Rattle.ids.specs.Sizes.{handle_fields}
 pub use Rattle.ids.specs.Sizes.{handles_size}
 use Rattle.tables.specs.Peers.{modulus}
+use Rattle.tables.specs.declared.Entry.{Entry}
 
 -- The block of a peer's list, and the block of which each peer has one record: the length of its list and the ID of the last entry. With it the table ends.
 abbrev pub list_block : ℕ → ℕ
@@ -157,6 +158,13 @@ enlisted h p i s = put_handle (put_handle h (list_block p) (list_length h p) i s
 -- The place of an ID in a list of n: the guessed one, or else the one that the halving comes to.
 unfoldable pub spot : List ℕ → ℕ → ℕ → ℕ → ℕ
 spot h p i n = let g = guess (word_at h length_block p) i n in pick (eqb (listed_id h p g) i) g (place_in h p i n)
+
+-- The entry of an ID in the peer's list: what stands at that place, if it has the ID.
+unfoldable pub entry_of : List ℕ → ℕ → ℕ → Option Entry
+entry_of h p i =
+    let n = list_length h p in
+    let k = spot h p i n in
+    pick (ltb k n) (pick (eqb (listed_id h p k) i) (Some (record { place = k; slot = listed_slot h p k })) None) None
 
 -- The m entries behind the place k, each one place down.
 unfoldable pub shifted : List ℕ → ℕ → ℕ → ℕ → List ℕ

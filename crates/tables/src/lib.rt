@@ -14,7 +14,7 @@ ghost use Rattle.model.specs.Numbers.{nodes as node_count};
 ghost use Rattle.quota.specs.Charges.{users};
 ghost use Rattle.tables.specs.Handles.{list_block, length_block, handles_size, most_reads, halvings, list_reads};
 ghost use Rattle.tables.specs.Handles.{handle_row, id_at, count_at, has_in, found_own, list_length, word_at};
-ghost use Rattle.tables.specs.Handles.{guess, place_in, found_among, found_listed, lookup, total_at, holders_at};
+ghost use Rattle.tables.specs.Handles.{guess, place_in, entry_of, lookup, total_at, holders_at};
 ghost use Rattle.tables.specs.Handles.{put_handle, clear_peer, enlisted, shifted, taken_out, unlisted, raised, reduced};
 ghost use Rattle.tables.specs.Charges.{charges_size, charge_at, charges_at, put_charge, put_charges};
 
@@ -71,6 +71,13 @@ pub struct Sought {
 struct Record {
     id: u64,
     word: u64,
+}
+
+// An entry of a peer's list: its place, and the slot that it names.
+#[derive(Clone, Copy)]
+struct Entry {
+    place: usize,
+    slot: usize,
 }
 
 // How many commands were accepted.
@@ -280,23 +287,6 @@ fn place_in(handles: &[u64], p: Peer, id: HandleId, n: usize, reads: &mut usize)
     low
 }
 
-// The slot of this ID among the n entries of the peer's list.
-fn seek_among(handles: &[u64], p: Peer, id: HandleId, n: usize, reads: &mut usize) -> Option<usize>
-    requires { (length handles.now ≡ handles_size) × (p.0 < peer_count) × (n ≤ node_count) × (reads.old + halvings < most_reads) }
-    ensures { (result ≡ found_among handles.now p.0 id.0 n) × (reads.new ≤ reads.old + (halvings + 1)) }
-{
-    let k = place_in(handles, p, id, n, reads);
-    if n <= k {
-        return None;
-    }
-    let e = record_at(handles, LISTS + p.0, k, reads);
-    if e.id == id.0 {
-        Some((e.word % NODES as u64) as usize)
-    } else {
-        None
-    }
-}
-
 // The place that is as far before the last of n as the ID is before the last one. IDs that the bus gives a peer are 4 apart.
 fn guess_place(last: u64, id: u64, n: usize) -> usize
     requires { (0 < n) × (n ≤ node_count) }
@@ -312,22 +302,36 @@ fn at_most(x: u64) -> usize
     x.min(NODES as u64) as usize
 }
 
-// The slot of this ID in the peer's list: at the guessed place, or else by halving.
-fn seek_listed(handles: &[u64], p: Peer, id: HandleId, reads: &mut usize) -> Option<usize>
+// The entry of this ID in the peer's list: at the guessed place, or else by halving.
+fn find_entry(handles: &[u64], p: Peer, id: HandleId, reads: &mut usize) -> Option<Entry>
     requires { (length handles.now ≡ handles_size) × (p.0 < peer_count) × (reads.old + list_reads ≤ most_reads) }
-    ensures { (result ≡ found_listed handles.now p.0 id.0) × (reads.new ≤ reads.old + list_reads) }
+    ensures { (result ≡ entry_of handles.now p.0 id.0) × (reads.new ≤ reads.old + list_reads) }
 {
     let l = record_at(handles, LENGTHS, p.0, reads);
     let n = at_most(l.id);
     if n == 0 {
         return None;
     }
-    let k = guess_place(l.word, id.0, n);
-    let e = record_at(handles, LISTS + p.0, k, reads);
-    if e.id == id.0 {
-        return Some((e.word % NODES as u64) as usize);
+    let g = guess_place(l.word, id.0, n);
+    let f = record_at(handles, LISTS + p.0, g, reads);
+    if f.id == id.0 {
+        return Some(Entry {
+            place: g,
+            slot: (f.word % NODES as u64) as usize,
+        });
     }
-    seek_among(handles, p, id, n, reads)
+    let k = place_in(handles, p, id, n, reads);
+    if n <= k {
+        return None;
+    }
+    let e = record_at(handles, LISTS + p.0, k, reads);
+    if e.id != id.0 {
+        return None;
+    }
+    Some(Entry {
+        place: k,
+        slot: (e.word % NODES as u64) as usize,
+    })
 }
 
 // The slot that the peer knows by this ID, and how many records were read. An ID whose two low bits are clear was chosen: it
@@ -340,7 +344,7 @@ pub fn seek(handles: &[u64], p: Peer, id: HandleId) -> Sought
     let found = if id.0 % 4 == 0 {
         seek_own(handles, p, id, &mut reads)
     } else {
-        seek_listed(handles, p, id, &mut reads)
+        find_entry(handles, p, id, &mut reads).map(|e| e.slot)
     };
     Sought { found, reads }
 }
@@ -454,17 +458,18 @@ fn shift(handles: &mut [u64], p: Peer, k: usize, n: usize)
     handles.copy_within(from..end, to);
 }
 
-// The entry at the place k of the peer's list of n is gone.
-fn take_out(handles: &mut [u64], p: Peer, k: usize, n: usize)
-    requires { (length handles.old ≡ handles_size) × (p.0 < peer_count) × (k < n) × (n ≤ node_count) }
-    ensures { handles.new ≡ taken_out handles.old p.0 k n }
+// The entry at the place k of the peer's list is gone.
+fn take_out(handles: &mut [u64], p: Peer, k: usize)
+    requires { (length handles.old ≡ handles_size) × (p.0 < peer_count) × (k < list_length handles.old p.0) }
+    ensures { handles.new ≡ taken_out handles.old p.0 k (list_length handles.old p.0) }
 {
+    let n = list_length(handles, p);
     shift(handles, p, k, n);
     let last = handles[row_of(LISTS + p.0, (n - 1).saturating_sub(1))];
     put_record(handles, LENGTHS, p.0, n as u64 - 1, last);
 }
 
-// The entry of this ID in the peer's list is gone: the one at the guessed place, or else the one found by halving.
+// The entry of this ID in the peer's list is gone, where there is one.
 fn unlist(handles: &mut [u64], p: Peer, id: HandleId)
     requires { (length handles.old ≡ handles_size) × (p.0 < peer_count) }
     ensures { handles.new ≡ unlisted handles.old p.0 id.0 }
@@ -473,19 +478,8 @@ fn unlist(handles: &mut [u64], p: Peer, id: HandleId)
         return;
     }
     let mut reads = 0;
-    let l = record_at(handles, LENGTHS, p.0, &mut reads);
-    let n = at_most(l.id);
-    if n == 0 {
-        return;
-    }
-    let g = guess_place(l.word, id.0, n);
-    if record_at(handles, LISTS + p.0, g, &mut reads).id == id.0 {
-        take_out(handles, p, g, n);
-        return;
-    }
-    let k = place_in(handles, p, id, n, &mut reads);
-    if k < n && record_at(handles, LISTS + p.0, k, &mut reads).id == id.0 {
-        take_out(handles, p, k, n);
+    if let Some(e) = find_entry(handles, p, id, &mut reads) {
+        take_out(handles, p, e.place);
     }
 }
 

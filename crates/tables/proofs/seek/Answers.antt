@@ -1,5 +1,8 @@
 -- `tables::seek` meets its contract: the two searches, each with its bound. Assumes nothing.
 use Rattle.tables.specs.CodeLaws.{found-own, found-listed}
+use Rattle.tables.specs.declared.Entry.{Entry}
+use Rattle.std.specs.Option.{option_map}
+use Rattle.std.proofs.Common.{rules, ◌≡◌, ◌∙◌, ap}
 use native.Mathlib.Omega.{arith}
 use Rattle.tables.proofs.seek.Goals as goal
 
@@ -7,4 +10,6 @@ pub returns-then-id-eq0 : goal.returns-then-id-eq0
 returns-then-id-eq0 c = (found-own _ _ _ c.if-id-eq0.true c.seek_own-found.ensures.0, omega (arith, c.seek_own-found.ensures.1))
 
 pub returns-else-id-eq0 : goal.returns-else-id-eq0
-returns-else-id-eq0 c = (found-listed _ _ _ c.if-id-eq0.false c.seek_listed-found.ensures.0, omega (arith, c.seek_listed-found.ensures.1))
+returns-else-id-eq0 c =
+    let m : c.map-found.result ≡ option_map (λ (e : Entry). e.slot) c.find_entry.result = search rules in
+    (found-listed _ _ _ c.if-id-eq0.false (m ∙ ap (option_map (λ (e : Entry). e.slot)) c.find_entry.ensures.0), omega (arith, c.find_entry.ensures.1))
