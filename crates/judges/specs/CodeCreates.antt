@@ -1,6 +1,6 @@
 -- The laws that the proofs of a create's judgement cite, one for each return, over plain variables.
 -- Assumes nothing.
-use Rattle.std.specs.Prelude.{ℕ, ◌+◌, ◌*◌, ◌≤◌, ◌<◌, ◌≡◌, refl, Bool, false, List, [], ltb, Option, Some, None}
+use Rattle.std.specs.Prelude.{ℕ, ◌+◌, ◌*◌, ◌≤◌, ◌<◌, ◌≡◌, refl, Bool, false, List, [], ltb, Option, Some, None, is_some}
 use Rattle.std.proofs.Common.{sym, ap, ◌∙◌, arith, below_more}
 use Rattle.std.proofs.Math.Bool.{true, not}
 use borrow.Author.Tests.{ne_eqb, lt-ltb}
@@ -76,6 +76,14 @@ module _ (ns hs cs : List ℕ) (rs : Rings) (sd : List ℕ) (p : ℕ) where
         rw (← e)
 
 -- judge_create
+some-is : (x : Option ℕ) → is_some x ≡ true → (s : ℕ) × (x ≡ Some s)
+some-is (Some s) e = (s, refl)
+some-is None e = let z : ◌≡◌ {A = ℕ} 0 1 = cc in absurd (omega arith)
+
+none-is : (x : Option ℕ) → is_some x ≡ false → x ≡ None
+none-is (Some s) e = let z : ◌≡◌ {A = ℕ} 0 1 = cc in absurd (omega arith)
+none-is None e = refl
+
 place_none : (p k : ℕ) → None ≡ place_found p k → ltb k slots ≡ false
 place_none p k e = go (look (ltb k slots))
   where
@@ -107,12 +115,16 @@ module _ (ps : List ℕ) (p : Peer) (l : p.0 < peers) {n : ℕ} (e : n ≡ start
   create-refused ne = refused _ (stop ps p l e ne _) ne
 
   module _ (z : n ≡ 0) {x : Option ℕ} (ex : x ≡ lookup hs p.0 i.0) where
-    pub create-held : (s : ℕ) → x ≡ Some s → order.Refuse EEXIST ≡ unless (create_by (find_at hs p.0) (free_at ns hs cs rs sd p.0) (seen ps [] [] [] no_rings) p.0 i.0) (order.Create p i (p.0 * slots + free_at ns hs cs rs sd p.0))
-    create-held s f =
-        let w = found hs p.0 l i.0 ex s f in
-        refused _ (pass ps p l e z _ ∙ rw (← w.0, lt-ltb s nodes w.1)) (λ y. absurd (omega arith))
+    pub create-held : is_some x ≡ true → order.Refuse EEXIST ≡ unless (create_by (find_at hs p.0) (free_at ns hs cs rs sd p.0) (seen ps [] [] [] no_rings) p.0 i.0) (order.Create p i (p.0 * slots + free_at ns hs cs rs sd p.0))
+    create-held g =
+        let f = some-is x g in
+        let w = found hs p.0 l i.0 ex f.0 f.1 in
+        refused _ (pass ps p l e z _ ∙ rw (← w.0, lt-ltb f.0 nodes w.1)) (λ y. absurd (omega arith))
 
-    module _ (f : x ≡ None) {y : Option ℕ} (ey : y ≡ place_found p.0 (free_at ns hs cs rs sd p.0)) where
+    module _ (nothing : is_some x ≡ false) {y : Option ℕ} (ey : y ≡ place_found p.0 (free_at ns hs cs rs sd p.0)) where
+      f : x ≡ None
+      f = none-is x nothing
+
       pub create-full : y ≡ None → order.Refuse ENOSPC ≡ unless (create_by (find_at hs p.0) (free_at ns hs cs rs sd p.0) (seen ps [] [] [] no_rings) p.0 i.0) (order.Create p i (p.0 * slots + free_at ns hs cs rs sd p.0))
       create-full g =
           let b : ltb (free_at ns hs cs rs sd p.0) slots ≡ false = place_none p.0 (free_at ns hs cs rs sd p.0) (sym g ∙ ey) in

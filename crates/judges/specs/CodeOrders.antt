@@ -1,7 +1,7 @@
 -- The laws that the proofs of the judgements cite, one for each return, over plain variables: each is shaped like what the callees ensure.
 -- Assumes nothing.
 use Prim.Native.Nat.{ℕ, ◌+◌, ◌*◌, ◌/◌, min, ◌≤◌, ◌<◌}
-use Rattle.std.specs.Prelude.{◌≡◌, Bool, length, get_or, take, eqb, ltb, leb, Option, Some, None}
+use Rattle.std.specs.Prelude.{◌≡◌, Bool, length, get_or, take, eqb, ltb, leb, Option, Some, None, Result, Err, ok_or}
 use Rattle.std.proofs.Math.Path.{refl}
 use Rattle.std.proofs.Common.{sym, ap, ◌∙◌, arith, length-take-le}
 use Rattle.std.proofs.Math.Bool.{true, false}
@@ -9,7 +9,9 @@ use mathlib.Core.List.{List, []}
 use borrow.Author.Tests.{ne_eqb, eq-eqb, lt-ltb, le-ltb, leb-true, leb-false, le-leb, lt-leb}
 use Rattle.laws.specs.Tests.{pick, Seen, Seen.is_true, Seen.is_false, look}
 use Rattle.laws.specs.Build.{build-length}
-use Rattle.ids.specs.Refusals.{EOVERFLOW, ESHUTDOWN, EEXIST, ENXIO, EPERM, EHOSTUNREACH, EAGAIN, ERANGE}
+use Rattle.ids.specs.Refusals.{EOVERFLOW, ESHUTDOWN, EEXIST, ENXIO, EPERM, EHOSTUNREACH, EAGAIN, ERANGE, refusal_number}
+use Rattle.ids.specs.declared.Refusal.{Refusal}
+use Rattle.ids.specs.declared.Refusal.TheVariants as refusal
 use Rattle.ids.specs.declared.Peer.{Peer}
 use Rattle.ids.specs.declared.User.{User}
 use Rattle.ids.specs.declared.HandleId.{HandleId}
@@ -42,6 +44,31 @@ refused {x} {n} o e ne = rw (e, ne_eqb n 0 ne)
 
 pub granted : {x : ℕ} (o : Order) → x ≡ 0 → o ≡ unless x o
 granted o e = rw e
+
+-- A refusal is a number that is not 0.
+pub refusal-some : (r : Refusal) → refusal_number r ≡ 0 → ⊥
+refusal-some refusal.EPERM e = absurd (omega (arith, e))
+refusal-some refusal.EIO e = absurd (omega (arith, e))
+refusal-some refusal.ENXIO e = absurd (omega (arith, e))
+refusal-some refusal.EBADF e = absurd (omega (arith, e))
+refusal-some refusal.EAGAIN e = absurd (omega (arith, e))
+refusal-some refusal.EEXIST e = absurd (omega (arith, e))
+refusal-some refusal.EINVAL e = absurd (omega (arith, e))
+refusal-some refusal.ENOTTY e = absurd (omega (arith, e))
+refusal-some refusal.EFBIG e = absurd (omega (arith, e))
+refusal-some refusal.ENOSPC e = absurd (omega (arith, e))
+refusal-some refusal.ERANGE e = absurd (omega (arith, e))
+refusal-some refusal.EOVERFLOW e = absurd (omega (arith, e))
+refusal-some refusal.EMSGSIZE e = absurd (omega (arith, e))
+refusal-some refusal.ESHUTDOWN e = absurd (omega (arith, e))
+refusal-some refusal.EHOSTUNREACH e = absurd (omega (arith, e))
+refusal-some refusal.EDQUOT e = absurd (omega (arith, e))
+
+-- The refusal of what was looked for and is not there.
+pub lost : {x : Option ℕ} {e d : Refusal} → Err e ≡ ok_or x d → x ≡ None → e ≡ d
+lost {x} {e} {d} v n =
+    let w : ◌≡◌ {A = Result ℕ Refusal} (Err e) (Err d) = v ∙ ap (λ (y : Option ℕ). ok_or y d) n in
+    cc
 
 -- The lengths of a seed's payload and of its slots.
 piece-length : (t : List ℕ) (p n : ℕ) → length (piece_at t p n) ≡ n
@@ -104,11 +131,11 @@ module _ (ns hs : List ℕ) (p s : ℕ) (l : p < peers) (ls : s < nodes) {b : Bo
   pinned-dead f = rw (← live-is ns s ls, ← eb, f)
 
   module _ (f : b ≡ true) where
-    pub pinned-foreign : (s / slots ≡ p → ⊥) → false ≡ pinned (seen [] ns hs [] no_rings) p s
-    pinned-foreign ne = rw (← live-is ns s ls, ← eb, f, ne_eqb (s / slots) p ne)
+    pub pinned-foreign : eqb (s / slots) p ≡ false → false ≡ pinned (seen [] ns hs [] no_rings) p s
+    pinned-foreign g = rw (← live-is ns s ls, ← eb, f, g)
 
-    pub pinned-own : s / slots ≡ p → {c : ℕ} → c ≡ count_at hs p s → eqb c 1 ≡ pinned (seen [] ns hs [] no_rings) p s
-    pinned-own e ec = rw (← live-is ns s ls, ← eb, f, eq-eqb (s / slots) p e, ← count-is hs p s l ls, ← ec)
+    pub pinned-own : eqb (s / slots) p ≡ true → {c : ℕ} → c ≡ count_at hs p s → eqb c 1 ≡ pinned (seen [] ns hs [] no_rings) p s
+    pinned-own g ec = rw (← live-is ns s ls, ← eb, f, g, ← count-is hs p s l ls, ← ec)
 
 -- The counted commands.
 module _ (ps : List ℕ) (p : Peer) (l : p.0 < peers) {n : ℕ} (e : n ≡ starts_at ps p.0) where

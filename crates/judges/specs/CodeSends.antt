@@ -1,17 +1,20 @@
 -- The laws that the proofs of a send's judgement cite: the slots of its IDs, the walks over them, and one law for each return, over plain variables.
 -- Assumes nothing.
-use Prim.Native.Nat.{ℕ, zero, suc, ◌+◌, ◌-◌, ◌*◌, ◌/◌, ◌%◌, ◌≤◌, ◌<◌}
-use Rattle.std.specs.Prelude.{◌≡◌, Bool, List, [], ◌∷◌, ◌++◌, map, length, get_or, set, take, drop, replicate, ltb, Option, Some, None}
+use Prim.Native.Nat.{ℕ, zero, suc, ◌+◌, ◌*◌, ◌/◌, ◌%◌, ◌≤◌, ◌<◌}
+use Rattle.std.specs.Prelude.{◌≡◌, Bool, List, [], ◌∷◌, ◌++◌, map, length, get_or, set, take, drop, replicate, eqb, ltb, cond, ◌&&◌, Option, Some, None, Ok, Err}
+use Rattle.std.specs.List.{filter, list_all}
 use Rattle.std.proofs.Math.Path.{refl, sym, ap}
 use Rattle.std.proofs.Common.{ap₂, ◌∙◌, arith, zero-add, mul-le-mul_left, add-one, length-append, take_at, drop-cons}
 use Rattle.std.proofs.Math.Bool.{true, false}
 use Rattle.std.proofs.lemmas.List.{length-replicate, set_at}
+use Rattle.std.proofs.lemmas.List.Sums.{length-filter, count_by-le-length}
 use Rattle.std.proofs.lemmas.List.Edits.{sets-eq}
 use Rattle.std.proofs.Math.Seq.{append_snoc}
-use borrow.Author.Tests.{ne_eqb, eq-eqb, lt-ltb}
-use Rattle.laws.specs.Weights.{All}
+use borrow.Author.Tests.{lt-ltb}
+use Rattle.laws.specs.Tests.{pick}
+use Rattle.laws.specs.Weights.{All, keep}
 use Rattle.laws.specs.Build.{build, build-snoc, build-length}
-use Rattle.ids.specs.Refusals.{ENXIO}
+use Rattle.ids.specs.declared.Refusal.TheVariants as refusal
 use Rattle.ids.specs.declared.User.{User}
 use Rattle.ids.specs.declared.HandleId.{HandleId}
 use Rattle.frames.specs.Frame.{send_id}
@@ -102,7 +105,7 @@ module _ (hs f : List ℕ) (p from n : ℕ) where
       id : i.0 ≡ (send_id f (from + k)).0
       id = ap (λ (j : HandleId). j.0) ei
 
-      pub looked-missing : x ≡ None → record { number = ENXIO; at = replicate most_ids 0 } ≡ slots_at hs p (ids_from f from n)
+      pub looked-missing : x ≡ None → Err refusal.ENXIO ≡ slots_at hs p (ids_from f from n)
       unfolding slots_at
       looked-missing g =
           let m : find_at hs p (send_id f (from + k)).0 ≡ nodes = ap (find_at hs p) (sym id) ∙ missing hs p l i.0 ex g in
@@ -125,78 +128,39 @@ module _ (hs f : List ℕ) (p from n : ℕ) where
                 ∙ rw (more, map_snoc (find_at hs p) (ids_from f from k) (send_id f (from + k)).0, ← y);
           }
 
-    pub looked-end : n ≤ k → record { number = 0; at = at } ≡ slots_at hs p (ids_from f from n)
+    pub looked-end : n ≤ k → Ok at ≡ slots_at hs p (ids_from f from n)
     unfolding slots_at
     looked-end h = let e : n ≡ k = omega (arith, w.some) in rw (e, w.held, ← w.slots)
 
--- A walk over the first n of some slots: what is left of them from the place k on.
-abbrev pub rest : List ℕ → ℕ → ℕ → List ℕ
-rest l n k = take (n - k) (drop k l)
+-- What the iterators answer over a list of slots is the model's.
+all-every : {A : Type 0} (t : A → Bool) (xs : List A) → list_all t xs ≡ every t xs
+all-every t [] = refl
+all-every t (x ∷ xs) = go (t x) (all-every t xs)
+  where
+    go : (b : Bool) → list_all t xs ≡ every t xs → b && list_all t xs ≡ both b (every t xs)
+    go true ih = ih
+    go false ih = refl
 
-module _ (l : List ℕ) (n : ℕ) where
-  rest-start : rest l n 0 ≡ take n l
-  rest-start = let e : n - 0 ≡ n = omega arith in rw e
-
-  rest-next : (k : ℕ) → k < n → n ≤ length l → rest l n k ≡ get_or l k 0 ∷ rest l n (k + 1)
-  rest-next k h z =
-      let e : n - k ≡ suc (n - (k + 1)) = omega arith in
-      ap₂ (λ (m : ℕ) (x : List ℕ). take m x) e (drop-cons l k 0 (omega arith)) ∙ rw add-one
-
-  rest_end : (k : ℕ) → n ≤ k → rest l n k ≡ []
-  rest_end k h = let e : n - k ≡ 0 = omega arith in rw e
+filter-keep : {A : Type 0} (t : A → Bool) (xs : List A) → filter t xs ≡ keep t xs
+filter-keep t [] = refl
+filter-keep t (x ∷ xs) = go (t x) (filter-keep t xs)
+  where
+    go : (b : Bool) → filter t xs ≡ keep t xs → cond b (x ∷ filter t xs) (filter t xs) ≡ pick b (x ∷ keep t xs) (keep t xs)
+    go true ih = ap (◌∷◌ x) ih
+    go false ih = ih
 
 -- living
-pub record Living (ns l : List ℕ) (n k : ℕ) : Type 0 where
-  pub some : k ≤ n
-  pub same : living_at ns (take n l) ≡ living_at ns (rest l n k)
-
-module _ (ns l : List ℕ) (n : ℕ) where
-  pub living-start : Living ns l n 0
-  living-start = record { some = omega arith; same = ap (living_at ns) (sym (rest-start l n)) }
-
-  module _ (k : ℕ) (w : Living ns l n k) where
-    module _ (h : k < n) (z : n ≤ length l) {b : Bool} (e : b ≡ live_at ns (get_or l k 0 % nodes)) where
-      pub living-dead : b ≡ false → false ≡ living_at ns (take n l)
-      unfolding living_at
-      living-dead g = sym (w.same ∙ rw (rest-next l n k h z, ← e, g))
-
-      pub living-more : b ≡ true → Living ns l n (k + 1)
-      unfolding living_at
-      living-more g = record { some = omega arith; same = w.same ∙ rw (rest-next l n k h z, ← e, g) }
-
-    pub living-end : n ≤ k → true ≡ living_at ns (take n l)
-    unfolding living_at
-    living-end h = sym (w.same ∙ rw (rest_end l n k h))
+pub living-is : (ns ss : List ℕ) {b : Bool} → b ≡ list_all (λ s. live_at ns (s % nodes)) ss → b ≡ living_at ns ss
+unfolding living_at
+living-is ns ss e = e ∙ all-every (λ s. live_at ns (s % nodes)) ss
 
 -- places_at
-pub record Counted (l : List ℕ) (n p k m : ℕ) : Type 0 where
-  pub some : k ≤ n
-  pub few : m ≤ k
-  pub same : places_at p (take n l) ≡ m + places_at p (rest l n k)
+pub places-few : (l : List ℕ) (p : ℕ) → length l ≤ most_ids → length (filter (λ s. eqb (s / slots) p) l) ≤ most_ids
+places-few l p h = omega (arith, length-filter (λ s. eqb (s / slots) p) l, count_by-le-length (λ s. eqb (s / slots) p) l)
 
-module _ (l : List ℕ) (n p : ℕ) where
-  pub counted_start : Counted l n p 0 0
-  counted_start = record { some = omega arith; few = omega arith; same = ap (places_at p) (sym (rest-start l n)) ∙ sym (zero-add _) }
-
-  module _ (k m : ℕ) (w : Counted l n p k m) where
-    module _ (h : k < n) (z : n ≤ length l) where
-      pub counted-own : {m₁ : ℕ} → get_or l k 0 / slots ≡ p → m₁ ≡ m + 1 → Counted l n p (k + 1) m₁
-      unfolding places_at
-      counted-own {m₁} e g =
-          let x : places_at p (rest l n k) ≡ suc (places_at p (rest l n (k + 1))) = rw (rest-next l n k h z, eq-eqb (get_or l k 0 / slots) p e) in
-          record { some = omega arith; few = omega (arith, w.few, g); same = w.same ∙ omega (arith, x, g) }
-
-      pub counted-other : {m₁ : ℕ} → (get_or l k 0 / slots ≡ p → ⊥) → m₁ ≡ m → Counted l n p (k + 1) m₁
-      unfolding places_at
-      counted-other {m₁} e g =
-          let x : places_at p (rest l n k) ≡ places_at p (rest l n (k + 1)) = rw (rest-next l n k h z, ne_eqb (get_or l k 0 / slots) p e) in
-          record { some = omega arith; few = omega (arith, w.few, g); same = w.same ∙ omega (arith, x, g) }
-
-    pub counted-end : n ≤ k → n ≤ most_ids → (m ≡ places_at p (take n l)) × (m ≤ most_ids)
-    unfolding places_at
-    counted-end h z =
-        let x : places_at p (rest l n k) ≡ 0 = rw (rest_end l n k h) in
-        (omega (arith, w.same, x), omega (arith, w.some, w.few))
+pub places-is : (l : List ℕ) (p : ℕ) {m : ℕ} → m ≡ length (filter (λ s. eqb (s / slots) p) l) → m ≡ places_at p l
+unfolding places_at
+places-is l p e = e ∙ ap length (filter-keep (λ s. eqb (s / slots) p) l)
 
 -- allowed_at
 pub product : (m n : ℕ) → m ≤ most_ids → n ≤ most_bytes → m * n ≤ 4096
@@ -208,22 +172,7 @@ unfolding allowed_at
 allowed-is cs u ds nb nh p em ec eb = eb ∙ rw (em, ec)
 
 -- affordable
-pub record Affordable (cs : List ℕ) (u : User) (l : List ℕ) (n nb nh k : ℕ) : Type 0 where
-  pub some : k ≤ n
-  pub same : affordable_at cs u (take n l) nb nh ≡ every (λ d. allowed_at cs u (take n l) nb nh (d / slots % peers)) (rest l n k)
-
-module _ (cs : List ℕ) (u : User) (l : List ℕ) (n nb nh : ℕ) where
-  pub affordable-start : Affordable cs u l n nb nh 0
-  unfolding affordable_at
-  affordable-start = record { some = omega arith; same = ap (every (λ d. allowed_at cs u (take n l) nb nh (d / slots % peers))) (sym (rest-start l n)) }
-
-  module _ (k : ℕ) (w : Affordable cs u l n nb nh k) where
-    module _ (h : k < n) (z : n ≤ length l) {b : Bool} (e : b ≡ allowed_at cs u (take n l) nb nh (get_or l k 0 / slots % peers)) where
-      pub affordable-over : b ≡ false → false ≡ affordable_at cs u (take n l) nb nh
-      affordable-over g = sym (w.same ∙ rw (rest-next l n k h z, ← e, g))
-
-      pub affordable-more : b ≡ true → Affordable cs u l n nb nh (k + 1)
-      affordable-more g = record { some = omega arith; same = w.same ∙ rw (rest-next l n k h z, ← e, g) }
-
-    pub affordable-end : n ≤ k → true ≡ affordable_at cs u (take n l) nb nh
-    affordable-end h = sym (w.same ∙ rw (rest_end l n k h))
+pub affordable-is : (cs : List ℕ) (u : User) (ds : List ℕ) (nb nh : ℕ) {b : Bool} → b ≡ list_all (λ d. allowed_at cs u ds nb nh (d / slots % peers)) ds →
+    b ≡ affordable_at cs u ds nb nh
+unfolding affordable_at
+affordable-is cs u ds nb nh e = e ∙ all-every (λ d. allowed_at cs u ds nb nh (d / slots % peers)) ds

@@ -1,14 +1,14 @@
 -- What the bus says to a command: the model's refusal, or the order that carries the command out, in which each ID is the slot that the acting peer knows by it.
 -- Assumes nothing.
-use Rattle.std.specs.Prelude.{ℕ, ◌+◌, ◌*◌, ◌/◌, ◌%◌, min, ◌<◌, ◌≤◌, Bool, false, not, List, [], map, length, replicate, take, eqb, ltb, Option, Some, None}
+use Rattle.std.specs.Prelude.{ℕ, ◌+◌, ◌*◌, ◌/◌, ◌%◌, min, Bool, false, not, List, [], map, replicate, eqb, ltb, Option, Some, None, Result, Ok, Err}
 use Rattle.std.proofs.lemmas.List.Edits.{sets}
 use Rattle.laws.specs.Tests.{pick}
 use Rattle.laws.specs.Search.{first}
 use Rattle.laws.specs.Build.{build}
-use Rattle.ids.specs.Refusals.{EOVERFLOW, ENXIO}
-use Rattle.ids.specs.declared.Peer.{Peer}
+use Rattle.ids.specs.Refusals.{EOVERFLOW, refusal_number}
+use Rattle.ids.specs.declared.Refusal.{Refusal}
+use Rattle.ids.specs.declared.Refusal.TheVariants as refusal
 use Rattle.ids.specs.declared.User.{User}
-use Rattle.ids.specs.declared.HandleId.{HandleId}
 use Rattle.frames.specs.declared.Command.{Command}
 use Rattle.frames.specs.declared.Command.TheVariants.{Open, Disconnect, Create, Destroy, Release, Transfer, Send, Receive, Quota, Holders, ShowSeed}
 use Rattle.frames.specs.declared.Sizes.{Sizes}
@@ -25,14 +25,13 @@ use Rattle.model.specs.Lists.{either, every}
 use Rattle.model.specs.State.{State, slot, free_place, seeded}
 use Rattle.model.specs.Requests.{destinations, attached}
 use Rattle.model.specs.Refusals.{adds, refusal_by}
-use Rattle.view.specs.View.{Bus, state_of, set_peers, set_nodes, set_handles, set_charges, set_rings, set_seeds, no_buffers}
+use Rattle.view.specs.View.{state_of, set_peers, set_nodes, set_handles, set_charges, set_rings, set_seeds, no_buffers}
 use Rattle.seeds.specs.Seeds.{seed_v}
 use Rattle.queues.specs.Queues.{is_message, named_in}
 use Rattle.judges.specs.declared.Places.{Places}
 use Rattle.judges.specs.declared.Order.{Order}
 use Rattle.judges.specs.declared.Order.TheVariants as order
 use Rattle.judges.specs.declared.Ruling.{Ruling}
-use Rattle.judges.specs.declared.Slots.{Slots}
 use Rattle.ids.specs.Sizes.{peers, most_ids}
 
 -- Slots in an array of eight, 0 behind them.
@@ -92,6 +91,15 @@ plainly o = record { order = o; places = no_places }
 abbrev pub unless_at : ℕ → Order → Places → Ruling
 unless_at n o w = pick (eqb n 0) (record { order = o; places = w }) (plainly (order.Refuse n))
 
+-- What a judgement of the code stands for: its order, or the refusal's; and a send's ruling from its slots, or the refusal.
+abbrev pub ruled : Result Order Refusal → Order
+ruled (Ok o) = o
+ruled (Err r) = order.Refuse (refusal_number r)
+
+abbrev pub placed : Order → Result Places Refusal → Ruling
+placed o (Ok w) = record { order = o; places = w }
+placed o (Err r) = plainly (order.Refuse (refusal_number r))
+
 unfoldable pub ruling_of : Sight → List ℕ → Command → Ruling
 ruling_of v f c = unless_at (refusal_by v.find v.free v.state f c) (resolved v c) (places_in v f c)
 
@@ -126,15 +134,12 @@ starts_at ps p = pick (ltb (accepted_at ps) most_commands) (standing_at ps p) EO
 abbrev pub place_found : ℕ → ℕ → Option ℕ
 place_found p k = pick (ltb k slots) (Some (p * slots + k)) None
 
--- The IDs from a place of a send's lists on, and their slots.
+-- The IDs from a place of a send's lists on, and their slots, or the refusal where one of them is not held.
 abbrev pub ids_from : List ℕ → ℕ → ℕ → List ℕ
 ids_from f from n = build (λ k. (send_id f (from + k)).0) n
 
-unfoldable pub slots_at : List ℕ → ℕ → List ℕ → Slots
-slots_at hs p is =
-    pick (every (λ i. ltb (find_at hs p i) nodes) is)
-    (record { number = 0; at = eight (map (find_at hs p) is) })
-    (record { number = ENXIO; at = replicate most_ids 0 })
+unfoldable pub slots_at : List ℕ → ℕ → List ℕ → Result (List ℕ) Refusal
+slots_at hs p is = pick (every (λ i. ltb (find_at hs p i) nodes) is) (Ok (eight (map (find_at hs p) is))) (Err refusal.ENXIO)
 
 -- The nodes of some slots live; quota allows what a send to them adds at each of their owners.
 unfoldable pub living_at : List ℕ → List ℕ → Bool

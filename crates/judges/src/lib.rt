@@ -13,18 +13,17 @@ ghost use Rattle.model.specs.Refusals.{places_at, pinned as is_pinned, refuses_o
 ghost use Rattle.model.specs.Refusals.{release_by, transfer_by, send_by, refuses_receive, refuses_quota, holders_by, refuses_seed};
 ghost use Rattle.tables.specs.Handles.{handles_size, find_at};
 ghost use Rattle.queues.specs.Queues.{Short};
-ghost use Rattle.judges.specs.Orders.{places_of, unless, unless_at, plainly, ruling_of, seen, seen_with, sight, counts_at, free_at};
+ghost use Rattle.judges.specs.Orders.{places_of, ruled, placed, unless, unless_at, plainly, ruling_of, seen, seen_with, sight};
+ghost use Rattle.judges.specs.Orders.{counts_at, free_at};
 ghost use Rattle.judges.specs.Orders.{no_rings, starts_at, place_found, ids_from, slots_at, living_at, allowed_at, affordable_at, too_large};
 ghost use Rattle.judges.specs.declared.Order.TheVariants as order;
+ghost use Rattle.ids.specs.Refusals.{refused};
 ghost use Rattle.ids.specs.Sizes.{peers as peer_count, peers_size, nodes_size, most_ids, most_bytes, seeds_size};
 ghost use Rattle.model.specs.Numbers.{nodes as node_count};
 ghost use Rattle.tables.specs.Charges.{charges_size};
 
 use frames::{Command, Sizes};
-use ids::{
-    EAGAIN, EDQUOT, EEXIST, EHOSTUNREACH, ENOSPC, ENXIO, EOVERFLOW, EPERM, ERANGE, ESHUTDOWN,
-    HandleId, MOST_COMMANDS, MOST_IDS, NODES, PEERS, Peer, SLOTS, User,
-};
+use ids::{HandleId, MOST_COMMANDS, MOST_IDS, NODES, PEERS, Peer, Refusal, SLOTS, User};
 use quota::Charge;
 use rings::Entry;
 use tables::Status;
@@ -36,7 +35,7 @@ pub struct Places {
     pub carried: [u8; 8],
 }
 
-// What is to be done.
+// What is to be done. A refusal is its number here, since the theorems of bus_model and journal_model speak of order.Refuse at numbers.
 #[derive(Clone, Copy)]
 pub enum Order {
     Refuse(u8),
@@ -60,53 +59,54 @@ pub struct Ruling {
     pub places: Places,
 }
 
-// An order without slots.
-fn plain(order: Order) -> Ruling
-    ensures { result ≡ plainly order }
+// What was judged, without slots.
+fn plain(judged: Result<Order, Refusal>) -> Ruling
+    ensures { result ≡ plainly (ruled judged) }
 {
+    let order = match judged {
+        Ok(order) => order,
+        Err(refusal) => Order::Refuse(u8::from(refusal)),
+    };
     Ruling {
         order,
         places: Places {
-            to: [0u8; 8],
-            carried: [0u8; 8],
+            to: [0; 8],
+            carried: [0; 8],
         },
     }
 }
 
-// The refusal of a counted command before its IDs are looked up, 0 where there is none.
-fn starts(peers: &[u64], p: Peer) -> u8
+// The refusal of a counted command before its IDs are looked up.
+fn starts(peers: &[u64], p: Peer) -> Result<(), Refusal>
     requires { (length peers.now ≡ peers_size) × (p.0 < peer_count) }
-    ensures { result ≡ starts_at peers.now p.0 }
+    ensures { refused result ≡ starts_at peers.now p.0 }
 {
     if tables::accepted(peers) < MOST_COMMANDS {
         return tables::standing(peers, p);
     }
-    EOVERFLOW
+    Err(Refusal::EOVERFLOW)
 }
 
-fn judge_open(peers: &[u64], p: Peer, u: User) -> Order
+fn judge_open(peers: &[u64], p: Peer, u: User) -> Result<Order, Refusal>
     requires { (length peers.now ≡ peers_size) × (p.0 < peer_count) }
-    ensures { result ≡ unless (refuses_open (seen peers.now [] [] [] no_rings) p.0) (order.Open p u) }
+    ensures { ruled result ≡ unless (refuses_open (seen peers.now [] [] [] no_rings) p.0) (order.Open p u) }
 {
     if MOST_COMMANDS <= tables::accepted(peers) {
-        return Order::Refuse(EOVERFLOW);
+        return Err(Refusal::EOVERFLOW);
     }
     match tables::status_of(peers, p) {
-        Status::Unopened => Order::Open(p, u),
-        Status::Open => Order::Refuse(EEXIST),
-        Status::Disconnected => Order::Refuse(ESHUTDOWN),
+        Status::Unopened => Ok(Order::Open(p, u)),
+        Status::Open => Err(Refusal::EEXIST),
+        Status::Disconnected => Err(Refusal::ESHUTDOWN),
     }
 }
 
-fn judge_disconnect(peers: &[u64], p: Peer) -> Order
+fn judge_disconnect(peers: &[u64], p: Peer) -> Result<Order, Refusal>
     requires { (length peers.now ≡ peers_size) × (p.0 < peer_count) }
-    ensures { result ≡ unless (refuses_disconnect (seen peers.now [] [] [] no_rings) p.0) (order.Disconnect p) }
+    ensures { ruled result ≡ unless (refuses_disconnect (seen peers.now [] [] [] no_rings) p.0) (order.Disconnect p) }
 {
-    let n = starts(peers, p);
-    if n != 0 {
-        return Order::Refuse(n);
-    }
-    Order::Disconnect(p)
+    starts(peers, p)?;
+    Ok(Order::Disconnect(p))
 }
 
 // Does the slot's node count against its owner?
@@ -158,15 +158,13 @@ fn free_slot(
         let free = free_at nodes.now handles.now charges.now rings seeds.now p.0 in
         result ≡ place_found p.0 free }
 {
-    let mut k = 0;
-    while k < SLOTS {
+    for k in 0..SLOTS {
         let s = p.0 * SLOTS + k;
         if !counts(
             nodes, handles, charges, ends, entries, carried, numbers, seeds, s,
         ) {
             return Some(s);
         }
-        k += 1;
     }
     None
 }
@@ -183,7 +181,7 @@ fn judge_create(
     seeds: &[u8],
     p: Peer,
     i: HandleId,
-) -> Order
+) -> Result<Order, Refusal>
     requires { (length peers.now ≡ peers_size) × (length nodes.now ≡ nodes_size) × (length handles.now ≡ handles_size)
         × (length charges.now ≡ charges_size) × QueueTables ends.now entries.now carried.now numbers.now
         × Short ends.now × (length seeds.now ≡ seeds_size) × (p.0 < peer_count) }
@@ -191,44 +189,40 @@ fn judge_create(
         let tables = seen peers.now [] [] [] no_rings in
         let find = find_at handles.now p.0 in
         let free = free_at nodes.now handles.now charges.now rings seeds.now p.0 in
-        result ≡ unless (create_by find free tables p.0 i.0) (order.Create p i (p.0 * slots + free)) }
+        ruled result ≡ unless (create_by find free tables p.0 i.0) (order.Create p i (p.0 * slots + free)) }
 {
-    let n = starts(peers, p);
-    if n != 0 {
-        return Order::Refuse(n);
+    starts(peers, p)?;
+    if tables::find(handles, p, i).is_some() {
+        return Err(Refusal::EEXIST);
     }
-    let None = tables::find(handles, p, i) else {
-        return Order::Refuse(EEXIST);
-    };
-    let Some(s) = free_slot(
+    let free = free_slot(
         nodes, handles, charges, ends, entries, carried, numbers, seeds, p,
-    ) else {
-        return Order::Refuse(ENOSPC);
-    };
-    Order::Create(p, i, s)
+    );
+    Ok(Order::Create(p, i, free.ok_or(Refusal::ENOSPC)?))
 }
 
-fn judge_destroy(peers: &[u64], nodes: &[u64], handles: &[u64], p: Peer, i: HandleId) -> Order
+fn judge_destroy(
+    peers: &[u64],
+    nodes: &[u64],
+    handles: &[u64],
+    p: Peer,
+    i: HandleId,
+) -> Result<Order, Refusal>
     requires { (length peers.now ≡ peers_size) × (length nodes.now ≡ nodes_size) × (length handles.now ≡ handles_size)
         × (p.0 < peer_count) }
     ensures { let tables = seen peers.now nodes.now handles.now [] no_rings in
         let find = find_at handles.now p.0 in
-        result ≡ unless (destroy_by find tables p.0 i.0) (order.Destroy p (find i.0)) }
+        ruled result ≡ unless (destroy_by find tables p.0 i.0) (order.Destroy p (find i.0)) }
 {
-    let n = starts(peers, p);
-    if n != 0 {
-        return Order::Refuse(n);
-    }
-    let Some(s) = tables::find(handles, p, i) else {
-        return Order::Refuse(ENXIO);
-    };
+    starts(peers, p)?;
+    let s = tables::find(handles, p, i).ok_or(Refusal::ENXIO)?;
     if s / SLOTS != p.0 {
-        return Order::Refuse(EPERM);
+        return Err(Refusal::EPERM);
     }
     if !tables::is_live(nodes, s) {
-        return Order::Refuse(EHOSTUNREACH);
+        return Err(Refusal::EHOSTUNREACH);
     }
-    Order::Destroy(p, s)
+    Ok(Order::Destroy(p, s))
 }
 
 // Is the handle the last one of a live node's owner?
@@ -236,33 +230,28 @@ fn pinned(nodes: &[u64], handles: &[u64], p: Peer, s: usize) -> bool
     requires { (length nodes.now ≡ nodes_size) × (length handles.now ≡ handles_size) × (p.0 < peer_count) × (s < node_count) }
     ensures { result ≡ is_pinned (seen [] nodes.now handles.now [] no_rings) p.0 s }
 {
-    if !tables::is_live(nodes, s) {
-        return false;
-    }
-    if s / SLOTS != p.0 {
-        return false;
-    }
-    tables::count_of(handles, p, s) == 1
+    tables::is_live(nodes, s) && s / SLOTS == p.0 && tables::count_of(handles, p, s) == 1
 }
 
-fn judge_release(peers: &[u64], nodes: &[u64], handles: &[u64], p: Peer, i: HandleId) -> Order
+fn judge_release(
+    peers: &[u64],
+    nodes: &[u64],
+    handles: &[u64],
+    p: Peer,
+    i: HandleId,
+) -> Result<Order, Refusal>
     requires { (length peers.now ≡ peers_size) × (length nodes.now ≡ nodes_size) × (length handles.now ≡ handles_size)
         × (p.0 < peer_count) }
     ensures { let tables = seen peers.now nodes.now handles.now [] no_rings in
         let find = find_at handles.now p.0 in
-        result ≡ unless (release_by find tables p.0 i.0) (order.Release p (find i.0)) }
+        ruled result ≡ unless (release_by find tables p.0 i.0) (order.Release p (find i.0)) }
 {
-    let n = starts(peers, p);
-    if n != 0 {
-        return Order::Refuse(n);
-    }
-    let Some(s) = tables::find(handles, p, i) else {
-        return Order::Refuse(ENXIO);
-    };
+    starts(peers, p)?;
+    let s = tables::find(handles, p, i).ok_or(Refusal::ENXIO)?;
     if pinned(nodes, handles, p, s) {
-        return Order::Refuse(EPERM);
+        return Err(Refusal::EPERM);
     }
-    Order::Release(p, s)
+    Ok(Order::Release(p, s))
 }
 
 fn judge_transfer(
@@ -272,94 +261,66 @@ fn judge_transfer(
     p: Peer,
     i: HandleId,
     q: Peer,
-) -> Order
+) -> Result<Order, Refusal>
     requires { (length peers.now ≡ peers_size) × (length nodes.now ≡ nodes_size) × (length handles.now ≡ handles_size)
         × (p.0 < peer_count) × (q.0 < peer_count) }
     ensures { let tables = seen peers.now nodes.now handles.now [] no_rings in
         let find = find_at handles.now p.0 in
-        result ≡ unless (transfer_by find tables p.0 i.0 q.0) (order.Transfer q (find i.0)) }
+        ruled result ≡ unless (transfer_by find tables p.0 i.0 q.0) (order.Transfer q (find i.0)) }
 {
-    let n = starts(peers, p);
-    if n != 0 {
-        return Order::Refuse(n);
-    }
-    let m = tables::standing(peers, q);
-    if m != 0 {
-        return Order::Refuse(m);
-    }
-    let Some(s) = tables::find(handles, p, i) else {
-        return Order::Refuse(ENXIO);
-    };
+    starts(peers, p)?;
+    tables::standing(peers, q)?;
+    let s = tables::find(handles, p, i).ok_or(Refusal::ENXIO)?;
     if !tables::is_live(nodes, s) {
-        return Order::Refuse(EHOSTUNREACH);
+        return Err(Refusal::EHOSTUNREACH);
     }
-    Order::Transfer(q, s)
-}
-
-// The slots of some IDs of a frame, and 0; or the refusal where one of them is not held.
-#[derive(Clone, Copy)]
-struct Slots {
-    number: u8,
-    at: [u8; 8],
+    Ok(Order::Transfer(q, s))
 }
 
 // The slots of the n IDs from the place `from` of a send's lists on.
-fn slots_of(handles: &[u64], frame: &[u8], p: Peer, from: usize, n: usize) -> Slots
+fn slots_of(
+    handles: &[u64],
+    frame: &[u8],
+    p: Peer,
+    from: usize,
+    n: usize,
+) -> Result<[u8; 8], Refusal>
     requires { (length handles.now ≡ handles_size) × (p.0 < peer_count) × (from ≤ most_ids) × (n ≤ most_ids) }
     ensures { result ≡ slots_at handles.now p.0 (ids_from frame.now from n) }
 {
-    let mut at = [0u8; 8];
-    let mut k = 0;
-    while k < n {
-        let Some(s) = tables::find(handles, p, frames::send_id(frame, from + k)) else {
-            return Slots {
-                number: ENXIO,
-                at: [0u8; 8],
-            };
-        };
+    let mut at = [0; 8];
+    for k in 0..n {
+        let s = tables::find(handles, p, frames::send_id(frame, from + k)).ok_or(Refusal::ENXIO)?;
         at[k] = s as u8;
-        k += 1;
     }
-    Slots { number: 0, at }
+    Ok(at)
 }
 
-// Do the nodes of the first n slots live?
-fn living(nodes: &[u64], to: [u8; 8], n: usize) -> bool
-    requires { (length nodes.now ≡ nodes_size) × (n ≤ most_ids) }
-    ensures { result ≡ living_at nodes.now (take n to) }
+// Do the nodes of the slots live?
+fn living(nodes: &[u64], to: &[u8]) -> bool
+    requires { length nodes.now ≡ nodes_size }
+    ensures { result ≡ living_at nodes.now to.now }
 {
-    let mut k = 0;
-    while k < n {
-        if !tables::is_live(nodes, to[k] as usize % NODES) {
-            return false;
-        }
-        k += 1;
-    }
-    true
+    to.iter()
+        .all(|s| tables::is_live(nodes, usize::from(*s) % NODES))
 }
 
-// How many of the first n slots the peer owns.
-fn places_at(to: [u8; 8], n: usize, p: Peer) -> u16
-    requires { n ≤ 8 }
-    ensures { (result ≡ places_at p.0 (take n to)) × (result ≤ most_ids) }
+// How many of the slots the peer owns.
+fn places_at(to: &[u8], p: Peer) -> u16
+    requires { length to.now ≤ most_ids }
+    ensures { (result ≡ places_at p.0 to.now) × (result ≤ most_ids) }
 {
-    let mut k = 0;
-    let mut m = 0u16;
-    while k < n {
-        if to[k] as usize / SLOTS == p.0 {
-            m += 1;
-        }
-        k += 1;
-    }
-    m
+    to.iter()
+        .filter(|s| usize::from(**s) / SLOTS == p.0)
+        .count() as u16
 }
 
-// Does quota allow what a send adds at the peer?
-fn allowed_at(charges: &[u16], u: User, to: [u8; 8], z: Sizes, p: Peer) -> bool
-    requires { (length charges.now ≡ charges_size) × (z.nd ≤ most_ids) × (z.nh ≤ most_ids) × (z.nb ≤ most_bytes) × (p.0 < peer_count) }
-    ensures { result ≡ allowed_at charges.now u (take z.nd to) z.nb z.nh p.0 }
+// Does quota allow what a send to the slots adds at the peer?
+fn allowed_at(charges: &[u16], u: User, to: &[u8], z: Sizes, p: Peer) -> bool
+    requires { (length charges.now ≡ charges_size) × (length to.now ≤ most_ids) × (z.nh ≤ most_ids) × (z.nb ≤ most_bytes) × (p.0 < peer_count) }
+    ensures { result ≡ allowed_at charges.now u to.now z.nb z.nh p.0 }
 {
-    let m = places_at(to, z.nd, p);
+    let m = places_at(to, p);
     let c = tables::load(charges, p);
     c.allows(
         u,
@@ -371,19 +332,12 @@ fn allowed_at(charges: &[u16], u: User, to: [u8; 8], z: Sizes, p: Peer) -> bool
     )
 }
 
-// Does quota allow what a send adds at each of its destinations?
-fn affordable(charges: &[u16], u: User, to: [u8; 8], z: Sizes) -> bool
-    requires { (length charges.now ≡ charges_size) × (z.nd ≤ most_ids) × (z.nh ≤ most_ids) × (z.nb ≤ most_bytes) }
-    ensures { result ≡ affordable_at charges.now u (take z.nd to) z.nb z.nh }
+// Does quota allow what a send to the slots adds at each of their owners?
+fn affordable(charges: &[u16], u: User, to: &[u8], z: Sizes) -> bool
+    requires { (length charges.now ≡ charges_size) × (length to.now ≤ most_ids) × (z.nh ≤ most_ids) × (z.nb ≤ most_bytes) }
+    ensures { result ≡ affordable_at charges.now u to.now z.nb z.nh }
 {
-    let mut k = 0;
-    while k < z.nd {
-        if !allowed_at(charges, u, to, z, Peer(to[k] as usize / SLOTS % PEERS)) {
-            return false;
-        }
-        k += 1;
-    }
-    true
+    to.iter().all(|s| allowed_at(charges, u, to, z, Peer(usize::from(*s) / SLOTS % PEERS)))
 }
 
 fn judge_send(
@@ -394,50 +348,34 @@ fn judge_send(
     frame: &[u8],
     p: Peer,
     z: Sizes,
-) -> Ruling
+) -> Result<Places, Refusal>
     requires { (length peers.now ≡ peers_size) × (length nodes.now ≡ nodes_size) × (length handles.now ≡ handles_size)
         × (length charges.now ≡ charges_size) × (p.0 < peer_count) × Sent frame.now z }
     ensures { let tables = seen peers.now nodes.now handles.now charges.now no_rings in
         let find = find_at handles.now p.0 in
         let bytes = frame.now in
-        result ≡ unless_at (send_by find tables p.0 (destinations bytes z) (attached bytes z) (length (payload_of bytes)))
+        placed (order.Send p z) result
+        ≡ unless_at (send_by find tables p.0 (destinations bytes z) (attached bytes z) (length (payload_of bytes)))
         (order.Send p z) (places_of find bytes z) }
 {
-    let n = starts(peers, p);
-    if n != 0 {
-        return plain(Order::Refuse(n));
-    }
-    let d = slots_of(handles, frame, p, 0, z.nd);
-    if d.number != 0 {
-        return plain(Order::Refuse(d.number));
-    }
-    let h = slots_of(handles, frame, p, z.nd, z.nh);
-    if h.number != 0 {
-        return plain(Order::Refuse(h.number));
-    }
-    let to = d.at;
-    if !living(nodes, to, z.nd) {
-        return plain(Order::Refuse(EHOSTUNREACH));
+    starts(peers, p)?;
+    let to = slots_of(handles, frame, p, 0, z.nd)?;
+    let carried = slots_of(handles, frame, p, z.nd, z.nh)?;
+    if !living(nodes, &to[..z.nd]) {
+        return Err(Refusal::EHOSTUNREACH);
     }
     let u = tables::user_of(peers, p);
-    if !affordable(charges, u, to, z) {
-        return plain(Order::Refuse(EDQUOT));
+    if !affordable(charges, u, &to[..z.nd], z) {
+        return Err(Refusal::EDQUOT);
     }
-    let carried = h.at;
-    Ruling {
-        order: Order::Send(p, z),
-        places: Places { to, carried },
-    }
+    Ok(Places { to, carried })
 }
 
 // Does the entry need more room than there is?
 fn too_large(e: Entry, room: usize) -> bool
     ensures { result ≡ too_large e room }
 {
-    if !queues::is_message(e) {
-        return false;
-    }
-    room < rings::wide(e.nb) + 8 * copies::least(rings::wide(e.nh), MOST_IDS)
+    queues::is_message(e) && room < usize::from(e.nb) + 8 * usize::from(e.nh).min(MOST_IDS)
 }
 
 fn judge_receive(
@@ -448,71 +386,57 @@ fn judge_receive(
     numbers: &[u64],
     p: Peer,
     room: usize,
-) -> Order
+) -> Result<Order, Refusal>
     requires { (length peers.now ≡ peers_size) × QueueTables ends.now entries.now carried.now numbers.now × (p.0 < peer_count) }
     ensures { let rings = rings_of ends.now entries.now carried.now numbers.now in
-        result ≡ unless (refuses_receive (seen peers.now [] [] [] rings) p.0 room) (order.Receive p) }
+        ruled result ≡ unless (refuses_receive (seen peers.now [] [] [] rings) p.0 room) (order.Receive p) }
 {
-    let n = starts(peers, p);
-    if n != 0 {
-        return Order::Refuse(n);
-    }
+    starts(peers, p)?;
     if rings::len_of(ends, p) == 0 {
-        return Order::Refuse(EAGAIN);
+        return Err(Refusal::EAGAIN);
     }
     if too_large(rings::first_entry(ends, entries, carried, numbers, p), room) {
-        return Order::Refuse(ERANGE);
+        return Err(Refusal::ERANGE);
     }
-    Order::Receive(p)
+    Ok(Order::Receive(p))
 }
 
-fn judge_quota(peers: &[u64], p: Peer, u: User) -> Order
+fn judge_quota(peers: &[u64], p: Peer, u: User) -> Result<Order, Refusal>
     requires { (length peers.now ≡ peers_size) × (p.0 < peer_count) }
-    ensures { result ≡ unless (refuses_quota (seen peers.now [] [] [] no_rings) p.0) (order.Quota p u) }
+    ensures { ruled result ≡ unless (refuses_quota (seen peers.now [] [] [] no_rings) p.0) (order.Quota p u) }
 {
-    let n = tables::standing(peers, p);
-    if n != 0 {
-        return Order::Refuse(n);
-    }
-    Order::Quota(p, u)
+    tables::standing(peers, p)?;
+    Ok(Order::Quota(p, u))
 }
 
-fn judge_holders(peers: &[u64], handles: &[u64], p: Peer, i: HandleId) -> Order
+fn judge_holders(peers: &[u64], handles: &[u64], p: Peer, i: HandleId) -> Result<Order, Refusal>
     requires { (length peers.now ≡ peers_size) × (length handles.now ≡ handles_size) × (p.0 < peer_count) }
     ensures { let tables = seen peers.now [] handles.now [] no_rings in
         let find = find_at handles.now p.0 in
-        result ≡ unless (holders_by find tables p.0 i.0) (order.Holders (find i.0)) }
+        ruled result ≡ unless (holders_by find tables p.0 i.0) (order.Holders (find i.0)) }
 {
-    let n = tables::standing(peers, p);
-    if n != 0 {
-        return Order::Refuse(n);
-    }
-    let Some(s) = tables::find(handles, p, i) else {
-        return Order::Refuse(ENXIO);
-    };
+    tables::standing(peers, p)?;
+    let s = tables::find(handles, p, i).ok_or(Refusal::ENXIO)?;
     if s / SLOTS != p.0 {
-        return Order::Refuse(EPERM);
+        return Err(Refusal::EPERM);
     }
-    Order::Holders(s)
+    Ok(Order::Holders(s))
 }
 
 // 0c: 11 where no seed is set, then the room test of a receive (02 No. 1).
-fn judge_seed(peers: &[u64], seeds: &[u8], p: Peer, room: usize) -> Order
+fn judge_seed(peers: &[u64], seeds: &[u8], p: Peer, room: usize) -> Result<Order, Refusal>
     requires { (length peers.now ≡ peers_size) × (length seeds.now ≡ seeds_size) × (p.0 < peer_count) }
     ensures { let tables = seen_with peers.now [] [] [] no_rings seeds.now in
-        result ≡ unless (refuses_seed tables p.0 room) (order.ShowSeed p) }
+        ruled result ≡ unless (refuses_seed tables p.0 room) (order.ShowSeed p) }
 {
-    let n = starts(peers, p);
-    if n != 0 {
-        return Order::Refuse(n);
-    }
+    starts(peers, p)?;
     if !seeds::is_set(seeds, p) {
-        return Order::Refuse(EAGAIN);
+        return Err(Refusal::EAGAIN);
     }
     if room < seeds::nb_of(seeds, p) + 8 * seeds::nh_of(seeds, p) {
-        return Order::Refuse(ERANGE);
+        return Err(Refusal::ERANGE);
     }
-    Order::ShowSeed(p)
+    Ok(Order::ShowSeed(p))
 }
 
 // What the bus says to a command. `ps`, `ns`, `hs` and `cs` are the tables of peers, nodes, handles and charges.
@@ -545,7 +469,13 @@ pub fn judge(
         Command::Destroy(p, i) => plain(judge_destroy(ps, ns, hs, p, i)),
         Command::Release(p, i) => plain(judge_release(ps, ns, hs, p, i)),
         Command::Transfer(p, i, q) => plain(judge_transfer(ps, ns, hs, p, i, q)),
-        Command::Send(p, z) => judge_send(ps, ns, hs, cs, frame, p, z),
+        Command::Send(p, z) => match judge_send(ps, ns, hs, cs, frame, p, z) {
+            Ok(places) => Ruling {
+                order: Order::Send(p, z),
+                places,
+            },
+            Err(refusal) => plain(Err(refusal)),
+        },
         Command::Receive(p, room) => {
             plain(judge_receive(ps, ends, entries, carried, numbers, p, room))
         }

@@ -1,7 +1,6 @@
 -- `judges::allowed_at` meets its contract: what is asked of quota is what the model's send adds there, and the products fit. Assumes nothing.
 use Rattle.judges.specs.CodeSends.{product, allowed-is}
 use native.Mathlib.Omega.{arith}
-use borrow.Author.Rules.{rules}
 use Rattle.judges.proofs.allowed_at.Goals as goal
 
 pub overflow_mul-m : goal.overflow_mul-m

@@ -1,7 +1,6 @@
 -- `judges::counts` meets its contract: the node lives, is held, is named by a message or by a seed, in the order of the model's test. Assumes nothing.
 use Rattle.judges.specs.CodeCreates.{counts-live, counts-held, counts-named, counts-seeded}
 use Rattle.rings.specs.Rings.{rings_of}
-use borrow.Author.Rules.{rules}
 use Rattle.judges.proofs.counts.Goals as goal
 
 pub returns-then-is_live : goal.returns-then-is_live

@@ -1,6 +1,5 @@
 -- `judges::judge_open` meets its contract: each return is the model's refusal, or the order, for the status that was read. Assumes nothing.
 use Rattle.judges.specs.CodeOrders.{open-over, open-new, open-again, open_gone}
-use borrow.Author.Rules.{rules}
 use Rattle.judges.proofs.judge_open.Goals as goal
 
 pub returns-then-accepted-ge-MOST_COMMANDS : goal.returns-then-accepted-ge-MOST_COMMANDS

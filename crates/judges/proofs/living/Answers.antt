@@ -1,19 +1,12 @@
--- `judges::living` meets its contract: after each turn what is left of the slots answers as all of them; the measure is what is left. Assumes nothing.
-use Prim.Native.Nat.{◌-◌}
-use Rattle.judges.specs.CodeSends.{Living, living-start, living-dead, living-more, living-end}
-use borrow.Author.Tests.{not-true, not-false}
-use native.Mathlib.Omega.{arith}
+-- `judges::living` meets its contract: every slot's node is asked. Assumes nothing.
+use Rattle.judges.specs.CodeSends.{living-is}
+use Rattle.tables.specs.Nodes.{live_at}
+use Rattle.std.proofs.lemmas.Iterator.{YieldsList-from_slice}
+use Rattle.std.proofs.lemmas.Iterator.Search.{all_from_yields_List}
+use Rattle.std.proofs.Common.{tests, ◌%◌}
+use Rattle.model.specs.Numbers.{nodes}
 use borrow.Author.Rules.{rules}
 use Rattle.judges.proofs.living.Goals as goal
 
-pub loop-k-init : goal.loop-k-init
-loop-k-init c = living-start _ _ _
-
-pub returns-then-not-is_live : goal.returns-then-not-is_live
-returns-then-not-is_live c = living-dead _ _ _ _ c.loop-k.invariant c.loop-k-test.true (omega (arith, c.requires.1)) c.is_live.ensures c.if-not-is_live.true
-
-pub loop-k-preserved : goal.loop-k-preserved
-loop-k-preserved c = living-more _ _ _ _ c.loop-k.invariant c.loop-k-test.true (omega (arith, c.requires.1)) c.is_live.ensures c.if-not-is_live.false
-
 pub returns : goal.returns
-returns c = living-end _ _ _ _ c.loop-k.invariant c.loop-k-test.false
+returns c = living-is c.args.nodes.now c.args.to.now (all_from_yields_List (λ s. live_at c.args.nodes.now (s % nodes)) _ _ _ c.all.ensures.ran (YieldsList-from_slice c.args.to.now cc) (λ x b q k. search (rules, tests)))

@@ -1,20 +1,13 @@
--- `judges::places_at` meets its contract: after each turn the count and what is left of the slots make the whole; the measure is what is left. Assumes nothing.
-use Prim.Native.Nat.{◌-◌}
-use Rattle.judges.specs.CodeSends.{Counted, counted_start, counted-own, counted-other, counted-end}
+-- `judges::places_at` meets its contract: the slots of the peer are counted. Assumes nothing.
+use Rattle.judges.specs.CodeSends.{places-is, places-few}
+use Rattle.std.proofs.lemmas.Iterator.{YieldsList-from_slice}
+use Rattle.std.proofs.lemmas.Iterator.Consumers.{count_from_yields_List, YieldsList-from_filter}
+use Rattle.std.proofs.Common.{tests, ◌/◌, eqb}
 use native.Mathlib.Omega.{arith}
 use borrow.Author.Rules.{rules}
 use Rattle.judges.proofs.places_at.Goals as goal
-use Rattle.judges.proofs.places_at.Goals.{then-to-k, else-to-k}
-
-pub loop-k-init : goal.loop-k-init
-loop-k-init c = counted_start _ _ _
-
-pub loop-k-preserved : goal.loop-k-preserved
-loop-k-preserved c =
-    elim c.if-to-k.branch [
-      | then-to-k w ↦ counted-own _ _ _ _ _ c.loop-k.invariant c.loop-k-test.true (omega (arith, c.requires)) w.if-to-k.true w.m-is
-      | else-to-k w ↦ counted-other _ _ _ _ _ c.loop-k.invariant c.loop-k-test.true (omega (arith, c.requires)) w.if-to-k.false w.m-is
-    ]
 
 pub returns : goal.returns
-returns c = counted-end _ _ _ _ _ c.loop-k.invariant c.loop-k-test.false c.requires
+returns c =
+    let e = count_from_yields_List c.filter.result _ c.count.ensures.ran (YieldsList-from_filter _ (λ s. eqb (s / 16) c.args.p.0) (YieldsList-from_slice c.args.to.now cc) c.filter.ensures.closure (λ x b q k. search (rules, tests))) in
+    (places-is c.args.to.now c.args.p.0 e, omega (arith, e, places-few c.args.to.now c.args.p.0 c.requires))

@@ -1,6 +1,5 @@
 -- `judges::starts` meets its contract: each of the two tests gives its own side of the definition. Assumes nothing.
 use Rattle.judges.specs.CodeOrders.{starts-counted, starts-over}
-use borrow.Author.Rules.{rules}
 use Rattle.judges.proofs.starts.Goals as goal
 
 pub returns-then-accepted-lt-MOST_COMMANDS : goal.returns-then-accepted-lt-MOST_COMMANDS
