@@ -4,11 +4,12 @@
 #![tactic(auto)]
 
 ghost use Rattle.std.specs.Prelude.{◌≡◌, ◌+◌, ◌*◌, ◌<◌, ◌≤◌, length};
+ghost use Rattle.rings.specs.Lent.{lent};
 ghost use Rattle.rings.specs.Rings.{peers, ring_size, rings_of, QueueTables, length_of, queue_of};
 ghost use Rattle.pool.specs.Pool.{area_size, pool_size, piece_of, appended, closed, bytes_in, kept, kept_piece, kept_pieces};
 
 use ids::{AREA, Peer};
-use rings::{DESTROYED, Entry, Match, RELEASED};
+use rings::{DESTROYED, Entry, Match, RELEASED, RingTables};
 
 // The n bytes from a place of a peer's area on.
 #[tactic(auto, unfolding(crate::specs::Pool::piece_of))]
@@ -68,24 +69,21 @@ fn keep_piece(pool: &mut [u8], p: Peer, read: usize, at: usize, e: Entry, m: Mat
 // The payloads of the entries that a removal takes out of a queue are taken out; the others move down, in order. How many bytes stay.
 pub fn remove(
     pool: &mut [u8],
-    ends: &[u16],
-    entries: &[u16],
-    carried: &[u8],
-    numbers: &[u64],
+    rings: &RingTables<'_>,
     p: Peer,
     m: Match,
 ) -> usize
-    requires { QueueTables ends.now entries.now carried.now numbers.now × (p.0 < peers) × (length_of ends.now p.0 ≤ ring_size) }
-    ensures { let rings = rings_of ends.now entries.now carried.now numbers.now in
-        kept result pool.new ≡ kept_pieces pool.old p.0 0 0 m (queue_of rings p.0) }
+    requires { (p.0 < peers) × (length_of rings.now.ends.now p.0 ≤ ring_size) }
+    ensures { let queues = lent rings.now in
+        kept result pool.new ≡ kept_pieces pool.old p.0 0 0 m (queue_of queues p.0) }
 {
-    let head = rings::head_of(ends, p);
-    let len = rings::len_of(ends, p);
+    let head = rings.head(p);
+    let len = rings.len(p);
     let mut read = 0;
     let mut stays = 0;
     for i in 0..len {
         let row = rings::row_of(p, head, i);
-        let e = rings::get_entry(entries, carried, numbers, row);
+        let e = rings.entry(row);
         stays = keep_piece(pool, p, read, stays, e, m);
         read += bytes_in(e);
     }

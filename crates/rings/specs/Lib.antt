@@ -3,3 +3,4 @@ pub mod Matches
 pub mod Laws
 pub mod Sweep
 pub mod Search
+pub mod Lent

@@ -12,8 +12,12 @@ ghost use Rattle.rings.specs.Rings.{kind_count, peers, ring_size, row_count, ent
 ghost use Rattle.rings.specs.Rings.{entries_size, carried_size, rows_of, rings_of, Sized, QueueTables, fields_of, entry_at};
 ghost use Rattle.rings.specs.Rings.{put_at, row_of, head_of, length_of, first_of, pushed, popped, cleared, bit_at, kind_bit};
 ghost use Rattle.rings.specs.Rings.{slot_in, matches_of, matches, one_slot, removed, swept, kept_entry, kept_entries};
+ghost use Rattle.rings.specs.Lent.{lent, SameTables};
+
+mod lent;
 
 use ids::{CARRIED_FIELDS, END_FIELDS, ENTRY_FIELDS, Peer, RING, SLOTS};
+pub use lent::RingTables;
 
 // The kinds of entry: a message (so is any other number), a destroy notice, a release notice.
 pub const MESSAGE: u16 = 0;
@@ -133,40 +137,6 @@ pub fn put_entry(entries: &mut [u16], carried: &mut [u8], numbers: &mut [u64], r
     put_fields(entries, row, e);
     put_carried(carried, row, e.carried);
     numbers[row] = e.number;
-}
-
-// The oldest entry of a queue, or what its place holds where the queue is empty.
-#[tactic(auto, unfolding(crate::specs::Rings::first_of))]
-pub fn first_entry(ends: &[u16], entries: &[u16], carried: &[u8], numbers: &[u64], p: Peer) -> Entry
-    requires { QueueTables ends.now entries.now carried.now numbers.now × (p.0 < peers) }
-    ensures { result ≡ first_of (rings_of ends.now entries.now carried.now numbers.now) p.0 }
-{
-    let head = head_of(ends, p);
-    let row = row_of(p, head, 0);
-    get_entry(entries, carried, numbers, row)
-}
-
-// An entry appended to a queue that has room.
-#[tactic(auto, unfolding(crate::specs::Rings::pushed))]
-pub fn push(
-    ends: &mut [u16],
-    entries: &mut [u16],
-    carried: &mut [u8],
-    numbers: &mut [u64],
-    p: Peer,
-    e: Entry,
-)
-    requires { QueueTables ends.old entries.old carried.old numbers.old × (p.0 < peers) × (length_of ends.old p.0 < ring_size) }
-    ensures { let before = rings_of ends.old entries.old carried.old numbers.old in
-        let after = rings_of ends.new entries.new carried.new numbers.new in
-        after ≡ pushed before p.0 e }
-{
-    let head = head_of(ends, p);
-    let len = len_of(ends, p);
-    let row = row_of(p, head, len);
-    put_entry(entries, carried, numbers, row, e);
-    let at = p.0 * END_FIELDS + 1;
-    ends[at] = (len + 1) as u16;
 }
 
 // The oldest entry dropped; of an empty queue, nothing but its place.
@@ -345,27 +315,87 @@ fn sweep(
     kept
 }
 
-// Every entry that matches taken out of a queue; the others keep their order.
-pub fn remove(
-    ends: &mut [u16],
-    entries: &mut [u16],
-    carried: &mut [u8],
-    numbers: &mut [u64],
-    p: Peer,
-    m: Match,
-)
-    requires { QueueTables ends.old entries.old carried.old numbers.old × (p.0 < peers) × (length_of ends.old p.0 ≤ ring_size) }
-    ensures { let before = rings_of ends.old entries.old carried.old numbers.old in
-        let after = rings_of ends.new entries.new carried.new numbers.new in
-        after ≡ removed before p.0 m }
-{
-    let head = head_of(ends, p);
-    let len = len_of(ends, p);
-    let from = first_match(entries, p, head, len, m);
-    if from == len {
-        return;
+impl RingTables<'_> {
+    // Where the peer's queue begins in its ring.
+    pub fn head(&self, p: Peer) -> usize
+        requires { p.0 < peers }
+        ensures { (result ≡ head_of self.now.ends.now p.0) × (result < 65536) }
+    {
+        head_of(self.ends, p)
     }
-    let kept = sweep(entries, carried, numbers, p, head, len, m, from);
-    let at = p.0 * END_FIELDS + 1;
-    ends[at] = kept as u16;
+
+    // How many entries the peer's queue has.
+    pub fn len(&self, p: Peer) -> usize
+        requires { p.0 < peers }
+        ensures { (result ≡ length_of self.now.ends.now p.0) × (result < 65536) }
+    {
+        len_of(self.ends, p)
+    }
+
+    // The entry in a row.
+    pub fn entry(&self, row: usize) -> Entry
+        requires { row < row_count }
+        ensures { result ≡ entry_at (lent self.now).rows row }
+    {
+        get_entry(self.entries, self.carried, self.numbers, row)
+    }
+
+    // The oldest entry of a queue, or what its place holds where the queue is empty.
+    #[tactic(auto, unfolding(crate::specs::Rings::first_of))]
+    pub fn first(&self, p: Peer) -> Entry
+        requires { p.0 < peers }
+        ensures { result ≡ first_of (lent self.now) p.0 }
+    {
+        let row = row_of(p, self.head(p), 0);
+        self.entry(row)
+    }
+
+    // The place in a queue of the first entry that a removal takes out, or the length where it takes none.
+    pub fn first_match(&self, p: Peer, head: usize, len: usize, m: Match) -> usize
+        requires { (p.0 < peers) × (head < 65536) × (len ≤ ring_size) }
+        ensures { (c n : List ℕ) → result ≡ first (λ i. matches m (entry_at (rows_of self.now.entries.now c n) (row_of p.0 head i))) len }
+    {
+        first_match(self.entries, p, head, len, m)
+    }
+
+    // An entry appended to a queue that has room.
+    #[tactic(auto, unfolding(crate::specs::Rings::pushed))]
+    pub fn push(&mut self, p: Peer, e: Entry)
+        requires { (p.0 < peers) × (length_of self.old.ends.now p.0 < ring_size) }
+        ensures same { SameTables self.old self.new }
+        ensures done { lent self.new ≡ pushed (lent self.old) p.0 e }
+    {
+        let head = self.head(p);
+        let len = self.len(p);
+        let row = row_of(p, head, len);
+        put_entry(self.entries, self.carried, self.numbers, row, e);
+        let at = p.0 * END_FIELDS + 1;
+        self.ends[at] = (len + 1) as u16;
+    }
+
+    // Every entry that matches taken out of a queue; the others keep their order.
+    pub fn remove(&mut self, p: Peer, m: Match)
+        requires { (p.0 < peers) × (length_of self.old.ends.now p.0 ≤ ring_size) }
+        ensures same { SameTables self.old self.new }
+        ensures done { lent self.new ≡ removed (lent self.old) p.0 m }
+    {
+        let head = self.head(p);
+        let len = self.len(p);
+        let from = self.first_match(p, head, len, m);
+        if from == len {
+            return;
+        }
+        let kept = sweep(
+            self.entries,
+            self.carried,
+            self.numbers,
+            p,
+            head,
+            len,
+            m,
+            from,
+        );
+        let at = p.0 * END_FIELDS + 1;
+        self.ends[at] = kept as u16;
+    }
 }

@@ -1,0 +1,14 @@
+-- The four tables of the queues, lent together: the rings that they hold, and that a call leaves the same four lent.
+-- Assumes nothing.
+use Rattle.std.specs.Prelude.{◌≡◌}
+use Rattle.rings.specs.declared.lent.RingTables.{RingTables}
+use Rattle.rings.specs.Rings.{Rings, rings_of}
+
+abbrev pub lent : RingTables → Rings
+lent t = rings_of t.ends.now t.entries.now t.carried.now t.numbers.now
+
+pub record SameTables (t u : RingTables) : Type 0 where
+  pub ends : u.ends.ghost_name ≡ t.ends.ghost_name
+  pub entries : u.entries.ghost_name ≡ t.entries.ghost_name
+  pub carried : u.carried.ghost_name ≡ t.carried.ghost_name
+  pub numbers : u.numbers.ghost_name ≡ t.numbers.ghost_name
