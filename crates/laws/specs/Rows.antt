@@ -102,7 +102,16 @@ array_stored l v i w {ws} e size fit =
     let whole : length v ≡ w = ap length (sym e) ∙ size ∙ part ∙ omega arith in
     run_stored l (row_in w v 0) i w (e ∙ sym (row-self w v whole)) (row-length w v 0) fit
 
--- a row of 5 by its numbers
+-- what straight-line code reads and stores: a row of 5
 pub row5 : (l : List ℕ) (r : ℕ) → row_in 5 l r ≡ get_or l (5 * r) 0 ∷ get_or l (5 * r + 1) 0 ∷ get_or l (5 * r + 2) 0 ∷ get_or l (5 * r + 3) 0 ∷ get_or l (5 * r + 4) 0 ∷ []
 unfolding row_in build
 row5 l r = let e : 5 * r + 0 ≡ 5 * r = omega arith in rw e
+
+pub stores5 : (b : List ℕ) (t x0 x1 x2 x3 x4 : ℕ) →
+    set (set (set (set (set b t x0) (t + 1) x1) (t + 2) x2) (t + 3) x3) (t + 4) x4 ≡ sets b t (x0 ∷ x1 ∷ x2 ∷ x3 ∷ x4 ∷ [])
+stores5 b t x0 x1 x2 x3 x4 =
+    let e1 : t + 1 ≡ suc t = omega arith in
+    let e2 : t + 2 ≡ suc (suc t) = omega arith in
+    let e3 : t + 3 ≡ suc (suc (suc t)) = omega arith in
+    let e4 : t + 4 ≡ suc (suc (suc (suc t))) = omega arith in
+    rw (e1, e2, e3, e4)

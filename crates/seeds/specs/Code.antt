@@ -1,7 +1,8 @@
 -- What the code's proofs cite: one law for each return and each turn of a loop, over plain variables.
 -- Assumes nothing.
-use Rattle.std.specs.Prelude.{ℕ, zero, suc, ◌+◌, ◌-◌, ◌%◌, ◌≤◌, ◌<◌, ◌≡◌, refl, Bool, true, false, List, [], ◌∷◌, length, get_or, take, drop, eqb}
+use Rattle.std.specs.Prelude.{ℕ, zero, suc, ◌+◌, ◌-◌, ◌%◌, ◌≤◌, ◌<◌, ◌≡◌, refl, Bool, true, false, List, [], ◌∷◌, length, get_or, set, take, drop, eqb}
 use Rattle.std.proofs.Common.{sym, ap, ◌∙◌, arith, not-suc-le-zero, length-drop, ext_get_or, get_or-take, get_or-drop, length-take-le, eq-eqb, ne_eqb, below_more}
+use Rattle.std.proofs.lemmas.List.Edits.{sets}
 use Rattle.laws.specs.Tests.{Seen, Seen.is_true, Seen.is_false, look, clash}
 use Rattle.laws.specs.Guards.{upto-at}
 use Rattle.laws.specs.Build.{build, build-at, build-length}
@@ -39,6 +40,14 @@ piece_is t p n size h k = ap (λ (x : ℕ). take x (drop (area_at p) t)) same �
     each i l =
         let m : i < n = omega (arith, len) in
         get_or-take n (drop (area_at p) t) i 0 m ∙ get_or-drop (area_at p) t i 0 ∙ sym (build-at (λ k. get_or t (area_at p + k) 0) n i 0 m)
+
+-- put_head: four stores in a row
+pub stores4 : (b : List ℕ) (t x0 x1 x2 x3 : ℕ) → set (set (set (set b t x0) (t + 1) x1) (t + 2) x2) (t + 3) x3 ≡ sets b t (x0 ∷ x1 ∷ x2 ∷ x3 ∷ [])
+stores4 b t x0 x1 x2 x3 =
+    let e1 : t + 1 ≡ suc t = omega arith in
+    let e2 : t + 2 ≡ suc (suc t) = omega arith in
+    let e3 : t + 3 ≡ suc (suc (suc t)) = omega arith in
+    rw (e1, e2, e3)
 
 -- is_among: no slot before k is s
 module _ (f : ℕ → Bool) where

@@ -73,7 +73,7 @@ pub fn piece(seeds: &[u8], p: Peer, nb: usize) -> &[u8]
 }
 
 // The first four bytes of a row: a seed is set, and its sizes.
-#[tactic(auto, using(laws::specs::Rows::run_stored))]
+#[tactic(auto, using(crate::specs::Code::stores4))]
 fn put_head(seeds: &mut [u8], p: Peer, nh: usize, nb: usize)
     requires { (length seeds.old ≡ seeds_size) × (p.0 < peers) × (nb ≤ most_bytes) }
     ensures { seeds.new ≡ sets seeds.old (row_at p.0) (head_of nh nb) }
@@ -81,7 +81,11 @@ fn put_head(seeds: &mut [u8], p: Peer, nh: usize, nb: usize)
     let a = SEED_FIELDS * p.0;
     let n = nh.min(MOST_IDS) as u8;
     let [high, low] = (nb as u16).to_be_bytes();
-    seeds[a..a + 4].copy_from_slice(&[SET, n, high, low]);
+    // Store by store: `copy_from_slice` of the four goes through the stack (see `rings::put_fields`).
+    seeds[a] = SET;
+    seeds[a + 1] = n;
+    seeds[a + 2] = high;
+    seeds[a + 3] = low;
 }
 
 #[tactic(auto, using(laws::specs::Rows::array_stored))]
