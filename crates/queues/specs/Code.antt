@@ -14,7 +14,7 @@ use Rattle.quota.specs.declared.Charges.{Charges}
 use Rattle.quota.specs.Charges.{fresh_charges, charged, discharged}
 use Rattle.rings.specs.declared.Entry.{Entry}
 use Rattle.rings.specs.declared.Match.{Match}
-use Rattle.rings.specs.Rings.{kind_destroyed, kind_released, peers, ring_size, Rings, rows_of, head_of, length_of, row_of, entry_at, queue_of, matches, pushed, removed}
+use Rattle.rings.specs.Rings.{kind_destroyed, kind_released, peers, ring_size, row_count, Rings, rings_of, rows_of, head_of, length_of, row_of, entry_at, queue_of, matches, pushed, removed}
 use Rattle.rings.specs.Laws.{row_at, queue-empty, queue-length, queue-at}
 use Rattle.pool.specs.Pool.{Kept, kept, appended, closed, kept_pieces}
 use Rattle.tables.specs.Charges.{charges_at, put_charges}
@@ -232,26 +232,34 @@ module _ (s : ℕ) (e c : List ℕ) (row : ℕ) {b : Bool} (eb : b ≡ message_k
         rw (row5, ← eb, t, ne_eqb s (get_or e (entry_fields * row + 1) 0) (λ h. ne (ew ∙ sym h)), ← take_min (get_or e (entry_fields * row + 4) 0) (row_in carried_fields c row))
         (er ∙ ap (λ (y : ℕ). any (eqb s) (take y (row_in carried_fields c row))) few)
 
--- named_at
-pub record Naming (g : Rings) (p s i : ℕ) : Type 0 where
-  pub rest : any (names_in s) (drop i (queue_of g p)) ≡ any (names_in s) (queue_of g p)
+-- any_row: what is left of the queue answers as the whole, of each test that the calls answered as.
+abbrev pub Answered : (ℕ → Bool → Type 0) → List ℕ → List ℕ → List ℕ → (Entry → Bool) → Type 0
+Answered answers e c n t = (row : ℕ) → row < row_count → (b : Bool) → answers row b → b ≡ t (entry_at (rows_of e c n) row)
 
-pub naming-start : (g : Rings) (p s : ℕ) → Naming g p s 0
-naming-start g p s = record { rest = refl }
+pub record Walking (ends : List ℕ) (p : ℕ) (answers : ℕ → Bool → Type 0) (i : ℕ) : Type 0 where
+  pub rest : (e c n : List ℕ) (t : Entry → Bool) → Answered answers e c n t → any t (drop i (queue_of (rings_of ends e c n) p)) ≡ any t (queue_of (rings_of ends e c n) p)
 
-module _ {g : Rings} {p s i : ℕ} (v : Naming g p s i) {l : ℕ} (el : l ≡ length_of g.ends p) where
-  pub naming-end : l ≤ i → false ≡ any (names_in s) (queue_of g p)
-  naming-end h = ap (any (names_in s)) (sym (queue-end g p i el h)) ∙ v.rest
+pub walking-start : {ends : List ℕ} {p : ℕ} {answers : ℕ → Bool → Type 0} → Walking ends p answers 0
+walking-start = record { rest = λ e c n t h. refl }
 
-  module _ (lt : i < l) {h : ℕ} (eh : h ≡ head_of g.ends p) {row : ℕ} (er : row ≡ row_of p h i) {b : Bool} (eb : b ≡ names_in s (entry_at g.rows row)) where
-    naming-here : any (names_in s) (entry_at g.rows row ∷ drop (i + 1) (queue_of g p)) ≡ any (names_in s) (queue_of g p)
-    naming-here = ap (any (names_in s)) (sym (queue-next g p i el lt eh er refl)) ∙ v.rest
+module _ {ends : List ℕ} {p : ℕ} {answers : ℕ → Bool → Type 0} {i : ℕ} (v : Walking ends p answers i) {l : ℕ} (el : l ≡ length_of ends p) where
+  pub walking-end : l ≤ i → (e c n : List ℕ) (t : Entry → Bool) → Answered answers e c n t → false ≡ any t (queue_of (rings_of ends e c n) p)
+  walking-end h e c n t a = ap (any t) (sym (queue-end (rings_of ends e c n) p i el h)) ∙ v.rest e c n t a
 
-    pub naming-found : b ≡ true → true ≡ any (names_in s) (queue_of g p)
-    naming-found t = sym (any_here (names_in s) (entry_at g.rows row) (drop (i + 1) (queue_of g p)) (sym eb ∙ t)) ∙ naming-here
+  module _ (lt : i < l) {h : ℕ} (eh : h ≡ head_of ends p) {row : ℕ} (er : row ≡ row_of p h i) (fit : row < row_count) {b : Bool} (eb : answers row b) where
+    walking-here : (e c n : List ℕ) (t : Entry → Bool) → Answered answers e c n t →
+        any t (entry_at (rows_of e c n) row ∷ drop (i + 1) (queue_of (rings_of ends e c n) p)) ≡ any t (queue_of (rings_of ends e c n) p)
+    walking-here e c n t a = ap (any t) (sym (queue-next (rings_of ends e c n) p i el lt eh er refl)) ∙ v.rest e c n t a
 
-    pub naming-next : b ≡ false → Naming g p s (i + 1)
-    naming-next f = record { rest = sym (any_next (names_in s) (entry_at g.rows row) (drop (i + 1) (queue_of g p)) (sym eb ∙ f)) ∙ naming-here }
+    pub walking-found : b ≡ true → (e c n : List ℕ) (t : Entry → Bool) → Answered answers e c n t → true ≡ any t (queue_of (rings_of ends e c n) p)
+    walking-found hit e c n t a =
+        sym (any_here t (entry_at (rows_of e c n) row) (drop (i + 1) (queue_of (rings_of ends e c n) p)) (sym (a row fit b eb) ∙ hit)) ∙ walking-here e c n t a
+
+    pub walking-next : b ≡ false → Walking ends p answers (i + 1)
+    walking-next miss = record {
+      rest = λ e c n t a.
+          sym (any_next t (entry_at (rows_of e c n) row) (drop (i + 1) (queue_of (rings_of ends e c n) p)) (sym (a row fit b eb) ∙ miss)) ∙ walking-here e c n t a;
+    }
 
 -- named
 either-right : (a : Bool) {b : Bool} → b ≡ true → either a b ≡ true
@@ -315,27 +323,6 @@ module _ (s num : ℕ) (e c n : List ℕ) (row : ℕ) {b : Bool} (eb : b ≡ mes
         let few : k ≡ min (length (row_in carried_fields c row)) (get_or e (entry_fields * row + 4) 0) = omega (arith, row-length 8 c row) in
         rw (row5, ← eb, t, ← ew, lt-ltb w num h, ← take_min (get_or e (entry_fields * row + 4) 0) (row_in carried_fields c row))
         (er ∙ ap (λ (y : ℕ). any (eqb s) (take y (row_in carried_fields c row))) few)
-
--- carried_at
-pub record Bringing (g : Rings) (p s num i : ℕ) : Type 0 where
-  pub rest : any (brings_in num s) (drop i (queue_of g p)) ≡ any (brings_in num s) (queue_of g p)
-
-pub bringing-start : (g : Rings) (p s num : ℕ) → Bringing g p s num 0
-bringing-start g p s num = record { rest = refl }
-
-module _ {g : Rings} {p s num i : ℕ} (v : Bringing g p s num i) {l : ℕ} (el : l ≡ length_of g.ends p) where
-  pub bringing-end : l ≤ i → false ≡ any (brings_in num s) (queue_of g p)
-  bringing-end h = ap (any (brings_in num s)) (sym (queue-end g p i el h)) ∙ v.rest
-
-  module _ (lt : i < l) {h : ℕ} (eh : h ≡ head_of g.ends p) {row : ℕ} (er : row ≡ row_of p h i) {b : Bool} (eb : b ≡ brings_in num s (entry_at g.rows row)) where
-    bringing-here : any (brings_in num s) (entry_at g.rows row ∷ drop (i + 1) (queue_of g p)) ≡ any (brings_in num s) (queue_of g p)
-    bringing-here = ap (any (brings_in num s)) (sym (queue-next g p i el lt eh er refl)) ∙ v.rest
-
-    pub bringing-found : b ≡ true → true ≡ any (brings_in num s) (queue_of g p)
-    bringing-found t = sym (any_here (brings_in num s) (entry_at g.rows row) (drop (i + 1) (queue_of g p)) (sym eb ∙ t)) ∙ bringing-here
-
-    pub bringing-next : b ≡ false → Bringing g p s num (i + 1)
-    bringing-next f = record { rest = sym (any_next (brings_in num s) (entry_at g.rows row) (drop (i + 1) (queue_of g p)) (sym eb ∙ f)) ∙ bringing-here }
 
 -- carried_before
 module _ (cs : List ℕ) (g : Rings) (s num p : ℕ) {n : ℕ} (en : n ≡ length_of g.ends p) where

@@ -4,7 +4,7 @@
 
 #![tactic(auto)]
 
-ghost use Rattle.std.specs.Prelude.{◌≡◌, false, List, ℕ, ◌*◌, ◌<◌, ◌≤◌, length, take, eqb};
+ghost use Rattle.std.specs.Prelude.{◌≡◌, false, Bool, List, ℕ, ◌*◌, ◌<◌, ◌≤◌, length, take, eqb};
 ghost use Rattle.laws.specs.Rows.{row_in};
 ghost use Rattle.rings.specs.Rings.{peers, ring_size, row_count, carried_fields, ends_size, entries_size, carried_size};
 ghost use Rattle.rings.specs.Rings.{rows_of, Sized, rings_of, QueueTables, entry_at, length_of, queue_of, cleared};
@@ -23,22 +23,19 @@ use rings::{Entry, Match};
 pub fn used(c: Charges) -> usize
     ensures { (result ≡ used_of c) × (result ≤ area_size) }
 {
-    let by = c.by;
-    let sum = rings::wide(by[0].bytes)
-        + rings::wide(by[1].bytes)
-        + rings::wide(by[2].bytes)
-        + rings::wide(by[3].bytes);
-    copies::least(sum, AREA)
+    let [a, b, c, d] = c.by;
+    let sum = rings::wide(a.bytes)
+        + rings::wide(b.bytes)
+        + rings::wide(c.bytes)
+        + rings::wide(d.bytes);
+    sum.min(AREA)
 }
 
 // Is the kind a message's, and no notice's?
 fn is_message_kind(kind: u16) -> bool
     ensures { result ≡ message_kind kind }
 {
-    if kind == rings::DESTROYED {
-        return false;
-    }
-    kind != rings::RELEASED
+    !matches!(kind, rings::DESTROYED | rings::RELEASED)
 }
 
 // Is the entry a message, and no notice?
@@ -55,7 +52,7 @@ fn charge_of(e: Entry) -> Charge
     Charge {
         messages: 1,
         bytes: e.nb,
-        handles: copies::least(rings::wide(e.nh), MOST_IDS) as u16,
+        handles: e.nh.min(MOST_IDS as u16),
     }
 }
 
@@ -103,7 +100,7 @@ pub fn enqueue(
     tables::store(
         charges,
         p,
-        c.charge(User(rings::wide(e.user)), charge_of(e)),
+        c.charge(User(usize::from(e.user)), charge_of(e)),
     );
 }
 
@@ -115,12 +112,12 @@ pub fn settle(charges: &mut [u16], pool: &mut [u8], p: Peer, e: Entry)
 {
     let c = tables::load(charges, p);
     let all = used(c);
-    let n = copies::least(rings::wide(e.nb), all);
+    let n = usize::from(e.nb).min(all);
     pool::close(pool, p, 0, n, all);
     tables::store(
         charges,
         p,
-        c.discharge(User(rings::wide(e.user)), charge_of(e)),
+        c.discharge(User(usize::from(e.user)), charge_of(e)),
     );
 }
 
@@ -134,7 +131,7 @@ fn lessen(c: Charges, e: Entry, m: Match) -> Charges
     if !rings::is_match(m, e) {
         return c;
     }
-    c.discharge(User(rings::wide(e.user)), charge_of(e))
+    c.discharge(User(usize::from(e.user)), charge_of(e))
 }
 
 // The charges after all messages of a queue that a removal takes out.
@@ -152,14 +149,11 @@ fn lessen_all(
         result ≡ lessened_all c m (queue_of rings p.0) }
 {
     let head = rings::head_of(ends, p);
-    let len = rings::len_of(ends, p);
     let mut rest = c;
-    let mut i = 0;
-    while i < len {
+    for i in 0..rings::len_of(ends, p) {
         let row = rings::row_of(p, head, i);
         let e = rings::get_entry(entries, carried, numbers, row);
         rest = lessen(rest, e, m);
-        i += 1;
     }
     rest
 }
@@ -270,9 +264,7 @@ pub fn follows(
         result ≡ follows_in rings p.0 n }
 {
     let head = rings::head_of(ends, p);
-    let len = rings::len_of(ends, p);
-    let mut i = 1;
-    while i < len {
+    for i in 1..rings::len_of(ends, p) {
         let row = rings::row_of(p, head, i);
         let e = rings::get_entry(entries, carried, numbers, row);
         if e.number != n {
@@ -281,7 +273,23 @@ pub fn follows(
         if is_message(e) {
             return true;
         }
-        i += 1;
+    }
+    false
+}
+
+// Does the entry in one of the rows of the peer's queue pass the test?
+fn any_row<F: Fn(usize) -> bool>(ends: &[u16], p: Peer, test: F) -> bool
+    requires queue { (length ends.now ≡ ends_size) × (p.0 < peers) × (length_of ends.now p.0 ≤ ring_size) }
+    requires callable { (row : ℕ) → row < row_count → F.pre test row }
+    ensures { (entries carried numbers : List ℕ) (t : Entry → Bool) → (let rows = rows_of entries carried numbers in
+        (row : ℕ) → row < row_count → (b : Bool) → F.post test row b → b ≡ t (entry_at rows row)) →
+        result ≡ any t (queue_of (rings_of ends.now entries carried numbers) p.0) }
+{
+    let head = rings::head_of(ends, p);
+    for i in 0..rings::len_of(ends, p) {
+        if test(rings::row_of(p, head, i)) {
+            return true;
+        }
     }
     false
 }
@@ -292,12 +300,10 @@ fn is_among(carried: &[u8], row: usize, n: usize, s: usize) -> bool
     ensures { result ≡ any (eqb s) (take n (row_in carried_fields carried.now row)) }
 {
     let a = CARRIED_FIELDS * row;
-    let mut k = 0;
-    while k < n {
-        if rings::byte_wide(carried[a + k]) == s {
+    for k in 0..n {
+        if usize::from(carried[a + k]) == s {
             return true;
         }
-        k += 1;
     }
     false
 }
@@ -311,10 +317,10 @@ fn names(entries: &[u16], carried: &[u8], row: usize, s: usize) -> bool
     if !is_message_kind(entries[a]) {
         return false;
     }
-    if rings::wide(entries[a + 1]) == s {
+    if usize::from(entries[a + 1]) == s {
         return true;
     }
-    let n = copies::least(rings::wide(entries[a + 4]), MOST_IDS);
+    let n = usize::from(entries[a + 4]).min(MOST_IDS);
     is_among(carried, row, n, s)
 }
 
@@ -331,28 +337,18 @@ fn named_at(
     ensures { let rings = rings_of ends.now entries.now carried.now numbers.now in
         result ≡ any (names_in s) (queue_of rings p.0) }
 {
-    let head = rings::head_of(ends, p);
-    let len = rings::len_of(ends, p);
-    let mut i = 0;
-    while i < len {
-        let row = rings::row_of(p, head, i);
-        if names(entries, carried, row, s) {
-            return true;
-        }
-        i += 1;
-    }
-    false
+    any_row(ends, p, |row| names(entries, carried, row, s))
 }
 
 // The attached handles that are queued at a peer: what the users have there.
 pub fn attached(c: Charges) -> usize
     ensures { result ≡ attached_of c }
 {
-    let by = c.by;
-    rings::wide(by[0].handles)
-        + rings::wide(by[1].handles)
-        + rings::wide(by[2].handles)
-        + rings::wide(by[3].handles)
+    let [a, b, c, d] = c.by;
+    rings::wide(a.handles)
+        + rings::wide(b.handles)
+        + rings::wide(c.handles)
+        + rings::wide(d.handles)
 }
 
 // Does a message in a queue with attached handles name the slot? Other queues are not looked through.
@@ -392,12 +388,10 @@ pub fn named(
     ensures { let rings = rings_of ends.now entries.now carried.now numbers.now in
         result ≡ named_in charges.now rings s }
 {
-    let mut q = 0;
-    while q < PEERS {
+    for q in 0..PEERS {
         if carries(charges, ends, entries, carried, numbers, Peer(q), s) {
             return true;
         }
-        q += 1;
     }
     false
 }
@@ -421,7 +415,7 @@ fn carries_row(
     if n <= numbers[row] {
         return false;
     }
-    let nh = copies::least(rings::wide(entries[a + 4]), MOST_IDS);
+    let nh = usize::from(entries[a + 4]).min(MOST_IDS);
     is_among(carried, row, nh, s)
 }
 
@@ -439,17 +433,11 @@ fn carried_at(
     ensures { let rings = rings_of ends.now entries.now carried.now numbers.now in
         result ≡ any (brings_in n s) (queue_of rings p.0) }
 {
-    let head = rings::head_of(ends, p);
-    let len = rings::len_of(ends, p);
-    let mut i = 0;
-    while i < len {
-        let row = rings::row_of(p, head, i);
-        if carries_row(entries, carried, numbers, row, s, n) {
-            return true;
-        }
-        i += 1;
-    }
-    false
+    any_row(
+        ends,
+        p,
+        |row| carries_row(entries, carried, numbers, row, s, n),
+    )
 }
 
 // The same question; a queue that is empty or without attached handles is not looked through.

@@ -7,4 +7,4 @@ pub store-requires : goal.store-requires
 store-requires c = (c.requires.0, c.requires.2)
 
 pub returns : goal.returns
-returns c = let a = c.args in enqueue-done a.charges.now a.p.0 a.e c.load-c.ensures c.used.ensures.0 c.wide.ensures.0 c.charge_of.ensures (rings_of a.ends.now a.entries.now a.carried.now a.numbers.now) a.pool.now a.payload.now c.append.ensures c.enter.ensures c.charge.ensures c.store.ensures
+returns c = let a = c.args in enqueue-done a.charges.now a.p.0 a.e c.load-c.ensures c.used.ensures.0 c.from.ensures c.charge_of.ensures (rings_of a.ends.now a.entries.now a.carried.now a.numbers.now) a.pool.now a.payload.now c.append.ensures c.enter.ensures c.charge.ensures c.store.ensures

@@ -9,4 +9,4 @@ pub returns-then-not-is_match : goal.returns-then-not-is_match
 returns-then-not-is_match c = lessen-kept _ _ _ c.is_message.ensures c.if-not-is_message.false c.is_match.ensures c.if-not-is_match.true
 
 pub returns : goal.returns
-returns c = lessen-out _ _ _ c.is_message.ensures c.if-not-is_message.false c.is_match.ensures c.if-not-is_match.false c.wide.ensures.0 c.charge_of.ensures c.discharge.ensures
+returns c = lessen-out _ _ _ c.is_message.ensures c.if-not-is_message.false c.is_match.ensures c.if-not-is_match.false c.from.ensures c.charge_of.ensures c.discharge.ensures

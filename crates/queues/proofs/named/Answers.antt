@@ -1,4 +1,4 @@
--- `queues::named` meets its contract: the loop's invariant is that no queue passed names the slot; the measure is the peers left. Assumes nothing.
+-- `queues::named` meets its contract: the loop's invariant is that no queue passed names the slot. Assumes nothing.
 use mathlib.Core.Path.{sym, ◌∙◌}
 use borrow.Author.Count.{below_more}
 use Rattle.rings.specs.Rings.{rings_of}
