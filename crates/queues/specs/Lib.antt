@@ -5,3 +5,4 @@ pub mod Asking
 pub mod Carrying
 pub mod Leaving
 pub mod Sparing
+pub mod Queued

@@ -5,6 +5,8 @@
 #![tactic(auto)]
 
 ghost use Rattle.std.specs.Prelude.{◌≡◌, false, Bool, List, ℕ, ◌*◌, ◌<◌, ◌≤◌, length, take, eqb};
+ghost use Rattle.rings.specs.Lent.{lent, SameTables};
+ghost use Rattle.queues.specs.Queued.{queued};
 ghost use Rattle.laws.specs.Rows.{row_in};
 ghost use Rattle.rings.specs.Rings.{peers, ring_size, row_count, carried_fields, ends_size, entries_size, carried_size};
 ghost use Rattle.rings.specs.Rings.{rows_of, Sized, rings_of, QueueTables, entry_at, length_of, queue_of, cleared};
@@ -17,7 +19,7 @@ ghost use Rattle.queues.specs.Queues.{emptied_charges, follows_in, names_in, att
 
 use ids::{AREA, CARRIED_FIELDS, ENTRY_FIELDS, MOST_IDS, PEERS, Peer, RING, User};
 use quota::{Charge, Charges};
-use rings::{Entry, Match};
+use rings::{Entry, Match, RingTables};
 
 // The payload bytes that a peer's area uses: what the users have queued there.
 pub fn used(c: Charges) -> usize
@@ -58,45 +60,39 @@ fn charge_of(e: Entry) -> Charge
 
 // An entry appended to a queue; to a full one, nothing.
 pub fn enter(
-    ends: &mut [u16],
-    entries: &mut [u16],
-    carried: &mut [u8],
-    numbers: &mut [u64],
+    rings: &mut RingTables<'_>,
     p: Peer,
     e: Entry,
 )
-    requires { QueueTables ends.old entries.old carried.old numbers.old × (p.0 < peers) }
-    ensures { let before = rings_of ends.old entries.old carried.old numbers.old in
-        let after = rings_of ends.new entries.new carried.new numbers.new in
+    requires { (p.0 < peers) }
+    ensures same { SameTables rings.old rings.new }
+    ensures done { let before = lent rings.old in
+        let after = lent rings.new in
         after ≡ entered before p.0 e }
 {
-    if rings::len_of(ends, p) < RING {
-        rings::push(ends, entries, carried, numbers, p, e);
+    if rings.len(p) < RING {
+        rings.push(p, e);
     }
 }
 
 // A message appended to a queue with its payload, and charged.
 pub fn enqueue(
     charges: &mut [u16],
-    ends: &mut [u16],
-    entries: &mut [u16],
-    carried: &mut [u8],
-    numbers: &mut [u64],
+    rings: &mut RingTables<'_>,
     pool: &mut [u8],
     p: Peer,
     e: Entry,
     payload: &[u8],
 )
-    requires { (length charges.old ≡ charges_size) × QueueTables ends.old entries.old carried.old numbers.old × (p.0 < peers) }
-    ensures { let before = queues_of charges.old
-        ends.old entries.old carried.old numbers.old pool.old in
-        let after = queues_of charges.new
-        ends.new entries.new carried.new numbers.new pool.new in
+    requires { (length charges.old ≡ charges_size) × (p.0 < peers) }
+    ensures same { SameTables rings.old rings.new }
+    ensures done { let before = queued charges.old rings.old pool.old in
+        let after = queued charges.new rings.new pool.new in
         after ≡ enqueued before p.0 e payload.now }
 {
     let c = tables::load(charges, p);
     pool::append(pool, p, used(c), payload);
-    enter(ends, entries, carried, numbers, p, e);
+    enter(rings, p, e);
     tables::store(
         charges,
         p,
@@ -137,22 +133,19 @@ fn lessen(c: Charges, e: Entry, m: Match) -> Charges
 // The charges after all messages of a queue that a removal takes out.
 fn lessen_all(
     c: Charges,
-    ends: &[u16],
-    entries: &[u16],
-    carried: &[u8],
-    numbers: &[u64],
+    rings: &RingTables<'_>,
     p: Peer,
     m: Match,
 ) -> Charges
-    requires { QueueTables ends.now entries.now carried.now numbers.now × (p.0 < peers) × (length_of ends.now p.0 ≤ ring_size) }
-    ensures { let rings = rings_of ends.now entries.now carried.now numbers.now in
-        result ≡ lessened_all c m (queue_of rings p.0) }
+    requires { (p.0 < peers) × (length_of rings.now.ends.now p.0 ≤ ring_size) }
+    ensures { let queues = lent rings.now in
+        result ≡ lessened_all c m (queue_of queues p.0) }
 {
-    let head = rings::head_of(ends, p);
+    let head = rings.head(p);
     let mut rest = c;
-    for i in 0..rings::len_of(ends, p) {
+    for i in 0..rings.len(p) {
         let row = rings::row_of(p, head, i);
-        let e = rings::get_entry(entries, carried, numbers, row);
+        let e = rings.entry(row);
         rest = lessen(rest, e, m);
     }
     rest
@@ -160,20 +153,18 @@ fn lessen_all(
 
 // Every entry that matches taken out of a queue, no payload and no charge with it: notices alone.
 pub fn withdraw(
-    ends: &mut [u16],
-    entries: &mut [u16],
-    carried: &mut [u8],
-    numbers: &mut [u64],
+    rings: &mut RingTables<'_>,
     p: Peer,
     m: Match,
 )
-    requires { QueueTables ends.old entries.old carried.old numbers.old × (p.0 < peers) }
-    ensures { let before = rings_of ends.old entries.old carried.old numbers.old in
-        let after = rings_of ends.new entries.new carried.new numbers.new in
+    requires { (p.0 < peers) }
+    ensures same { SameTables rings.old rings.new }
+    ensures done { let before = lent rings.old in
+        let after = lent rings.new in
         after ≡ withdrawn before p.0 m }
 {
-    if rings::len_of(ends, p) <= RING {
-        rings::remove(ends, entries, carried, numbers, p, m);
+    if rings.len(p) <= RING {
+        rings.remove(p, m);
     }
 }
 
@@ -181,62 +172,54 @@ pub fn withdraw(
 // message, both tables stay, and neither is read.
 fn remove_messages(
     charges: &mut [u16],
-    ends: &[u16],
-    entries: &[u16],
-    carried: &[u8],
-    numbers: &[u64],
+    rings: &RingTables<'_>,
     pool: &mut [u8],
     p: Peer,
     m: Match,
 )
-    requires { (length charges.old ≡ charges_size) × QueueTables ends.now entries.now carried.now numbers.now
-        × (p.0 < peers) × (length_of ends.now p.0 ≤ ring_size) }
-    ensures { let rings = rings_of ends.now entries.now carried.now numbers.now in
-        (charges.new ≡ lessened_charges charges.old p.0 m (queue_of rings p.0))
-        × (pool.new ≡ (kept_pieces pool.old p.0 0 0 m (queue_of rings p.0)).table) }
+    requires { (length charges.old ≡ charges_size) × (p.0 < peers) × (length_of rings.now.ends.now p.0 ≤ ring_size) }
+    ensures { let queues = lent rings.now in
+        (charges.new ≡ lessened_charges charges.old p.0 m (queue_of queues p.0))
+        × (pool.new ≡ (kept_pieces pool.old p.0 0 0 m (queue_of queues p.0)).table) }
 {
     if m.kinds % 2 == 0 {
         return;
     }
-    let head = rings::head_of(ends, p);
-    let len = rings::len_of(ends, p);
+    let head = rings.head(p);
+    let len = rings.len(p);
     let messages = Match {
         kinds: rings::MESSAGE_BIT,
         first: m.first,
         mask: m.mask,
     };
-    if rings::first_match(entries, p, head, len, messages) == len {
+    if rings.first_match(p, head, len, messages) == len {
         return;
     }
     let c = tables::load(charges, p);
-    let d = lessen_all(c, ends, entries, carried, numbers, p, m);
+    let d = lessen_all(c, rings, p, m);
     tables::store(charges, p, d);
-    pool::remove(pool, ends, entries, carried, numbers, p, m);
+    pool::remove(pool, rings, p, m);
 }
 
 // Every entry that matches taken out of a queue, with its payload and its charge.
 pub fn remove(
     charges: &mut [u16],
-    ends: &mut [u16],
-    entries: &mut [u16],
-    carried: &mut [u8],
-    numbers: &mut [u64],
+    rings: &mut RingTables<'_>,
     pool: &mut [u8],
     p: Peer,
     m: Match,
 )
-    requires { (length charges.old ≡ charges_size) × QueueTables ends.old entries.old carried.old numbers.old × (p.0 < peers) }
-    ensures { let before = queues_of charges.old
-        ends.old entries.old carried.old numbers.old pool.old in
-        let after = queues_of charges.new
-        ends.new entries.new carried.new numbers.new pool.new in
+    requires { (length charges.old ≡ charges_size) × (p.0 < peers) }
+    ensures same { SameTables rings.old rings.new }
+    ensures done { let before = queued charges.old rings.old pool.old in
+        let after = queued charges.new rings.new pool.new in
         after ≡ removed_from before p.0 m }
 {
-    if RING < rings::len_of(ends, p) {
+    if RING < rings.len(p) {
         return;
     }
-    remove_messages(charges, ends, entries, carried, numbers, pool, p, m);
-    rings::remove(ends, entries, carried, numbers, p, m);
+    remove_messages(charges, rings, pool, p, m);
+    rings.remove(p, m);
 }
 
 // All entries of a queue dropped, with their charges.
@@ -252,21 +235,18 @@ pub fn empty(charges: &mut [u16], ends: &mut [u16], p: Peer)
 // Behind the oldest entry, is there another message that the command of the number n queued? A queue is in the order of
 // these numbers.
 pub fn follows(
-    ends: &[u16],
-    entries: &[u16],
-    carried: &[u8],
-    numbers: &[u64],
+    rings: &RingTables<'_>,
     p: Peer,
     n: u64,
 ) -> bool
-    requires { QueueTables ends.now entries.now carried.now numbers.now × (p.0 < peers) × (length_of ends.now p.0 ≤ ring_size) }
-    ensures { let rings = rings_of ends.now entries.now carried.now numbers.now in
-        result ≡ follows_in rings p.0 n }
+    requires { (p.0 < peers) × (length_of rings.now.ends.now p.0 ≤ ring_size) }
+    ensures { let queues = lent rings.now in
+        result ≡ follows_in queues p.0 n }
 {
-    let head = rings::head_of(ends, p);
-    for i in 1..rings::len_of(ends, p) {
+    let head = rings.head(p);
+    for i in 1..rings.len(p) {
         let row = rings::row_of(p, head, i);
-        let e = rings::get_entry(entries, carried, numbers, row);
+        let e = rings.entry(row);
         if e.number != n {
             return false;
         }
@@ -354,42 +334,35 @@ pub fn attached(c: Charges) -> usize
 // Does a message in a queue with attached handles name the slot? Other queues are not looked through.
 fn carries(
     charges: &[u16],
-    ends: &[u16],
-    entries: &[u16],
-    carried: &[u8],
-    numbers: &[u64],
+    rings: &RingTables<'_>,
     p: Peer,
     s: usize,
 ) -> bool
-    requires { (length charges.now ≡ charges_size) × QueueTables ends.now entries.now carried.now numbers.now
-        × (p.0 < peers) × (length_of ends.now p.0 ≤ ring_size) }
-    ensures { let rings = rings_of ends.now entries.now carried.now numbers.now in
-        result ≡ carries_in charges.now rings s p.0 }
+    requires { (length charges.now ≡ charges_size) × (p.0 < peers) × (length_of rings.now.ends.now p.0 ≤ ring_size) }
+    ensures { let queues = lent rings.now in
+        result ≡ carries_in charges.now queues s p.0 }
 {
-    if rings::len_of(ends, p) == 0 {
+    if rings.len(p) == 0 {
         return false;
     }
     if attached(tables::load(charges, p)) == 0 {
         return false;
     }
-    named_at(ends, entries, carried, numbers, p, s)
+    named_at(rings.ends, rings.entries, rings.carried, rings.numbers, p, s)
 }
 
 // Does a queued message name a slot that nobody holds? No message is for such a slot, so it is named where it is attached.
 pub fn named(
     charges: &[u16],
-    ends: &[u16],
-    entries: &[u16],
-    carried: &[u8],
-    numbers: &[u64],
+    rings: &RingTables<'_>,
     s: usize,
 ) -> bool
-    requires { (length charges.now ≡ charges_size) × QueueTables ends.now entries.now carried.now numbers.now × Short ends.now }
-    ensures { let rings = rings_of ends.now entries.now carried.now numbers.now in
-        result ≡ named_in charges.now rings s }
+    requires { (length charges.now ≡ charges_size) × Short rings.now.ends.now }
+    ensures { let queues = lent rings.now in
+        result ≡ named_in charges.now queues s }
 {
     for q in 0..PEERS {
-        if carries(charges, ends, entries, carried, numbers, Peer(q), s) {
+        if carries(charges, rings, Peer(q), s) {
             return true;
         }
     }
@@ -443,19 +416,16 @@ fn carried_at(
 // The same question; a queue that is empty or without attached handles is not looked through.
 pub fn carried_before(
     charges: &[u16],
-    ends: &[u16],
-    entries: &[u16],
-    carried: &[u8],
-    numbers: &[u64],
+    rings: &RingTables<'_>,
     p: Peer,
     s: usize,
     n: u64,
 ) -> bool
-    requires { (length charges.now ≡ charges_size) × QueueTables ends.now entries.now carried.now numbers.now × (p.0 < peers) }
-    ensures { let rings = rings_of ends.now entries.now carried.now numbers.now in
-        result ≡ carried_before charges.now rings s n p.0 }
+    requires { (length charges.now ≡ charges_size) × (p.0 < peers) }
+    ensures { let queues = lent rings.now in
+        result ≡ carried_before charges.now queues s n p.0 }
 {
-    let len = rings::len_of(ends, p);
+    let len = rings.len(p);
     if len == 0 {
         return false;
     }
@@ -465,5 +435,5 @@ pub fn carried_before(
     if attached(tables::load(charges, p)) == 0 {
         return false;
     }
-    carried_at(ends, entries, carried, numbers, p, s, n)
+    carried_at(rings.ends, rings.entries, rings.carried, rings.numbers, p, s, n)
 }

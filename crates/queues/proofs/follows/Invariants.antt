@@ -1,7 +1,8 @@
 -- `queues::follows` meets its contract: after each turn what is left of the queue answers as all behind the oldest entry. Assumes nothing.
 use Rattle.rings.specs.Rings.{rings_of}
+use Rattle.rings.specs.Lent.{lent}
 use Rattle.queues.specs.Code.{Following}
 use Rattle.queues.proofs.follows.Given as goal
 
 abbrev pub invariant-loop-i : goal.invariant-loop-i
-invariant-loop-i l = Following (rings_of l.ends l.entries l.carried l.numbers) l.p.0 l.n l.i
+invariant-loop-i l = Following (lent l.rings) l.p.0 l.n l.i

@@ -6,7 +6,7 @@ pub loop-i-init : goal.loop-i-init
 loop-i-init c = lessening-start _ _ _ _
 
 pub loop-i-preserved : goal.loop-i-preserved
-loop-i-preserved c = lessening-next c.loop-i.invariant c.len_of-i-end.ensures.0 c.loop-i-test.true c.head_of-head.ensures.0 c.row_of-row.ensures.0 c.get_entry-e.ensures c.lessen-rest.ensures
+loop-i-preserved c = lessening-next c.loop-i.invariant c.len-i-end.ensures.0 c.loop-i-test.true c.head-head.ensures.0 c.row_of-row.ensures.0 c.entry-e.ensures c.lessen-rest.ensures
 
 pub returns : goal.returns
-returns c = lessening-done c.loop-i.invariant c.len_of-i-end.ensures.0 c.loop-i-test.false
+returns c = lessening-done c.loop-i.invariant c.len-i-end.ensures.0 c.loop-i-test.false
