@@ -180,7 +180,7 @@ fn kind_bit(kind: u16) -> usize
     ensures { (result ≡ kind_bit kind) × (result < kind_count) }
 {
     match kind {
-        DESTROYED | RELEASED => usize::from(kind),
+        MESSAGE..=RELEASED => usize::from(kind),
         _ => usize::from(MESSAGE),
     }
 }
@@ -189,10 +189,8 @@ fn kind_bit(kind: u16) -> usize
 fn has_slot(first: usize, mask: usize, slot: usize) -> bool
     ensures { result ≡ slot_in first mask slot }
 {
-    match slot.checked_sub(first) {
-        Some(k) if k < SLOTS => bit(mask, k),
-        _ => false,
-    }
+    // Two tests: by `checked_sub` the search of a removal takes 6 instructions more for each entry.
+    first <= slot && slot - first < SLOTS && bit(mask, slot - first)
 }
 
 // A byte of a table as an index.
