@@ -26,7 +26,7 @@ use quota::{Charge, Charges};
 use std::array;
 
 // Numbers that count up are read modulo 2^60, so that what is added to them fits.
-const MODULUS: u64 = 1152921504606846976;
+const MODULUS: u64 = 1 << 60;
 
 // The table of handles is in blocks of 128 records of two numbers: a block for the handles of each peer, behind these a
 // block for the list of each peer, and behind these the lengths of the lists.
