@@ -98,12 +98,12 @@ giving-start ns ps hs ends entries carried numbers p as_of ss n =
     record { within = omega arith; peers = refl; handles = refl; ends = refl; entries = refl; carried = refl; numbers = refl; made = refl }
 
 pub gives-next : (ns ps hs : List ℕ) (r : Rings) (p as_of : ℕ) (ss : List ℕ) (k : ℕ) {is qs gs : List ℕ} {r' : Rings} → gives_of is qs gs r' ≡ gives_to ns ps hs r p as_of ss k →
-    {i : ℕ} {qs' gs' : List ℕ} {r'' : Rings} → given_of i qs' gs' r'' ≡ given_to ns qs gs r' p as_of (get_or ss k 0 % nodes) →
+    {w : ℕ} → w ≡ get_or ss k 0 → {i : ℕ} {qs' gs' : List ℕ} {r'' : Rings} → given_of i qs' gs' r'' ≡ given_to ns qs gs r' p as_of (w % nodes) →
     gives_of (set is k i) qs' gs' r'' ≡ gives_to ns ps hs r p as_of ss (k + 1)
 unfolding gives_to
-gives-next ns ps hs r p as_of ss k e f =
+gives-next ns ps hs r p as_of ss k e s f =
     let one : k + 1 ≡ suc k = omega arith in
-    rw (one, ← e, ← f)
+    rw (one, ← e, ← s, ← f)
 
 pub gives-done : (ns ps hs : List ℕ) (r : Rings) (p as_of : ℕ) (ss : List ℕ) (k n : ℕ) {x : Gives} → x ≡ gives_to ns ps hs r p as_of ss k → k ≤ n → n ≤ k → x ≡ gives_to ns ps hs r p as_of ss n
 gives-done ns ps hs r p as_of ss k n e l m = let z : k ≡ n = omega arith in e ∙ ap (gives_to ns ps hs r p as_of ss) z

@@ -122,14 +122,11 @@ pub fn give_all(
         ≡ gives_to nodes.now peers.old handles.old before p.0 n slots nh }
 {
     let mut ids = [0u64; 8];
-    let mut k = 0;
-    while k < nh {
-        let s = slots[k] as usize % NODES;
-        let id = give(
+    for k in 0..nh {
+        let s = usize::from(slots[k]) % NODES;
+        ids[k] = give(
             peers, nodes, handles, ends, entries, carried, numbers, p, n, s,
         );
-        ids[k] = id;
-        k += 1;
     }
     ids
 }

@@ -13,7 +13,7 @@ ghost use Rattle.rings.specs.Rings.{rows_of, Sized, rings_of, QueueTables, entry
 ghost use Rattle.pool.specs.Pool.{area_size, kept_pieces};
 ghost use Rattle.tables.specs.Charges.{charges_size};
 ghost use Rattle.model.specs.Lists.{any};
-ghost use Rattle.queues.specs.Queues.{queues_of, Short, used_of, message_kind, is_message, charge_in, entered, enqueued};
+ghost use Rattle.queues.specs.Queues.{queues_of, Short, sum_users, used_of, message_kind, is_message, charge_in, entered, enqueued};
 ghost use Rattle.queues.specs.Queues.{settled_charges, settled_pool, lessened, lessened_all, lessened_charges, withdrawn, removed_from};
 ghost use Rattle.queues.specs.Queues.{emptied_charges, follows_in, names_in, attached_of, carries_in, named_in, brings_in, carried_before};
 
@@ -21,16 +21,23 @@ use ids::{AREA, CARRIED_FIELDS, ENTRY_FIELDS, MOST_IDS, PEERS, Peer, RING, User}
 use quota::{Charge, Charges};
 use rings::{Entry, Match, RingTables};
 
+// The sum over the users of one number of what each has queued at a peer.
+fn total<F: Fn(Charge) -> u16>(c: Charges, number: F) -> usize
+    requires { F.IsAlwaysCallable number }
+    ensures { (f : Charge → ℕ) → ((x : Charge) (n : ℕ) → F.post number x n → n ≡ f x) → result ≡ sum_users f c }
+{
+    let [a, b, c, d] = c.by;
+    usize::from(number(a))
+        + usize::from(number(b))
+        + usize::from(number(c))
+        + usize::from(number(d))
+}
+
 // The payload bytes that a peer's area uses: what the users have queued there.
 pub fn used(c: Charges) -> usize
     ensures { (result ≡ used_of c) × (result ≤ area_size) }
 {
-    let [a, b, c, d] = c.by;
-    let sum = rings::wide(a.bytes)
-        + rings::wide(b.bytes)
-        + rings::wide(c.bytes)
-        + rings::wide(d.bytes);
-    sum.min(AREA)
+    total(c, |x| x.bytes).min(AREA)
 }
 
 // Is the kind a message's, and no notice's?
@@ -324,11 +331,7 @@ fn named_at(
 pub fn attached(c: Charges) -> usize
     ensures { result ≡ attached_of c }
 {
-    let [a, b, c, d] = c.by;
-    rings::wide(a.handles)
-        + rings::wide(b.handles)
-        + rings::wide(c.handles)
-        + rings::wide(d.handles)
+    total(c, |x| x.handles)
 }
 
 // Does a message in a queue with attached handles name the slot? Other queues are not looked through.

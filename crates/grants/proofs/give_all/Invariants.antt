@@ -1,4 +1,4 @@
--- `grants::give_all` meets its contract: after each turn the tables are those after the first k slots, with their lengths; the measure is what is left to give. Assumes nothing.
+-- `grants::give_all` meets its contract: after each turn the tables are those after the first k slots, with their lengths. Assumes nothing.
 use Prim.Native.Nat.{◌-◌}
 use Rattle.grants.specs.Code.{Giving, giving-start, gives-next, gives-done}
 use native.Mathlib.Omega.{arith}
@@ -8,6 +8,3 @@ use Rattle.grants.proofs.give_all.Given as goal
 abbrev pub invariant-loop-k : goal.invariant-loop-k
 invariant-loop-k l =
     Giving l.nodes l.initial.peers l.initial.handles l.initial.ends l.initial.entries l.initial.carried l.initial.numbers l.p.0 l.n l.slots l.nh l.ids l.peers l.handles l.ends l.entries l.carried l.numbers l.k
-
-abbrev pub decreases-loop-k : goal.decreases-loop-k
-decreases-loop-k l = l.nh - l.k
