@@ -46,12 +46,12 @@ delivering-start cs es xs ks vs ts u nh w bytes n nd =
     record { within = omega arith; charges = refl; ends = refl; entries = refl; carried = refl; numbers = refl; pool = refl; made = refl }
 
 pub sent-next : (q : Queues) (u nh : ℕ) (w : Places) (bytes : List ℕ) (n k : ℕ) {q₁ : Queues} → q₁ ≡ sent_to q u nh w bytes n k →
-    {e : Entry} → e ≡ message_to (get_or w.to k 0 % nodes) u (length bytes) nh w.carried n →
-    {q₂ : Queues} → q₂ ≡ enqueued q₁ (get_or w.to k 0 % nodes / slots) e bytes → q₂ ≡ sent_to q u nh w bytes n (k + 1)
+    {t : ℕ} → t ≡ get_or w.to k 0 → {e : Entry} → e ≡ message_to (t % nodes) u (length bytes) nh w.carried n →
+    {q₂ : Queues} → q₂ ≡ enqueued q₁ (t % nodes / slots) e bytes → q₂ ≡ sent_to q u nh w bytes n (k + 1)
 unfolding sent_to
-sent-next q u nh w bytes n k e₁ ee e₂ =
+sent-next q u nh w bytes n k e₁ et ee e₂ =
     let one : k + 1 ≡ suc k = omega arith in
-    rw (one, e₂, ee, e₁)
+    rw (one, e₂, ee, e₁, et)
 
 pub sent-done : (q : Queues) (u nh : ℕ) (w : Places) (bytes : List ℕ) (n k m : ℕ) {x : Queues} → x ≡ sent_to q u nh w bytes n k → k ≤ m → m ≤ k → x ≡ sent_to q u nh w bytes n m
 sent-done q u nh w bytes n k m e l g = let z : k ≡ m = omega arith in e ∙ ap (sent_to q u nh w bytes n) z

@@ -1,6 +1,6 @@
 -- What each order does to the tables, in the order in which the code does it. The command is counted first.
 -- Assumes nothing.
-use Rattle.std.specs.Prelude.{ℕ, zero, suc, ◌+◌, ◌*◌, ◌-◌, ◌/◌, ◌%◌, min, Bool, false, List, [], length, get_or, take, eqb}
+use Rattle.std.specs.Prelude.{ℕ, zero, suc, ◌+◌, ◌-◌, ◌/◌, ◌%◌, min, Bool, false, List, [], length, get_or, take, eqb}
 use Rattle.laws.specs.Tests.{pick}
 use Rattle.ids.specs.declared.HandleId.{HandleId}
 use Rattle.frames.specs.declared.Sizes.{Sizes}

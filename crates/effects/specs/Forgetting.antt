@@ -1,16 +1,16 @@
 -- What goes with a peer's last reference to a node, of the state that the tables stand for: the model's.
 -- Assumes nothing.
 use Prim.Native.Nat.{ℕ, ◌+◌, ◌/◌, ◌≤◌, ◌<◌}
-use Rattle.std.specs.Prelude.{◌≡◌, Bool, false, not, List, [], ◌∷◌, length, eqb}
+use Rattle.std.specs.Prelude.{◌≡◌, Bool, false, not, List, [], ◌∷◌, eqb}
 use Rattle.std.proofs.Math.Path.{refl, sym, ap}
-use Rattle.std.proofs.Common.{ap₂, ◌∙◌, arith, eq-eqb, ne_eqb}
+use Rattle.std.proofs.Common.{◌∙◌, arith, eq-eqb, ne_eqb}
 use Rattle.std.proofs.Math.Bool.{true}
-use Rattle.laws.specs.Tests.{pick, pick_all, Seen, Seen.is_true, Seen.is_false, look, Same, Same.same, Same.other, same?, clash}
-use Rattle.laws.specs.Tables.{upd, upd_same, upd-self, upd-twice}
+use Rattle.laws.specs.Tests.{pick_all, Seen, Seen.is_true, Seen.is_false, look, Same, Same.same, Same.other, same?}
+use Rattle.laws.specs.Tables.{upd_same, upd-self, upd-twice}
 use Rattle.laws.specs.Weights.{All, keep, all-imp, all_keep, load_split}
 use Rattle.laws.specs.Loads.{keep-every}
 use Rattle.rings.specs.declared.Match.{Match}
-use Rattle.rings.specs.Rings.{message_bit, released_bit, all_bits, slots, ring_size, ends_size, Rings, length_of, matches, one_slot}
+use Rattle.rings.specs.Rings.{message_bit, released_bit, all_bits, slots, ring_size, Rings, length_of, matches, one_slot}
 use Rattle.pool.specs.Pool.{Pair}
 use Rattle.tables.specs.Charges.{charges_at}
 use Rattle.tables.specs.ChargesView.{charges_v}
@@ -18,19 +18,18 @@ use Rattle.tables.specs.NodesView.{life_v}
 use Rattle.tables.specs.HandlesView.{handle_v}
 use Rattle.model.specs.Numbers.{nodes, peers, owner}
 use Rattle.model.specs.Lists.{both, either, any}
-use Rattle.model.specs.Occurs.{all_both}
-use Rattle.model.specs.State.{Handle, held, Message, Entry, Entry.message, Entry.destroyed, Entry.released, messages_in, earlier, concerned, State}
+use Rattle.model.specs.State.{Handle, held, Message, Entry, Entry.message, Entry.destroyed, Entry.released, messages_in, earlier, State}
 use Rattle.model.specs.Tables.{with_queue, with_queues, with_charges}
 use Rattle.model.specs.Changes.{discharged_all, take_out, stays, settle, dropped, remains, forget}
 use Rattle.model.specs.Charged.{Fine, Sound}
 use Rattle.model.proofs.ChargedProof.{sound-out}
 use Rattle.model.specs.Quiet.{messages-keep}
-use Rattle.view.specs.View.{Bus, Shape, entry_v, queue_v, state_of, set_rings, shape-rings}
+use Rattle.view.specs.View.{Bus, Shape, entry_v, queue_v, state_of}
 use Rattle.queues.specs.Queues.{Queues, attached_of, is_message, removed_from, set_queues, set_queued, shape-queues}
 use Rattle.queues.specs.Asking.{message_v}
-use Rattle.queues.specs.Carrying.{Unladen, unladen, none-earlier}
+use Rattle.queues.specs.Carrying.{unladen, none-earlier}
 use Rattle.queues.specs.Entering.{Filled}
-use Rattle.queues.specs.Leaving.{remove-view, remove-charges, remove-rows, remove-ended, remove-less, remove-others, remove-pool, remove-charged, remains-own, dropped-own, undestroyed, outlives, outlives-own, outdropped-own}
+use Rattle.queues.specs.Leaving.{remove-view, remove-charges, remove-rows, remove-ended, remove-less, remove-others, remove-pool, remove-charged, remains-own, dropped-own, outlives, outlives-own, outdropped-own}
 use Rattle.notices.specs.Notices.{expired, expired_all}
 use Rattle.notices.specs.Telling.{Own, keep-agree}
 use Rattle.notices.specs.Expiring.{Dated, Fair, Less, Others, keep-both, less-expired, less-queue, one-view, all-view}

@@ -1,11 +1,10 @@
 -- Every order keeps the lists of given handles. Those not named here leave the table of handles as it is.
 -- Assumes nothing.
-use Rattle.std.specs.Prelude.{ℕ, ◌+◌, ◌*◌, ◌-◌, ◌%◌, ◌≤◌, ◌<◌, min, ◌≡◌, refl, Bool, true, false, not, List, [], ◌∷◌}
-use Rattle.std.proofs.Common.{sym, ◌∙◌, arith}
+use Rattle.std.specs.Prelude.{ℕ, ◌+◌, ◌*◌, ◌%◌, ◌<◌, ◌≡◌, refl, Bool, true, false, not}
+use Rattle.std.proofs.Common.{sym, arith}
 use Rattle.std.proofs.Math.Path.{ap}
 use Rattle.laws.specs.Tests.{clash}
-use Rattle.laws.specs.Search.{first, first_found}
-use Rattle.tables.specs.Handles.{count_at}
+use Rattle.laws.specs.Search.{first_found}
 use Rattle.tables.specs.HandlesView.{handle_v, count-is}
 use Rattle.tables.specs.Listed.{is_given, AllListed, listed-cleared}
 use Rattle.tables.proofs.Listed.{listed-made, listed-reduced}

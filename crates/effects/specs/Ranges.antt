@@ -1,7 +1,7 @@
 -- The stored numbers that the view does not show stay in their ranges: states, users, given IDs, accepted commands and the heads of the queues.
 -- Assumes nothing.
 use Prim.Native.Nat.{ℕ, zero, suc, ◌+◌, ◌*◌, ◌-◌, ◌/◌, ◌%◌, ◌^◌, ◌≤◌, ◌<◌, min}
-use Rattle.std.specs.Prelude.{◌≡◌, refl, Bool, true, List, [], ◌∷◌, length, replicate, eqb, ltb, leb, Option, Some, None}
+use Rattle.std.specs.Prelude.{◌≡◌, refl, Bool, List, [], ◌∷◌, length, replicate, eqb, ltb, leb, Option, Some, None}
 use Rattle.std.proofs.Common.{◌∙◌, arith, get_or-set_same, ltb-true, ltb-false}
 use Rattle.std.proofs.Math.ListN.{get_or, set}
 use Rattle.std.proofs.Math.Seq.{set_out, get_or-set_other}

@@ -22,7 +22,7 @@ use Rattle.tables.specs.Listed.{AllListed}
 use Rattle.tables.specs.Peers.{modulus, given_at, count_command}
 use Rattle.tables.specs.PeersView.{given_is, given_counted}
 use Rattle.model.specs.Numbers.{nodes, owner, invalid}
-use Rattle.model.specs.State.{Handle.none, held, count, id_or, Message, messages_in, concerned, Entry, Entry.message, Entry.destroyed, Entry.released, State}
+use Rattle.model.specs.State.{Handle.none, count, id_or, Message, messages_in, concerned, Entry, Entry.message, Entry.destroyed, Entry.released, State}
 use Rattle.model.specs.Tables.{accept, with_given, with_handles, with_queues, with_charges}
 use Rattle.model.specs.Changes.{withdraw, take_out, valid, give, give_all, shown, shown_all, stays, settled}
 use Rattle.model.specs.Effects.{receives}
@@ -36,7 +36,6 @@ use Rattle.model.specs.ChargedProof.{charged-quiet}
 use Rattle.model.proofs.ChargedProof.{charged-take_out}
 use Rattle.model.specs.Quiet.{quiet-accept}
 use Rattle.model.proofs.Quiet.{quiet-give_all}
-use Rattle.model.specs.IdsLaws.{Holding}
 use Rattle.model.specs.IdsProof.{holding-out}
 use Rattle.view.specs.View.{Bus, Shape, entry_v, queue_v, state_of, set_peers, set_handles, set_rings, shape-rings}
 use Rattle.view.specs.Rows.{area-length}

@@ -1,7 +1,7 @@
 -- What a release does to the state that the tables stand for: it is the model's.
 -- Assumes nothing.
 use Prim.Native.Nat.{ℕ, zero, suc, ◌+◌, ◌-◌, ◌/◌, ◌≤◌, ◌<◌}
-use Rattle.std.specs.Prelude.{◌≡◌, Bool, true, false, not, eqb, ltb}
+use Rattle.std.specs.Prelude.{◌≡◌, Bool, true, false, eqb, ltb}
 use Rattle.std.proofs.Math.Path.{refl, ap}
 use Rattle.std.proofs.Common.{sym, ap₂, ◌∙◌, arith}
 use mathlib.Core.List.{List, [], ◌∷◌, ◌++◌}
@@ -15,7 +15,6 @@ use Rattle.tables.specs.Handles.{id_at, count_at, total_at, reduced}
 use Rattle.tables.specs.HandlesView.{handle_v, handle-is, handle-reduced, count-is, total-is, reduced-length}
 use Rattle.tables.specs.Nodes.{live_at}
 use Rattle.tables.specs.NodesView.{live-is}
-use Rattle.tables.specs.Peers.{modulus}
 use Rattle.tables.specs.PeersView.{accepted_v}
 use Rattle.model.specs.Numbers.{nodes, peers, owner}
 use Rattle.model.specs.State.{Handle, Handle.some, handle_of, count, id_or, Entry, Entry.message, Entry.destroyed, Entry.released, State, total, is_live}

@@ -1,17 +1,17 @@
 -- Of a message that is taken out, which destroy notices it alone had kept: those of the receiver's own nodes for which the invalid ID is shown. Every other node that it carries and that an
 -- earlier message may install is held afterwards.
 -- Assumes nothing.
-use Rattle.std.specs.Prelude.{ℕ, zero, suc, ◌+◌, ◌<◌, ◌≡◌, refl, Bool, true, false, not, List, [], ◌∷◌, length, get_or, eqb, ltb}
+use Rattle.std.specs.Prelude.{ℕ, suc, ◌<◌, ◌≡◌, refl, Bool, true, false, not, List, [], ◌∷◌, length, get_or, eqb, ltb}
 use Rattle.std.proofs.Common.{sym, ap, ◌∙◌, arith, eqb-true, ne_eqb, lt-ltb, ltb-true}
-use Rattle.laws.specs.Tests.{pick, pick_all, Seen, Seen.is_true, Seen.is_false, look, Same, Same.same, Same.other, same?, clash}
+use Rattle.laws.specs.Tests.{pick_all, Seen, Seen.is_true, Seen.is_false, look, Same, Same.same, Same.other, same?, clash}
 use Rattle.laws.specs.Tables.{upd, upd_same, upd_other}
 use Rattle.laws.specs.Weights.{All, keep, all_keep}
 use Rattle.model.specs.Numbers.{owner, invalid}
 use Rattle.model.specs.Lists.{both, either, any}
 use Rattle.model.specs.Occurs.{no, both_true, either-false}
-use Rattle.model.specs.State.{Life, Life.dead, Handle, handle_of, held, count, Message, Entry, Entry.message, Entry.destroyed, Entry.released, earlier, concerned, State}
+use Rattle.model.specs.State.{Life, Life.dead, Handle, handle_of, held, count, Message, Entry, Entry.message, earlier, concerned, State}
 use Rattle.model.specs.Tables.{with_given, with_handles, with_queues}
-use Rattle.model.specs.Changes.{not_released, withdraw, valid, shown, given_after, give, give_all, shown_all, stays}
+use Rattle.model.specs.Changes.{not_released, withdraw, valid, shown, give, give_all, shown_all}
 use Rattle.model.specs.Founded.{carries-keep}
 
 -- What is given to p leaves the lives, the handles that p has, and the earlier messages.

@@ -241,7 +241,7 @@ pub fn transfer(
     ))
 }
 
-// The message of a send to a slot.
+// The message of a send to a slot. The remainders cut its numbers to their widths, as the definition does.
 fn message_to(s: usize, u: User, nb: usize, nh: usize, slots: [u8; 8], n: u64) -> Entry
     requires { s < node_count }
     ensures { result ≡ message_to s u.0 nb nh slots n }
@@ -278,11 +278,9 @@ fn deliver(
         ends.new entries.new carried.new numbers.new pool.new in
         after ≡ sent_to before u.0 z.nh w payload.now n z.nd }
 {
-    let to = w.to;
     let slots = w.carried;
-    let mut k = 0;
-    while k < z.nd {
-        let s = to[k] as usize % NODES;
+    for to in &w.to[..z.nd] {
+        let s = usize::from(*to) % NODES;
         let e = message_to(s, u, payload.len(), z.nh, slots, n);
         queues::enqueue(
             charges,
@@ -295,7 +293,6 @@ fn deliver(
             e,
             payload,
         );
-        k += 1;
     }
 }
 
@@ -333,8 +330,7 @@ pub fn replace_seed(seeds: &mut [u8], p: Peer, z: Sizes, w: Places, payload: &[u
     ensures { seeds.new ≡ replaced seeds.old p.0 z w payload.now }
 {
     if z.nd == 0 {
-        let slots = w.carried;
-        seeds::put(seeds, p, z.nh, slots, payload);
+        seeds::put(seeds, p, z.nh, w.carried, payload);
     }
 }
 
@@ -386,11 +382,11 @@ fn write_message(
 {
     let c = tables::load(charges, p);
     let all = queues::used(c);
-    let nb = copies::least(rings::wide(e.nb), all);
-    let nh = copies::least(rings::wide(e.nh), MOST_IDS);
+    let nb = usize::from(e.nb).min(all);
+    let nh = usize::from(e.nh).min(MOST_IDS);
     let h = Header {
         to,
-        user: User(rings::wide(e.user)),
+        user: User(usize::from(e.user)),
         flag,
         nb,
         nh,
@@ -429,10 +425,10 @@ fn receive_message(
         ≡ received_message peers.old nodes.now handles.old before p.0 e out.old }
 {
     let flag = queues::follows(ends, entries, carried, numbers, p, e.number);
-    let to = grants::id_or_invalid(handles, p, rings::wide(e.slot) % NODES);
+    let to = grants::id_or_invalid(handles, p, usize::from(e.slot) % NODES);
     rings::pop(ends, p);
     let slots = e.carried;
-    let nh = copies::least(rings::wide(e.nh), MOST_IDS);
+    let nh = usize::from(e.nh).min(MOST_IDS);
     let ids = grants::give_all(
         peers, nodes, handles, ends, entries, carried, numbers, p, e.number, slots, nh,
     );
@@ -450,7 +446,7 @@ fn receive_notice(handles: &[u64], ends: &mut [u16], p: Peer, e: Entry, out: &mu
     ensures { notice_taken_of result out.new ends.new
         ≡ notice_taken handles.now ends.old p.0 e out.old }
 {
-    let id = grants::id_or_invalid(handles, p, rings::wide(e.slot) % NODES);
+    let id = grants::id_or_invalid(handles, p, usize::from(e.slot) % NODES);
     rings::pop(ends, p);
     if e.kind == rings::DESTROYED {
         return answers::write_received(out, Received::Destroyed(id));

@@ -20,10 +20,7 @@ fn reply(hs: &[u64], cs: &[u16], order: Order) -> Answer
 {
     match order {
         Order::Refuse(n) => Answer::Refused(n),
-        Order::Quota(p, u) => {
-            let c = tables::load(cs, p);
-            Answer::Quota(c.balance(u))
-        }
+        Order::Quota(p, u) => Answer::Quota(tables::load(cs, p).balance(u)),
         Order::Holders(s) => Answer::Holders(tables::holders(hs, s)),
         _ => Answer::Done,
     }
@@ -91,11 +88,11 @@ fn change(
         ends.new entries.new carried.new numbers.new pool.new seeds.new in
         changed_of result after ≡ changed before f.now r.order r.places }
 {
-    let order = r.order;
-    match order {
+    match r.order {
         Order::Transfer(q, s) => {
-            let id = effects::transfer(ps, ns, hs, ends, entries, carried, numbers, q, s);
-            Answer::Transferred(id)
+            Answer::Transferred(effects::transfer(
+                ps, ns, hs, ends, entries, carried, numbers, q, s,
+            ))
         }
         Order::Send(p, z) => {
             let w = r.places;
@@ -104,7 +101,7 @@ fn change(
             effects::replace_seed(seeds, p, z, w, data);
             Answer::Done
         }
-        _ => {
+        order => {
             let a = reply(hs, cs, order);
             alter(
                 ps, ns, hs, cs, ends, entries, carried, numbers, pool, seeds, order,
@@ -138,8 +135,7 @@ pub fn carry_out(
         ends.new entries.new carried.new numbers.new pool.new seeds.new in
         done_of result after out.new ≡ carried_out before f.now out.old r }
 {
-    let order = r.order;
-    match order {
+    match r.order {
         Order::Receive(p) => {
             effects::receive(
                 ps, ns, hs, cs, ends, entries, carried, numbers, pool, p, out,

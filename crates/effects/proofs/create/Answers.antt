@@ -1,6 +1,5 @@
 -- `effects::create` meets its contract: each of the three tables is what one callee leaves. Assumes nothing.
 use Rattle.effects.specs.CodeChanges.{create-done}
-use borrow.Author.Rules.{rules}
 use Rattle.effects.proofs.create.Goals as goal
 
 pub returns : goal.returns

@@ -1,7 +1,6 @@
 -- `effects::destroy` meets its contract: the number and the destroyed node give the definition's parts. Assumes nothing.
 use Rattle.rings.specs.Rings.{rings_of}
 use Rattle.effects.specs.CodeChanges.{destroy-done}
-use borrow.Author.Rules.{rules}
 use Rattle.effects.proofs.destroy.Goals as goal
 
 pub returns : goal.returns

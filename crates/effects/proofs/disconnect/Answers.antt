@@ -2,7 +2,6 @@
 use Rattle.rings.specs.Rings.{rings_of}
 use Rattle.effects.specs.CodeQueues.{disconnect-done}
 use native.Mathlib.Omega.{arith}
-use borrow.Author.Rules.{rules}
 use Rattle.effects.proofs.disconnect.Goals as goal
 
 pub empty-requires : goal.empty-requires

@@ -1,6 +1,5 @@
 -- `effects::drop_reference` meets its contract: the reference that `tables::reduce` takes. Assumes nothing.
 use Rattle.effects.specs.CodeChanges.{drop-done}
-use borrow.Author.Rules.{rules}
 use Rattle.effects.proofs.drop_reference.Goals as goal
 
 pub returns : goal.returns

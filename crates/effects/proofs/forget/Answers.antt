@@ -1,7 +1,6 @@
 -- `effects::forget` meets its contract: each branch is that of the definition. Assumes nothing.
 use Rattle.queues.specs.Queues.{queues_of}
 use Rattle.effects.specs.CodeChanges.{forget-own, forget-other}
-use borrow.Author.Rules.{rules}
 use Rattle.effects.proofs.forget.Goals as goal
 
 pub returns-then-s-p : goal.returns-then-s-p

@@ -2,7 +2,6 @@
 use Rattle.queues.specs.Queues.{queues_of}
 use Rattle.effects.specs.CodeChanges.{sized-kept, forget-bare, forget-laden}
 use native.Mathlib.Omega.{arith}
-use borrow.Author.Rules.{rules}
 use Rattle.effects.proofs.forget_own.Goals as goal
 
 pub returns-then-attached-eq0 : goal.returns-then-attached-eq0

@@ -1,6 +1,5 @@
 -- `effects::next_number` meets its contract: the number is read from the counted table. Assumes nothing.
 use Rattle.effects.specs.CodeChanges.{number-done}
-use borrow.Author.Rules.{rules}
 use Rattle.effects.proofs.next_number.Goals as goal
 
 pub returns : goal.returns

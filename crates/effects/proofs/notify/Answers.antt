@@ -1,8 +1,6 @@
 -- `effects::notify` meets its contract: nothing changes where the node is dead or the sum of counts is not 1; else the notice is entered at the owner. Assumes nothing.
-use borrow.Author.Tests.{not-true, not-false}
 use Rattle.rings.specs.Rings.{rings_of}
 use Rattle.effects.specs.CodeChanges.{notify-dead, notify-one, notify-more}
-use borrow.Author.Rules.{rules}
 use Rattle.effects.proofs.notify.Goals as goal
 
 pub returns-then-not-is_live : goal.returns-then-not-is_live

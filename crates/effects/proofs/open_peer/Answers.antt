@@ -1,6 +1,5 @@
 -- `effects::open_peer` meets its contract: the definition's two changes, in order. Assumes nothing.
 use Rattle.effects.specs.CodeChanges.{open_done}
-use borrow.Author.Rules.{rules}
 use Rattle.effects.proofs.open_peer.Goals as goal
 
 pub returns : goal.returns

@@ -1,9 +1,7 @@
 -- `effects::receive` meets its contract: each return is one side of the definition's test. Assumes nothing.
-use borrow.Author.Tests.{not-true, not-false}
 use Rattle.queues.specs.Queues.{queues_of}
 use Rattle.effects.specs.CodeQueues.{receive-notice, receive-message}
 use native.Mathlib.Omega.{arith}
-use borrow.Author.Rules.{rules}
 use Rattle.effects.proofs.receive.Goals as goal
 
 pub returns-then-not-is_message : goal.returns-then-not-is_message

@@ -3,11 +3,10 @@ use Rattle.queues.specs.Queues.{queues_of}
 use Rattle.effects.specs.CodeChanges.{sized-kept}
 use Rattle.effects.specs.CodeQueues.{take-message}
 use native.Mathlib.Omega.{arith}
-use borrow.Author.Rules.{rules}
 use Rattle.effects.proofs.receive_message.Goals as goal
 
 pub give_all-ids-requires : goal.give_all-ids-requires
-give_all-ids-requires c = let z = c.requires in (z.0, z.1, z.2, record { ends = omega (arith, z.4.ends, c.pop.auto.ends); rows = z.4.rows }, z.6, omega (arith, c.least-nh.ensures))
+give_all-ids-requires c = let z = c.requires in (z.0, z.1, z.2, record { ends = omega (arith, z.4.ends, c.pop.auto.ends); rows = z.4.rows }, z.6, omega (arith, c.min-nh.ensures))
 
 pub write_message-o-requires : goal.write_message-o-requires
 write_message-o-requires c = let z = c.requires in (z.3, z.5, z.6)
@@ -16,7 +15,7 @@ pub settle-requires : goal.settle-requires
 settle-requires c = let z = c.requires in (z.3, z.6)
 
 pub expire_shown-requires : goal.expire_shown-requires
-expire_shown-requires c = let z = c.requires in let k = c.give_all-ids.auto in (z.1, omega (arith, z.2, k.handles), omega (arith, z.3, c.settle.auto.charges), record { ends = omega (arith, z.4.ends, c.pop.auto.ends, k.ends); rows = sized-kept z.4.rows k.entries k.carried k.numbers }, z.6, omega (arith, c.least-nh.ensures))
+expire_shown-requires c = let z = c.requires in let k = c.give_all-ids.auto in (z.1, omega (arith, z.2, k.handles), omega (arith, z.3, c.settle.auto.charges), record { ends = omega (arith, z.4.ends, c.pop.auto.ends, k.ends); rows = sized-kept z.4.rows k.entries k.carried k.numbers }, z.6, omega (arith, c.min-nh.ensures))
 
 pub shape_of-peers : goal.shape_of-peers
 shape_of-peers c = c.give_all-ids.auto.peers
@@ -34,4 +33,4 @@ pub shape_of-carried : goal.shape_of-carried
 shape_of-carried c = omega (arith, c.give_all-ids.auto.carried, c.expire_shown.auto.carried)
 
 pub returns : goal.returns
-returns c = let a = c.args in take-message a.peers.now a.nodes.now a.handles.now (queues_of a.charges.now a.ends.now a.entries.now a.carried.now a.numbers.now a.pool.now) a.p.0 a.e a.out.now c.follows-flag.ensures c.wide.ensures.0 c.id_or_invalid-to.ensures c.pop.ensures c.wide-2.ensures.0 c.least-nh.ensures c.give_all-ids.ensures c.write_message-o.ensures c.settle.ensures c.expire_shown.ensures
+returns c = let a = c.args in take-message a.peers.now a.nodes.now a.handles.now (queues_of a.charges.now a.ends.now a.entries.now a.carried.now a.numbers.now a.pool.now) a.p.0 a.e a.out.now c.follows-flag.ensures c.from.ensures c.id_or_invalid-to.ensures c.pop.ensures c.from-2.ensures c.min-nh.ensures c.give_all-ids.ensures c.write_message-o.ensures c.settle.ensures c.expire_shown.ensures

@@ -4,7 +4,6 @@ use lib.ListN.{length}
 use Rattle.queues.specs.Queues.{queues_of}
 use Rattle.effects.specs.CodeChanges.{sized-kept, queues-same, left-none, left-some, release-done}
 use native.Mathlib.Omega.{arith}
-use borrow.Author.Rules.{rules}
 use Rattle.effects.proofs.release.Goals as goal
 use Rattle.effects.proofs.release.Goals.{then-left-eq0, else-left-eq0}
 

@@ -1,7 +1,6 @@
 -- `effects::replace_seed` meets its contract: with no destination the seed is stored, else the table is as it was. Assumes nothing.
 use mathlib.Core.Path.{refl}
 use Rattle.effects.specs.CodeQueues.{replace-done, replace-none}
-use borrow.Author.Rules.{rules}
 use Rattle.effects.proofs.replace_seed.Goals as goal
 
 pub returns-then-z-eq0 : goal.returns-then-z-eq0

@@ -1,7 +1,6 @@
 -- `effects::send` meets its contract: the number, the user and the queues are each what one callee leaves. Assumes nothing.
 use Rattle.queues.specs.Queues.{queues_of}
 use Rattle.effects.specs.CodeQueues.{send-done}
-use borrow.Author.Rules.{rules}
 use Rattle.effects.proofs.send.Goals as goal
 
 pub returns : goal.returns

@@ -2,7 +2,6 @@
 use Rattle.rings.specs.Rings.{rings_of}
 use Rattle.effects.specs.CodeQueues.{show-done}
 use native.Mathlib.Omega.{arith}
-use borrow.Author.Rules.{rules}
 use Rattle.effects.proofs.show_seed.Goals as goal
 
 pub write_seed-requires : goal.write_seed-requires

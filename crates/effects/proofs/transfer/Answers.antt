@@ -1,7 +1,6 @@
 -- `effects::transfer` meets its contract: the counted table is the one in which the handle is given. Assumes nothing.
 use Rattle.rings.specs.Rings.{rings_of}
 use Rattle.effects.specs.CodeChanges.{transfer-done}
-use borrow.Author.Rules.{rules}
 use Rattle.effects.proofs.transfer.Goals as goal
 
 pub returns : goal.returns

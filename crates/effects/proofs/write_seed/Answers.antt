@@ -3,7 +3,6 @@ use mathlib.Core.Path.{refl, sym}
 use lib.Seq.{length-take-le}
 use Rattle.effects.specs.CodeQueues.{write-seed-done}
 use native.Mathlib.Omega.{arith}
-use borrow.Author.Rules.{rules}
 use Rattle.effects.proofs.write_seed.Goals as goal
 
 pub slice_bounds-write_seed-end : goal.slice_bounds-write_seed-end

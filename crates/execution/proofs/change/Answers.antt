@@ -29,8 +29,8 @@ others b f (order.ShowSeed p) w _ _ = refl
 others b f (order.Quota p u) w _ _ = refl
 others b f (order.Holders s) w _ _ = refl
 
-pub transfer-id-requires : goal.transfer-id-requires
-transfer-id-requires c = let z = c.requires.0 in let h = fair-as c.in-Transfer.is c.requires.1 in (z.peers, z.nodes, z.handles, record { ends = z.ends; rows = z.rows }, h.0, h.1)
+pub transfer-requires : goal.transfer-requires
+transfer-requires c = let z = c.requires.0 in let h = fair-as c.in-Transfer.is c.requires.1 in (z.peers, z.nodes, z.handles, record { ends = z.ends; rows = z.rows }, h.0, h.1)
 
 pub send-requires : goal.send-requires
 send-requires c = let z = c.requires.0 in let h = fair-as c.in-Send.is c.requires.1 in (z.peers, z.charges, record { ends = z.ends; rows = z.rows }, h.0, h.1)
@@ -45,7 +45,7 @@ pub alter-requires : goal.alter-requires
 alter-requires c = c.requires
 
 pub returns-in-Transfer : goal.returns-in-Transfer
-returns-in-Transfer c = did-transfer _ _ _ _ _ _ _ _ _ _ _ _ c.in-Transfer.is c.transfer-id.ensures
+returns-in-Transfer c = did-transfer _ _ _ _ _ _ _ _ _ _ _ _ c.in-Transfer.is c.transfer.ensures
 
 pub returns-in-Send : goal.returns-in-Send
 returns-in-Send c = did-send _ _ _ _ _ _ _ _ _ _ _ _ c.in-Send.is c.payload-data.ensures c.send.ensures c.replace_seed.ensures

@@ -28,8 +28,8 @@ others hs cs (order.ShowSeed p) _ _ _ = refl
 others hs cs (order.Quota p u) _ not_quota _ = absurd (not_quota p u refl)
 others hs cs (order.Holders s) _ _ not_holders = absurd (not_holders s refl)
 
-pub load-c-requires : goal.load-c-requires
-load-c-requires c = (c.requires.1, fair-as c.in-Quota.is c.requires.2)
+pub load-requires : goal.load-requires
+load-requires c = (c.requires.1, fair-as c.in-Quota.is c.requires.2)
 
 pub holders-requires : goal.holders-requires
 holders-requires c = (c.requires.0, fair-as c.in-Holders.is c.requires.2)
@@ -38,7 +38,7 @@ pub returns-in-Refuse : goal.returns-in-Refuse
 returns-in-Refuse c = replies-refuse _ _ c.in-Refuse.is
 
 pub returns-in-Quota : goal.returns-in-Quota
-returns-in-Quota c = replies-quota _ _ c.in-Quota.is c.load-c.ensures c.balance.ensures
+returns-in-Quota c = replies-quota _ _ c.in-Quota.is c.load.ensures c.balance.ensures
 
 pub returns-in-Holders : goal.returns-in-Holders
 returns-in-Holders c = replies-holders _ _ c.in-Holders.is c.holders.ensures
