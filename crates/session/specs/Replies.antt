@@ -1,7 +1,7 @@
 -- A command's answer does not depend on what the answer buffer held: for every bus and every frame there are a number, a bus and bytes, at most 591 of them,
 -- such that the command writes these bytes at the front of any buffer that is long enough.
 -- Assumes nothing.
-use Rattle.std.specs.Prelude.{ℕ, ◌+◌, ◌≤◌, ◌≡◌, refl, List, [], ◌++◌, length, take, drop, replicate}
+use Rattle.std.specs.Prelude.{ℕ, ◌≤◌, ◌≡◌, refl, List, [], ◌++◌, length, take, drop, replicate}
 use Rattle.std.proofs.Common.{sym, ap, ◌∙◌, arith, take_at, le-ltb}
 use Rattle.std.proofs.lemmas.List.{length-replicate}
 use Rattle.laws.specs.Tests.{pick, Seen, Seen.is_true, Seen.is_false, look}

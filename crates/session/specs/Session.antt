@@ -1,10 +1,9 @@
 -- Document 01, "The program reads lines .. one answer line each": the answer of a line on a bus, the text of the answers of many lines, and what a program that
 -- reads chunks has written after each of them. The statements stand at the end; Laws proves each under the same name in small letters.
 -- Assumes nothing.
-use Rattle.std.specs.Prelude.{ℕ, ◌+◌, ◌-◌, ◌*◌, ◌≤◌, ◌<◌, ◌≡◌, refl, Bool, true, false, length, take, drop, replicate, eqb, leb}
+use Rattle.std.specs.Prelude.{ℕ, ◌+◌, ◌*◌, ◌≤◌, ◌<◌, ◌≡◌, refl, Bool, true, false, length, take, drop, replicate, Option, Some, None}
 use mathlib.Core.List.{List, [], ◌∷◌, ◌++◌, map, flatten}
 use Rattle.std.proofs.lemmas.List.Edits.{sets}
-use Rattle.laws.specs.Tests.{pick}
 use Rattle.ids.specs.Refusals.{EINVAL}
 use Rattle.frames.specs.Lengths.{longest_frame}
 use Rattle.answers.specs.Answer.{answer_size}
@@ -14,6 +13,7 @@ use Rattle.lines.specs.declared.LineRead.{LineRead}
 use Rattle.lines.specs.declared.LineRead.TheVariants.{Frame, Bad, Piece}
 use Rattle.view.specs.View.{Bus}
 use Rattle.bus_model.specs.Command.{Done, command_of, fresh_bus}
+use Rattle.session.specs.declared.Turn.{Turn}
 
 -- What a line comes to: the bus afterwards, and the bytes of the answer.
 pub record Reply : Type 0 where
@@ -112,27 +112,27 @@ Holds (Frame m n) = m ≤ longest_frame
 Holds (Bad place n) = Unit {0}
 Holds (Piece place) = Unit {0}
 
--- How many characters a line took, 0 where its LF is missing.
-abbrev pub used_by : LineRead → ℕ
-used_by (Frame m n) = n
-used_by (Bad place n) = n
-used_by (Piece place) = 0
+-- How many characters a line took, none where its LF is missing.
+abbrev pub used_by : LineRead → Option ℕ
+used_by (Frame m n) = Some n
+used_by (Bad place n) = Some n
+used_by (Piece place) = None
 
--- One turn: the line that starts at `from` is answered, or nothing is done, because its LF is missing.
-pub record Turned (b : Bus) (s : List ℕ) (from at : ℕ) (t : List ℕ) (c : Bus) (u : List ℕ) (next used to : ℕ) : Type 0 where
-  pub served : Served b s from at t c u next to
-  pub goes : next ≡ from + used
-  pub piece : used ≡ 0 → NoLf (drop next s)
-
--- A next turn is taken where the last one took a line, and the longest answer line has room behind the text.
-abbrev pub goes_on : ℕ → ℕ → ℕ → Bool
-goes_on used at room = pick (eqb used 0) false (leb longest (room - at))
+-- One turn x: the line that starts at its place is answered, or nothing is done, because its LF is missing.
+abbrev pub Turned : Bus → List ℕ → Turn → List ℕ → Bus → List ℕ → Option Turn → Type 0
+Turned b s x t c u (Some y) = Served b s x.from x.at t c u y.from y.at × (x.from < y.from)
+Turned b s x t c u None = (c ≡ b) × (u ≡ t) × NoLf (drop x.from s)
 
 -- A chunk that was served: the texts of its calls, and whether all its lines are answered.
 pub record Chunk (b : Bus) (s : List ℕ) (c : Bus) (next : ℕ) (whole : Bool) : Type 0 where
   pub written : List ℕ
   pub serves : Serves s b 0 c next written
   pub piece : whole ≡ true → NoLf (drop next s)
+
+-- What came of a chunk: all its lines are answered, up to the place where its piece starts; or only some calls were made.
+abbrev pub Sent : Bus → List ℕ → Bus → Option ℕ → Type 0
+Sent b s c (Some next) = Chunk b s c next true
+Sent b s c None = (next : ℕ) × Chunk b s c next false
 
 -- A program stands between two chunks: there are chunks that it has read and a text that it has written, of which the bus is b and c is carried over.
 pub record Underway (b : Bus) (c : List ℕ) : Type 0 where

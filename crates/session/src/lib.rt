@@ -3,14 +3,14 @@
 
 #![tactic(auto)]
 
-ghost use Rattle.std.specs.Prelude.{◌≡◌, ◌+◌, ◌*◌, ◌≤◌, [], ◌∷◌, length, ltb};
+ghost use Rattle.std.specs.Prelude.{◌≡◌, ◌+◌, ◌*◌, ◌≤◌, [], ◌∷◌, length};
 ghost use Rattle.std.proofs.lemmas.List.Edits.{sets};
 ghost use Rattle.lines.specs.Line.{answer_line};
 ghost use Rattle.lines.specs.Chunks.{Found.frame, Found.bad};
 ghost use Rattle.frames.specs.Lengths.{longest_frame};
 ghost use Rattle.answers.specs.Answer.{answer_size};
 ghost use Rattle.view.specs.View.{bus_of};
-ghost use Rattle.session.specs.Session.{longest, Served, Stopped, Put, PutRead, Holds, used_by, Turned, goes_on};
+ghost use Rattle.session.specs.Session.{longest, Served, Stopped, Put, PutRead, Holds, used_by, Turned};
 
 use ids::{ANSWER_SIZE, EINVAL, FRAME_SIZE};
 use lines::LineRead;
@@ -18,17 +18,13 @@ use lines::LineRead;
 // The longest answer line: the digits of 591 bytes, and its LF.
 const LONGEST: usize = 2 * ANSWER_SIZE + 1;
 
-// Writes the answer line of some bytes from `at` on. Where the next one goes. There is room for it, so the last arm is
-// never reached.
+// Writes the answer line of some bytes from `at` on, for which there is room. Where the next one goes.
 fn put_line(text: &mut [u8], at: usize, bytes: &[u8]) -> usize
     requires { at + (2 * length bytes.now + 1) ≤ length text.old }
     ensures { (text.new ≡ sets text.old at (answer_line bytes.now))
         × (result ≡ at + (2 * length bytes.now + 1)) }
 {
-    match lines::write_line(text, at, bytes) {
-        Some(next) => next,
-        None => at,
-    }
+    lines::write_line(text, at, bytes).unwrap()
 }
 
 // The command of a frame, and the line of its answer. Where the next line goes.
@@ -66,8 +62,7 @@ fn refuse(text: &mut [u8], at: usize) -> usize
     requires { at + longest ≤ length text.old }
     ensures { (text.new ≡ sets text.old at (answer_line (22 ∷ []))) × (result ≡ at + 3) }
 {
-    let answer = [EINVAL];
-    put_line(text, at, &answer)
+    put_line(text, at, &[EINVAL])
 }
 
 // The answer line of what was read, or nothing where its LF is missing. Where the next line goes.
@@ -117,32 +112,26 @@ fn answer_read(
     }
 }
 
-// How many characters a line took, 0 where its LF is missing.
-fn used_by(read: LineRead) -> usize
+// How many characters a line took, none where its LF is missing.
+fn used_by(read: LineRead) -> Option<usize>
     ensures { result ≡ used_by read }
 {
     match read {
-        LineRead::Frame(_, next) => next,
-        LineRead::Bad(_, next) => next,
-        LineRead::Piece(_) => 0,
+        LineRead::Frame(_, next) => Some(next),
+        LineRead::Bad(_, next) => Some(next),
+        LineRead::Piece(_) => None,
     }
 }
 
-// A turn: where the next line starts, how many characters the last one took, and where the next answer line goes.
+// Where a line starts, and where its answer line goes.
 #[derive(Clone, Copy)]
 struct Turn {
     from: usize,
-    used: usize,
     at: usize,
 }
 
-fn turned(from: usize, used: usize, at: usize) -> Turn
-    ensures { (result.from ≡ from) × (result.used ≡ used) × (result.at ≡ at) }
-{
-    Turn { from, used, at }
-}
-
-// The line that starts at the turn's place answered, or nothing done where its LF is missing.
+// The line that starts at the turn's place answered: the turn of the next one. None, and nothing is done, where its LF is
+// missing.
 fn answer_line(
     peers: &mut [u64],
     nodes: &mut [u64],
@@ -159,13 +148,13 @@ fn answer_line(
     out: &mut [u8],
     text: &mut [u8],
     t: Turn,
-) -> Turn
+) -> Option<Turn>
     requires { (t.from ≤ length s.now) × (length out.old ≡ answer_size) × (t.at + longest ≤ length text.old) }
     ensures { let before = bus_of peers.old nodes.old handles.old charges.old
         ends.old entries.old carried.old numbers.old pool.old seeds.old in
         let after = bus_of peers.new nodes.new handles.new charges.new
         ends.new entries.new carried.new numbers.new pool.new seeds.new in
-        Turned before s.now t.from t.at text.old after text.new result.from result.used result.at }
+        Turned before s.now t text.old after text.new result }
 {
     let from = t.from;
     let read = lines::read_line(&s[from..], f);
@@ -173,8 +162,8 @@ fn answer_line(
         peers, nodes, handles, charges, ends, entries, carried, numbers, pool, seeds, f, read, out,
         text, t.at,
     );
-    let used = used_by(read);
-    turned(from + used, used, at)
+    let next = from + used_by(read)?;
+    Some(Turn { from: next, at })
 }
 
 // How far the answering came: where the next line starts, where the text ends, and whether there is more to answer, for
@@ -184,27 +173,6 @@ pub struct Progress {
     pub from: usize,
     pub at: usize,
     pub more: bool,
-}
-
-fn reached(t: Turn) -> Progress
-    ensures { (result.from ≡ t.from) × (result.at ≡ t.at) × (result.more ≡ ltb 0 t.used) }
-{
-    Progress {
-        from: t.from,
-        at: t.at,
-        more: t.used > 0,
-    }
-}
-
-// Did the last turn take a line, and has the longest answer line room behind the text?
-fn goes_on(t: Turn, room: usize) -> bool
-    requires { t.at ≤ room }
-    ensures { result ≡ goes_on t.used t.at room }
-{
-    if t.used == 0 {
-        return false;
-    }
-    LONGEST <= room - t.at
 }
 
 // The whole lines of s from `from` on answered, as far as their answers have room: the text of the answers stands at the
@@ -234,12 +202,23 @@ pub fn answer_lines(
 {
     let mut f = [0u8; FRAME_SIZE];
     let mut out = [0u8; ANSWER_SIZE];
-    let mut t = turned(from, 1, 0);
-    while goes_on(t, text.len()) {
-        t = answer_line(
+    let mut t = Turn { from, at: 0 };
+    while LONGEST <= text.len() - t.at {
+        let Some(next) = answer_line(
             peers, nodes, handles, charges, ends, entries, carried, numbers, pool, seeds, s,
             &mut f, &mut out, text, t,
-        );
+        ) else {
+            return Progress {
+                from: t.from,
+                at: t.at,
+                more: false,
+            };
+        };
+        t = next;
     }
-    reached(t)
+    Progress {
+        from: t.from,
+        at: t.at,
+        more: true,
+    }
 }

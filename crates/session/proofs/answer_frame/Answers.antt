@@ -5,7 +5,6 @@ use lib.Seq.{length-take-le}
 use Rattle.session.specs.Replies.{reply-of}
 use Rattle.session.specs.Laws.{frame-put}
 use native.Mathlib.Omega.{arith}
-use borrow.Author.Rules.{rules}
 use Rattle.session.proofs.answer_frame.Goals as goal
 
 pub slice_bounds-put_line-end : goal.slice_bounds-put_line-end

@@ -3,7 +3,6 @@ use mathlib.Core.Path.{refl, sym}
 use lib.Seq.{length-take-le}
 use Rattle.session.specs.Laws.{put-frame, put-bad, put-piece}
 use native.Mathlib.Omega.{arith}
-use borrow.Author.Rules.{rules}
 use Rattle.session.proofs.answer_read.Goals as goal
 
 pub slice_bounds-answer_frame-end : goal.slice_bounds-answer_frame-end
