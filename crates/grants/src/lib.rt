@@ -3,6 +3,7 @@
 #![tactic(auto)]
 
 ghost use Rattle.std.specs.Prelude.{◌≡◌, ◌<◌, ◌≤◌, length};
+ghost use Rattle.rings.specs.Lent.{lent, SameTables};
 ghost use Rattle.rings.specs.Rings.{rings_of, QueueTables};
 ghost use Rattle.tables.specs.Handles.{handles_size};
 ghost use Rattle.grants.specs.Grants.{numbered, numbered_of, shown_to, referenced_of, referenced};
@@ -11,7 +12,7 @@ ghost use Rattle.ids.specs.Sizes.{peers as peer_count, peers_size, nodes_size, m
 ghost use Rattle.model.specs.Numbers.{nodes as node_count};
 
 use ids::{HandleId, INVALID, NODES, Peer, SLOTS};
-use rings::Match;
+use rings::{Match, RingTables};
 
 // A new ID for the peer.
 fn next_id(peers: &mut [u64], p: Peer) -> HandleId
@@ -69,18 +70,16 @@ pub fn give(
     peers: &mut [u64],
     nodes: &[u64],
     handles: &mut [u64],
-    ends: &mut [u16],
-    entries: &mut [u16],
-    carried: &mut [u8],
-    numbers: &mut [u64],
+    rings: &mut RingTables<'_>,
     p: Peer,
     n: u64,
     s: usize,
 ) -> u64
     requires { (length peers.old ≡ peers_size) × (length nodes.now ≡ nodes_size) × (length handles.old ≡ handles_size)
-        × QueueTables ends.old entries.old carried.old numbers.old × (p.0 < peer_count) × (s < node_count) }
-    ensures { let before = rings_of ends.old entries.old carried.old numbers.old in
-        let after = rings_of ends.new entries.new carried.new numbers.new in
+        × (p.0 < peer_count) × (s < node_count) }
+    ensures same { SameTables rings.old rings.new }
+    ensures done { let before = lent rings.old in
+        let after = lent rings.new in
         given_of result peers.new handles.new after
         ≡ given_to nodes.now peers.old handles.old before p.0 n s }
 {
@@ -89,10 +88,7 @@ pub fn give(
     }
     if tables::total(handles, s) == 1 {
         queues::withdraw(
-            ends,
-            entries,
-            carried,
-            numbers,
+            rings,
             Peer(s / SLOTS),
             Match::one_slot(rings::RELEASED_BIT, s),
         );
@@ -105,19 +101,17 @@ pub fn give_all(
     peers: &mut [u64],
     nodes: &[u64],
     handles: &mut [u64],
-    ends: &mut [u16],
-    entries: &mut [u16],
-    carried: &mut [u8],
-    numbers: &mut [u64],
+    rings: &mut RingTables<'_>,
     p: Peer,
     n: u64,
     slots: [u8; 8],
     nh: usize,
 ) -> [u64; 8]
     requires { (length peers.old ≡ peers_size) × (length nodes.now ≡ nodes_size) × (length handles.old ≡ handles_size)
-        × QueueTables ends.old entries.old carried.old numbers.old × (p.0 < peer_count) × (nh ≤ most_ids) }
-    ensures { let before = rings_of ends.old entries.old carried.old numbers.old in
-        let after = rings_of ends.new entries.new carried.new numbers.new in
+        × (p.0 < peer_count) × (nh ≤ most_ids) }
+    ensures same { SameTables rings.old rings.new }
+    ensures done { let before = lent rings.old in
+        let after = lent rings.new in
         gives_of result peers.new handles.new after
         ≡ gives_to nodes.now peers.old handles.old before p.0 n slots nh }
 {
@@ -125,7 +119,7 @@ pub fn give_all(
     for k in 0..nh {
         let s = usize::from(slots[k]) % NODES;
         ids[k] = give(
-            peers, nodes, handles, ends, entries, carried, numbers, p, n, s,
+            peers, nodes, handles, rings, p, n, s,
         );
     }
     ids

@@ -4,6 +4,7 @@
 #![tactic(auto)]
 
 ghost use Rattle.std.specs.Prelude.{◌≡◌, [], ◌+◌, ◌*◌, ◌<◌, ◌≤◌, length, take};
+ghost use Rattle.rings.specs.Lent.{lent};
 ghost use Rattle.frames.specs.Frame.{payload_of};
 ghost use Rattle.frames.specs.Legal.{Legal, Sized as Sent};
 ghost use Rattle.rings.specs.Rings.{rings_of, QueueTables};
@@ -25,7 +26,7 @@ ghost use Rattle.tables.specs.Charges.{charges_size};
 use frames::{Command, Sizes};
 use ids::{HandleId, MOST_COMMANDS, MOST_IDS, NODES, PEERS, Peer, Refusal, SLOTS, User};
 use quota::Charge;
-use rings::Entry;
+use rings::{Entry, RingTables};
 use tables::Status;
 
 // A send's slots: its destinations and what it carries, 0 behind them and for every other command.
@@ -114,18 +115,14 @@ fn counts(
     nodes: &[u64],
     handles: &[u64],
     charges: &[u16],
-    ends: &[u16],
-    entries: &[u16],
-    carried: &[u8],
-    numbers: &[u64],
+    rings: &RingTables<'_>,
     seeds: &[u8],
     s: usize,
 ) -> bool
-    requires { (length nodes.now ≡ nodes_size) × (length handles.now ≡ handles_size) × (length charges.now ≡ charges_size)
-        × QueueTables ends.now entries.now carried.now numbers.now × Short ends.now × (length seeds.now ≡ seeds_size)
-        × (s < node_count) }
-    ensures { let rings = rings_of ends.now entries.now carried.now numbers.now in
-        result ≡ counts_at nodes.now handles.now charges.now rings seeds.now s }
+    requires { (length nodes.now ≡ nodes_size) × (length handles.now ≡ handles_size)
+        × (length charges.now ≡ charges_size) × Short rings.now.ends.now × (length seeds.now ≡ seeds_size) × (s < node_count) }
+    ensures { let queues = lent rings.now in
+        result ≡ counts_at nodes.now handles.now charges.now queues seeds.now s }
 {
     if tables::is_live(nodes, s) {
         return true;
@@ -133,7 +130,7 @@ fn counts(
     if tables::holders(handles, s) != 0 {
         return true;
     }
-    if queues::named(charges, ends, entries, carried, numbers, s) {
+    if queues::named(charges, rings, s) {
         return true;
     }
     seeds::names(seeds, s)
@@ -144,24 +141,20 @@ fn free_slot(
     nodes: &[u64],
     handles: &[u64],
     charges: &[u16],
-    ends: &[u16],
-    entries: &[u16],
-    carried: &[u8],
-    numbers: &[u64],
+    rings: &RingTables<'_>,
     seeds: &[u8],
     p: Peer,
 ) -> Option<usize>
-    requires { (length nodes.now ≡ nodes_size) × (length handles.now ≡ handles_size) × (length charges.now ≡ charges_size)
-        × QueueTables ends.now entries.now carried.now numbers.now × Short ends.now × (length seeds.now ≡ seeds_size)
-        × (p.0 < peer_count) }
-    ensures { let rings = rings_of ends.now entries.now carried.now numbers.now in
-        let free = free_at nodes.now handles.now charges.now rings seeds.now p.0 in
+    requires { (length nodes.now ≡ nodes_size) × (length handles.now ≡ handles_size)
+        × (length charges.now ≡ charges_size) × Short rings.now.ends.now × (length seeds.now ≡ seeds_size) × (p.0 < peer_count) }
+    ensures { let queues = lent rings.now in
+        let free = free_at nodes.now handles.now charges.now queues seeds.now p.0 in
         result ≡ place_found p.0 free }
 {
     for k in 0..SLOTS {
         let s = p.0 * SLOTS + k;
         if !counts(
-            nodes, handles, charges, ends, entries, carried, numbers, seeds, s,
+            nodes, handles, charges, rings, seeds, s,
         ) {
             return Some(s);
         }
@@ -174,21 +167,17 @@ fn judge_create(
     nodes: &[u64],
     handles: &[u64],
     charges: &[u16],
-    ends: &[u16],
-    entries: &[u16],
-    carried: &[u8],
-    numbers: &[u64],
+    rings: &RingTables<'_>,
     seeds: &[u8],
     p: Peer,
     i: HandleId,
 ) -> Result<Order, Refusal>
     requires { (length peers.now ≡ peers_size) × (length nodes.now ≡ nodes_size) × (length handles.now ≡ handles_size)
-        × (length charges.now ≡ charges_size) × QueueTables ends.now entries.now carried.now numbers.now
-        × Short ends.now × (length seeds.now ≡ seeds_size) × (p.0 < peer_count) }
-    ensures { let rings = rings_of ends.now entries.now carried.now numbers.now in
+        × (length charges.now ≡ charges_size) × Short rings.now.ends.now × (length seeds.now ≡ seeds_size) × (p.0 < peer_count) }
+    ensures { let queues = lent rings.now in
         let tables = seen peers.now [] [] [] no_rings in
         let find = find_at handles.now p.0 in
-        let free = free_at nodes.now handles.now charges.now rings seeds.now p.0 in
+        let free = free_at nodes.now handles.now charges.now queues seeds.now p.0 in
         ruled result ≡ unless (create_by find free tables p.0 i.0) (order.Create p i (p.0 * slots + free)) }
 {
     starts(peers, p)?;
@@ -196,7 +185,7 @@ fn judge_create(
         return Err(Refusal::EEXIST);
     }
     let free = free_slot(
-        nodes, handles, charges, ends, entries, carried, numbers, seeds, p,
+        nodes, handles, charges, rings, seeds, p,
     );
     Ok(Order::Create(p, i, free.ok_or(Refusal::ENOSPC)?))
 }
@@ -380,22 +369,19 @@ fn too_large(e: Entry, room: usize) -> bool
 
 fn judge_receive(
     peers: &[u64],
-    ends: &[u16],
-    entries: &[u16],
-    carried: &[u8],
-    numbers: &[u64],
+    rings: &RingTables<'_>,
     p: Peer,
     room: usize,
 ) -> Result<Order, Refusal>
-    requires { (length peers.now ≡ peers_size) × QueueTables ends.now entries.now carried.now numbers.now × (p.0 < peer_count) }
-    ensures { let rings = rings_of ends.now entries.now carried.now numbers.now in
-        ruled result ≡ unless (refuses_receive (seen peers.now [] [] [] rings) p.0 room) (order.Receive p) }
+    requires { (length peers.now ≡ peers_size) × (p.0 < peer_count) }
+    ensures { let queues = lent rings.now in
+        ruled result ≡ unless (refuses_receive (seen peers.now [] [] [] queues) p.0 room) (order.Receive p) }
 {
     starts(peers, p)?;
-    if rings::len_of(ends, p) == 0 {
+    if rings.len(p) == 0 {
         return Err(Refusal::EAGAIN);
     }
-    if too_large(rings::first_entry(ends, entries, carried, numbers, p), room) {
+    if too_large(rings.first(p), room) {
         return Err(Refusal::ERANGE);
     }
     Ok(Order::Receive(p))
@@ -445,26 +431,22 @@ pub fn judge(
     ns: &[u64],
     hs: &[u64],
     cs: &[u16],
-    ends: &[u16],
-    entries: &[u16],
-    carried: &[u8],
-    numbers: &[u64],
+    rings: &RingTables<'_>,
     seeds: &[u8],
     frame: &[u8],
     c: Command,
 ) -> Ruling
     requires { (length ps.now ≡ peers_size) × (length ns.now ≡ nodes_size) × (length hs.now ≡ handles_size)
-        × (length cs.now ≡ charges_size) × QueueTables ends.now entries.now carried.now numbers.now
-        × Short ends.now × (length seeds.now ≡ seeds_size) × Legal frame.now c }
-    ensures { let rings = rings_of ends.now entries.now carried.now numbers.now in
-        let tables = sight ps.now ns.now hs.now cs.now rings seeds.now in
+        × (length cs.now ≡ charges_size) × Short rings.now.ends.now × (length seeds.now ≡ seeds_size) × Legal frame.now c }
+    ensures { let queues = lent rings.now in
+        let tables = sight ps.now ns.now hs.now cs.now queues seeds.now in
         result ≡ ruling_of tables frame.now c }
 {
     match c {
         Command::Open(p, u) => plain(judge_open(ps, p, u)),
         Command::Disconnect(p) => plain(judge_disconnect(ps, p)),
         Command::Create(p, i) => {
-            plain(judge_create(ps, ns, hs, cs, ends, entries, carried, numbers, seeds, p, i))
+            plain(judge_create(ps, ns, hs, cs, rings, seeds, p, i))
         }
         Command::Destroy(p, i) => plain(judge_destroy(ps, ns, hs, p, i)),
         Command::Release(p, i) => plain(judge_release(ps, ns, hs, p, i)),
@@ -477,7 +459,7 @@ pub fn judge(
             Err(refusal) => plain(Err(refusal)),
         },
         Command::Receive(p, room) => {
-            plain(judge_receive(ps, ends, entries, carried, numbers, p, room))
+            plain(judge_receive(ps, rings, p, room))
         }
         Command::Quota(p, u) => plain(judge_quota(ps, p, u)),
         Command::Holders(p, i) => plain(judge_holders(ps, hs, p, i)),

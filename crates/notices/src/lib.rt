@@ -4,6 +4,7 @@
 #![tactic(auto)]
 
 ghost use Rattle.std.specs.Prelude.{◌≡◌, ◌<◌, ◌≤◌, ℕ, Bool, length};
+ghost use Rattle.rings.specs.Lent.{lent, SameTables};
 ghost use Rattle.laws.specs.Bits.{bits};
 ghost use Rattle.rings.specs.Rings.{ring_size, rings_of, one_slot, QueueTables, released_bit};
 ghost use Rattle.tables.specs.Handles.{handles_size};
@@ -15,7 +16,7 @@ ghost use Rattle.ids.specs.Sizes.{peers as peer_count, nodes_size, slots, most_i
 ghost use Rattle.model.specs.Numbers.{nodes as node_count};
 
 use ids::{INVALID, NODES, PEERS, Peer, RING, SLOTS};
-use rings::{DESTROYED, DESTROYED_BIT, Entry, Match, RELEASED, RELEASED_BIT};
+use rings::{DESTROYED, DESTROYED_BIT, Entry, Match, RELEASED, RELEASED_BIT, RingTables};
 
 // Which of a peer's slots are asked for: those whose nodes live; those whose sum of counts falls to 1 when a peer's handle
 // goes; those of a set whose IDs are above the one of a place.
@@ -137,16 +138,13 @@ fn least_id(handles: &[u64], q: Peer, set: u16) -> Option<usize>
 
 // The entry queued at each peer of a set, in ascending order.
 fn post(
-    ends: &mut [u16],
-    entries: &mut [u16],
-    carried: &mut [u8],
-    numbers: &mut [u64],
+    rings: &mut RingTables<'_>,
     set: u8,
     e: Entry,
 )
-    requires { QueueTables ends.old entries.old carried.old numbers.old }
-    ensures { let before = rings_of ends.old entries.old carried.old numbers.old in
-        let after = rings_of ends.new entries.new carried.new numbers.new in
+    ensures same { SameTables rings.old rings.new }
+    ensures done { let before = lent rings.old in
+        let after = lent rings.new in
         after ≡ posted_to before e set peer_count }
 {
     let mut rest = set;
@@ -155,7 +153,7 @@ fn post(
             return;
         }
         let q = tables::lowest(rest) % PEERS;
-        queues::enter(ends, entries, carried, numbers, Peer(q), e);
+        queues::enter(rings, Peer(q), e);
         rest = tables::without(rest, q);
     }
 }
@@ -165,49 +163,38 @@ fn post(
 fn concerns(
     handles: &[u64],
     charges: &[u16],
-    ends: &[u16],
-    entries: &[u16],
-    carried: &[u8],
-    numbers: &[u64],
+    rings: &RingTables<'_>,
     o: Peer,
     s: usize,
     n: u64,
 ) -> bool
-    requires { (length handles.now ≡ handles_size) × (length charges.now ≡ charges_size)
-        × QueueTables ends.now entries.now carried.now numbers.now × (o.0 < peer_count) × (s < node_count) }
-    ensures { let rings = rings_of ends.now entries.now carried.now numbers.now in
-        result ≡ tells_at handles.now charges.now rings s n o.0 }
+    requires { (length handles.now ≡ handles_size) × (length charges.now ≡ charges_size) × (o.0 < peer_count) × (s < node_count) }
+    ensures { let queues = lent rings.now in
+        result ≡ tells_at handles.now charges.now queues s n o.0 }
 {
     if tables::count_of(handles, o, s) != 0 {
         return true;
     }
-    queues::carried_before(charges, ends, entries, carried, numbers, o, s, n)
+    queues::carried_before(charges, rings, o, s, n)
 }
 
 // Who is told of the destruction: one bit for each peer.
 fn addressees(
     handles: &[u64],
     charges: &[u16],
-    ends: &[u16],
-    entries: &[u16],
-    carried: &[u8],
-    numbers: &[u64],
+    rings: &RingTables<'_>,
     s: usize,
     n: u64,
 ) -> u8
-    requires { (length handles.now ≡ handles_size) × (length charges.now ≡ charges_size)
-        × QueueTables ends.now entries.now carried.now numbers.now × (s < node_count) }
-    ensures { let rings = rings_of ends.now entries.now carried.now numbers.now in
-        result ≡ addressees_bits handles.now charges.now rings s n }
+    requires { (length handles.now ≡ handles_size) × (length charges.now ≡ charges_size) × (s < node_count) }
+    ensures { let queues = lent rings.now in
+        result ≡ addressees_bits handles.now charges.now queues s n }
 {
     set_where(PEERS, |o| {
         concerns(
             handles,
             charges,
-            ends,
-            entries,
-            carried,
-            numbers,
+            rings,
             Peer(o),
             s,
             n,
@@ -219,48 +206,40 @@ fn addressees(
 fn addressees_at(
     handles: &[u64],
     charges: &[u16],
-    ends: &[u16],
-    entries: &[u16],
-    carried: &[u8],
-    numbers: &[u64],
+    rings: &RingTables<'_>,
     p: Peer,
     set: u16,
     n: u64,
     k: usize,
 ) -> u8
-    requires { (length handles.now ≡ handles_size) × (length charges.now ≡ charges_size)
-        × QueueTables ends.now entries.now carried.now numbers.now × (p.0 < peer_count) × (k < slots) }
-    ensures { let rings = rings_of ends.now entries.now carried.now numbers.now in
-        result ≡ addressees_at handles.now charges.now rings p.0 set n k }
+    requires { (length handles.now ≡ handles_size) × (length charges.now ≡ charges_size) × (p.0 < peer_count) × (k < slots) }
+    ensures { let queues = lent rings.now in
+        result ≡ addressees_at handles.now charges.now queues p.0 set n k }
 {
     if !rings::bit(usize::from(set), k) {
         return 0;
     }
     let s = p.0 * SLOTS + k;
-    addressees(handles, charges, ends, entries, carried, numbers, s, n)
+    addressees(handles, charges, rings, s, n)
 }
 
 // The same of each place of the peer's own slots.
 fn addressees_of(
     handles: &[u64],
     charges: &[u16],
-    ends: &[u16],
-    entries: &[u16],
-    carried: &[u8],
-    numbers: &[u64],
+    rings: &RingTables<'_>,
     p: Peer,
     set: u16,
     n: u64,
 ) -> [u8; 16]
-    requires { (length handles.now ≡ handles_size) × (length charges.now ≡ charges_size)
-        × QueueTables ends.now entries.now carried.now numbers.now × (p.0 < peer_count) }
-    ensures { let rings = rings_of ends.now entries.now carried.now numbers.now in
-        result ≡ addressees_of handles.now charges.now rings p.0 set n }
+    requires { (length handles.now ≡ handles_size) × (length charges.now ≡ charges_size) × (p.0 < peer_count) }
+    ensures { let queues = lent rings.now in
+        result ≡ addressees_of handles.now charges.now queues p.0 set n }
 {
     let mut to = [0u8; 16];
     for k in 0..SLOTS {
         to[k] = addressees_at(
-            handles, charges, ends, entries, carried, numbers, p, set, n, k,
+            handles, charges, rings, p, set, n, k,
         );
     }
     to
@@ -270,20 +249,17 @@ fn addressees_of(
 pub fn tell(
     nodes: &[u64],
     handles: &[u64],
-    ends: &mut [u16],
-    entries: &mut [u16],
-    carried: &mut [u8],
-    numbers: &mut [u64],
+    rings: &mut RingTables<'_>,
     q: Peer,
     set: u16,
     to: [u8; 16],
     kind: u16,
     n: u64,
 )
-    requires { (length nodes.now ≡ nodes_size) × (length handles.now ≡ handles_size)
-        × QueueTables ends.old entries.old carried.old numbers.old × (q.0 < peer_count) }
-    ensures { let before = rings_of ends.old entries.old carried.old numbers.old in
-        let after = rings_of ends.new entries.new carried.new numbers.new in
+    requires { (length nodes.now ≡ nodes_size) × (length handles.now ≡ handles_size) × (q.0 < peer_count) }
+    ensures same { SameTables rings.old rings.new }
+    ensures done { let before = lent rings.old in
+        let after = lent rings.new in
         after ≡ told handles.now to q.0 kind n before set slots }
 {
     let mut rest = set;
@@ -293,7 +269,7 @@ pub fn tell(
         };
         let s = q.0 * SLOTS + j % SLOTS;
         let e = notice(kind, s, n);
-        post(ends, entries, carried, numbers, to[j % SLOTS], e);
+        post(rings, to[j % SLOTS], e);
         rest = set_of(nodes, handles, q, Asked::Above(rest, j));
     }
 }
@@ -316,31 +292,29 @@ pub fn destroy_set(
     nodes: &mut [u64],
     handles: &[u64],
     charges: &[u16],
-    ends: &mut [u16],
-    entries: &mut [u16],
-    carried: &mut [u8],
-    numbers: &mut [u64],
+    rings: &mut RingTables<'_>,
     p: Peer,
     set: u16,
     n: u64,
 )
-    requires { (length nodes.old ≡ nodes_size) × (length handles.now ≡ handles_size) × (length charges.now ≡ charges_size)
-        × QueueTables ends.old entries.old carried.old numbers.old × (p.0 < peer_count) }
-    ensures { let before = rings_of ends.old entries.old carried.old numbers.old in
-        let after = rings_of ends.new entries.new carried.new numbers.new in
+    requires { (length nodes.old ≡ nodes_size) × (length handles.now ≡ handles_size)
+        × (length charges.now ≡ charges_size) × (p.0 < peer_count) }
+    ensures same { SameTables rings.old rings.new }
+    ensures done { let before = lent rings.old in
+        let after = lent rings.new in
         destroyed_of nodes.new after
         ≡ destroyed_set nodes.old handles.now charges.now before p.0 set n }
 {
-    let to = addressees_of(handles, charges, ends, entries, carried, numbers, p, set, n);
+    let to = addressees_of(handles, charges, rings, p, set, n);
     let m = Match {
         kinds: RELEASED_BIT,
         first: p.0 * SLOTS,
         mask: set,
     };
-    queues::withdraw(ends, entries, carried, numbers, p, m);
+    queues::withdraw(rings, p, m);
     bury(nodes, p, set, n);
     tell(
-        nodes, handles, ends, entries, carried, numbers, p, set, to, DESTROYED, n,
+        nodes, handles, rings, p, set, to, DESTROYED, n,
     );
 }
 
@@ -349,45 +323,40 @@ pub fn destroy_one(
     nodes: &mut [u64],
     handles: &[u64],
     charges: &[u16],
-    ends: &mut [u16],
-    entries: &mut [u16],
-    carried: &mut [u8],
-    numbers: &mut [u64],
+    rings: &mut RingTables<'_>,
     p: Peer,
     s: usize,
     n: u64,
 )
-    requires { (length nodes.old ≡ nodes_size) × (length handles.now ≡ handles_size) × (length charges.now ≡ charges_size)
-        × QueueTables ends.old entries.old carried.old numbers.old × (p.0 < peer_count) }
-    ensures { let before = rings_of ends.old entries.old carried.old numbers.old in
-        let after = rings_of ends.new entries.new carried.new numbers.new in
+    requires { (length nodes.old ≡ nodes_size) × (length handles.now ≡ handles_size)
+        × (length charges.now ≡ charges_size) × (p.0 < peer_count) }
+    ensures same { SameTables rings.old rings.new }
+    ensures done { let before = lent rings.old in
+        let after = lent rings.new in
         destroyed_of nodes.new after
         ≡ destroyed_set nodes.old handles.now charges.now before p.0 (one_slot released_bit s).mask n }
 {
     let own = p.0 * SLOTS + s % SLOTS;
-    let to = addressees(handles, charges, ends, entries, carried, numbers, own, n);
+    let to = addressees(handles, charges, rings, own, n);
     let m = Match::one_slot(RELEASED_BIT, own);
-    queues::withdraw(ends, entries, carried, numbers, p, m);
+    queues::withdraw(rings, p, m);
     tables::set_dead(nodes, own, n);
     let e = notice(DESTROYED, own, n);
-    post(ends, entries, carried, numbers, to, e);
+    post(rings, to, e);
 }
 
 // The release notices at every owner, when all handles of the peer go.
 pub fn tell_owners(
     nodes: &[u64],
     handles: &[u64],
-    ends: &mut [u16],
-    entries: &mut [u16],
-    carried: &mut [u8],
-    numbers: &mut [u64],
+    rings: &mut RingTables<'_>,
     p: Peer,
     n: u64,
 )
-    requires { (length nodes.now ≡ nodes_size) × (length handles.now ≡ handles_size)
-        × QueueTables ends.old entries.old carried.old numbers.old × (p.0 < peer_count) }
-    ensures { let before = rings_of ends.old entries.old carried.old numbers.old in
-        let after = rings_of ends.new entries.new carried.new numbers.new in
+    requires { (length nodes.now ≡ nodes_size) × (length handles.now ≡ handles_size) × (p.0 < peer_count) }
+    ensures same { SameTables rings.old rings.new }
+    ensures done { let before = lent rings.old in
+        let after = lent rings.new in
         after ≡ told_owners nodes.now handles.now p.0 n before peer_count }
 {
     for q in 0..PEERS {
@@ -395,10 +364,7 @@ pub fn tell_owners(
         tell(
             nodes,
             handles,
-            ends,
-            entries,
-            carried,
-            numbers,
+            rings,
             Peer(q),
             set,
             [1u8 << q; 16],
@@ -414,28 +380,26 @@ pub fn expire(
     nodes: &[u64],
     handles: &[u64],
     charges: &[u16],
-    ends: &mut [u16],
-    entries: &mut [u16],
-    carried: &mut [u8],
-    numbers: &mut [u64],
+    rings: &mut RingTables<'_>,
     p: Peer,
     s: usize,
 )
-    requires { (length nodes.now ≡ nodes_size) × (length handles.now ≡ handles_size) × (length charges.now ≡ charges_size)
-        × QueueTables ends.old entries.old carried.old numbers.old × (p.0 < peer_count) × (s < node_count) }
-    ensures { let before = rings_of ends.old entries.old carried.old numbers.old in
-        let after = rings_of ends.new entries.new carried.new numbers.new in
+    requires { (length nodes.now ≡ nodes_size) × (length handles.now ≡ handles_size)
+        × (length charges.now ≡ charges_size) × (p.0 < peer_count) × (s < node_count) }
+    ensures same { SameTables rings.old rings.new }
+    ensures done { let before = lent rings.old in
+        let after = lent rings.new in
         after ≡ expired nodes.now handles.now charges.now p.0 before s }
 {
     if tables::is_live(nodes, s) {
         return;
     }
     let n = tables::died_at(nodes, s);
-    if concerns(handles, charges, ends, entries, carried, numbers, p, s, n) {
+    if concerns(handles, charges, rings, p, s, n) {
         return;
     }
     let m = Match::one_slot(DESTROYED_BIT, s);
-    queues::withdraw(ends, entries, carried, numbers, p, m);
+    queues::withdraw(rings, p, m);
 }
 
 // The same of the peer's own slots among the first nh that a message carried, where the invalid ID was shown.
@@ -443,19 +407,17 @@ pub fn expire_shown(
     nodes: &[u64],
     handles: &[u64],
     charges: &[u16],
-    ends: &mut [u16],
-    entries: &mut [u16],
-    carried: &mut [u8],
-    numbers: &mut [u64],
+    rings: &mut RingTables<'_>,
     p: Peer,
     slots: [u8; 8],
     ids: [u64; 8],
     nh: usize,
 )
-    requires { (length nodes.now ≡ nodes_size) × (length handles.now ≡ handles_size) × (length charges.now ≡ charges_size)
-        × QueueTables ends.old entries.old carried.old numbers.old × (p.0 < peer_count) × (nh ≤ most_ids) }
-    ensures { let before = rings_of ends.old entries.old carried.old numbers.old in
-        let after = rings_of ends.new entries.new carried.new numbers.new in
+    requires { (length nodes.now ≡ nodes_size) × (length handles.now ≡ handles_size)
+        × (length charges.now ≡ charges_size) × (p.0 < peer_count) × (nh ≤ most_ids) }
+    ensures same { SameTables rings.old rings.new }
+    ensures done { let before = lent rings.old in
+        let after = lent rings.new in
         after ≡ expired_shown nodes.now handles.now charges.now p.0 slots ids before nh }
 {
     for k in 0..nh {
@@ -463,7 +425,7 @@ pub fn expire_shown(
             let s = usize::from(slots[k]) % NODES;
             if s / SLOTS == p.0 {
                 expire(
-                    nodes, handles, charges, ends, entries, carried, numbers, p, s,
+                    nodes, handles, charges, rings, p, s,
                 );
             }
         }
@@ -475,28 +437,26 @@ fn expire_at(
     nodes: &[u64],
     handles: &[u64],
     charges: &[u16],
-    ends: &mut [u16],
-    entries: &mut [u16],
-    carried: &mut [u8],
-    numbers: &mut [u64],
+    rings: &mut RingTables<'_>,
     p: Peer,
     i: usize,
 )
-    requires { (length nodes.now ≡ nodes_size) × (length handles.now ≡ handles_size) × (length charges.now ≡ charges_size)
-        × QueueTables ends.old entries.old carried.old numbers.old × (p.0 < peer_count) × (i ≤ ring_size) }
-    ensures { let before = rings_of ends.old entries.old carried.old numbers.old in
-        let after = rings_of ends.new entries.new carried.new numbers.new in
+    requires { (length nodes.now ≡ nodes_size) × (length handles.now ≡ handles_size)
+        × (length charges.now ≡ charges_size) × (p.0 < peer_count) × (i ≤ ring_size) }
+    ensures same { SameTables rings.old rings.new }
+    ensures done { let before = lent rings.old in
+        let after = lent rings.new in
         after ≡ expired_place nodes.now handles.now charges.now p.0 before i }
 {
-    let head = rings::head_of(ends, p);
+    let head = rings.head(p);
     let row = rings::row_of(p, head, i);
-    let e = rings::get_entry(entries, carried, numbers, row);
+    let e = rings.entry(row);
     if e.kind != DESTROYED {
         return;
     }
     let s = usize::from(e.slot) % NODES;
     expire(
-        nodes, handles, charges, ends, entries, carried, numbers, p, s,
+        nodes, handles, charges, rings, p, s,
     );
 }
 
@@ -506,25 +466,23 @@ pub fn expire_all(
     nodes: &[u64],
     handles: &[u64],
     charges: &[u16],
-    ends: &mut [u16],
-    entries: &mut [u16],
-    carried: &mut [u8],
-    numbers: &mut [u64],
+    rings: &mut RingTables<'_>,
     p: Peer,
 )
-    requires { (length nodes.now ≡ nodes_size) × (length handles.now ≡ handles_size) × (length charges.now ≡ charges_size)
-        × QueueTables ends.old entries.old carried.old numbers.old × (p.0 < peer_count) }
-    ensures { let before = rings_of ends.old entries.old carried.old numbers.old in
-        let after = rings_of ends.new entries.new carried.new numbers.new in
+    requires { (length nodes.now ≡ nodes_size) × (length handles.now ≡ handles_size)
+        × (length charges.now ≡ charges_size) × (p.0 < peer_count) }
+    ensures same { SameTables rings.old rings.new }
+    ensures done { let before = lent rings.old in
+        let after = lent rings.new in
         after ≡ expired_all nodes.now handles.now charges.now p.0 before }
 {
-    let len = rings::len_of(ends, p);
+    let len = rings.len(p);
     if RING < len {
         return;
     }
     for i in (0..len).rev() {
         expire_at(
-            nodes, handles, charges, ends, entries, carried, numbers, p, i,
+            nodes, handles, charges, rings, p, i,
         );
     }
 }

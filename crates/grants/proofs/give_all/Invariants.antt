@@ -7,4 +7,4 @@ use Rattle.grants.proofs.give_all.Given as goal
 
 abbrev pub invariant-loop-k : goal.invariant-loop-k
 invariant-loop-k l =
-    Giving l.nodes l.initial.peers l.initial.handles l.initial.ends l.initial.entries l.initial.carried l.initial.numbers l.p.0 l.n l.slots l.nh l.ids l.peers l.handles l.ends l.entries l.carried l.numbers l.k
+    Giving l.nodes l.initial.peers l.initial.handles l.initial.rings.ends.now l.initial.rings.entries.now l.initial.rings.carried.now l.initial.rings.numbers.now l.p.0 l.n l.slots l.nh l.ids l.peers l.handles l.rings.ends.now l.rings.entries.now l.rings.carried.now l.rings.numbers.now l.k

@@ -1,8 +1,9 @@
 -- `notices::expire_all` meets its contract: by the loop's invariant what is left to do gives what the whole gives. Assumes nothing.
 use Rattle.rings.specs.Rings.{rings_of}
+use Rattle.rings.specs.Lent.{lent}
 use Rattle.notices.specs.Code.{Passing}
 use Rattle.notices.proofs.expire_all.Given as goal
 
 abbrev pub invariant-loop-i : goal.invariant-loop-i
 invariant-loop-i l =
-    Passing l.nodes l.handles l.charges l.p.0 (rings_of l.initial.ends l.initial.entries l.initial.carried l.initial.numbers) (rings_of l.ends l.entries l.carried l.numbers) l.i
+    Passing l.nodes l.handles l.charges l.p.0 (lent l.initial.rings) (lent l.rings) l.i

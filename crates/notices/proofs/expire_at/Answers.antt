@@ -1,14 +1,15 @@
 -- `notices::expire_at` meets its contract: each return is one side of the definition's test. Assumes nothing.
 use native.Mathlib.Omega.{arith}
 use Rattle.rings.specs.Rings.{rings_of}
+use Rattle.rings.specs.Lent.{lent}
 use Rattle.notices.specs.Code.{place_other, place-notice}
 use Rattle.notices.proofs.expire_at.Goals as goal
 
-pub returns-then-e-ne-DESTROYED : goal.returns-then-e-ne-DESTROYED
-returns-then-e-ne-DESTROYED c = let a = c.args in place_other a.nodes.now a.handles.now a.charges.now a.p.0 (rings_of a.ends.now a.entries.now a.carried.now a.numbers.now) a.i c.head_of-head.ensures.0 c.row_of-row.ensures.0 c.get_entry-e.ensures c.if-e-ne-DESTROYED.true
+pub returns-then-e-ne-DESTROYED-clause-done : goal.returns-then-e-ne-DESTROYED-clause-done
+returns-then-e-ne-DESTROYED-clause-done c = let a = c.args in place_other a.nodes.now a.handles.now a.charges.now a.p.0 (lent a.rings.now) a.i c.head-head.ensures.0 c.row_of-row.ensures.0 c.entry-e.ensures c.if-e-ne-DESTROYED.true
 
 pub expire-requires : goal.expire-requires
-expire-requires c = let z = c.requires in (z.0, z.1, z.2, z.3, z.4, omega arith)
+expire-requires c = let z = c.requires in (z.0, z.1, z.2, z.3, omega arith)
 
-pub returns : goal.returns
-returns c = let a = c.args in place-notice a.nodes.now a.handles.now a.charges.now a.p.0 (rings_of a.ends.now a.entries.now a.carried.now a.numbers.now) a.i c.head_of-head.ensures.0 c.row_of-row.ensures.0 c.get_entry-e.ensures c.if-e-ne-DESTROYED.false c.from-s.ensures c.expire.ensures
+pub returns-clause-done : goal.returns-clause-done
+returns-clause-done c = let a = c.args in place-notice a.nodes.now a.handles.now a.charges.now a.p.0 (lent a.rings.now) a.i c.head-head.ensures.0 c.row_of-row.ensures.0 c.entry-e.ensures c.if-e-ne-DESTROYED.false c.from-s.ensures c.expire.ensures.done

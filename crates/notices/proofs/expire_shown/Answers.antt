@@ -3,6 +3,7 @@ use Prim.Native.Nat.{ℕ, ◌%◌}
 use mathlib.Core.Path.{ap, ◌∙◌}
 use lib.ListN.{get_or}
 use Rattle.rings.specs.Rings.{rings_of}
+use Rattle.rings.specs.Lent.{lent}
 use Rattle.notices.specs.Notices.{own_invalid}
 use Rattle.notices.specs.Code.{expiring-start, expiring-in, expiring-out, expiring-all, shown-valid, shown-own, shown-other, rings-same}
 use Rattle.model.specs.Numbers.{nodes as node_count}
@@ -10,12 +11,12 @@ use Rattle.notices.proofs.expire_shown.Goals as goal
 use Rattle.notices.proofs.expire_shown.Goals.{then-ids-k+then-s-p, then-ids-k+else-s-p, else-ids-k}
 
 pub loop-k-init : goal.loop-k-init
-loop-k-init c = expiring-start c.args.nodes.now c.args.handles.now c.args.charges.now c.args.p.0 (own_invalid c.args.p.0 c.args.slots c.args.ids) (λ k. get_or c.args.slots k 0 % node_count) (rings_of c.args.ends.now c.args.entries.now c.args.carried.now c.args.numbers.now) c.args.nh c.requires.3.ends c.requires.3.rows
+loop-k-init c = expiring-start c.args.nodes.now c.args.handles.now c.args.charges.now c.args.p.0 (own_invalid c.args.p.0 c.args.slots c.args.ids) (λ k. get_or c.args.slots k 0 % node_count) (lent c.args.rings.now) c.args.nh c.args.rings.now.sized.ends c.args.rings.now.sized.rows
 
 pub loop-k-preserved : goal.loop-k-preserved
 loop-k-preserved c =
     let a = c.args in
-    let before = rings_of a.ends.now a.entries.now a.carried.now a.numbers.now in
+    let before = lent a.rings.now in
     let here = own_invalid a.p.0 a.slots a.ids in
     let slot_at : ℕ → ℕ = λ k. get_or a.slots k 0 % node_count in
     let v = c.loop-k.invariant in
@@ -36,5 +37,5 @@ loop-k-preserved c =
           (rings-same w.ends-is w.entries-is w.carried-is w.numbers-is)
     ]
 
-pub returns : goal.returns
-returns c = expiring-all c.args.nodes.now c.args.handles.now c.args.charges.now c.args.p.0 (own_invalid c.args.p.0 c.args.slots c.args.ids) (λ k. get_or c.args.slots k 0 % node_count) (rings_of c.args.ends.now c.args.entries.now c.args.carried.now c.args.numbers.now) c.args.nh c.loop-k.invariant c.loop-k-test.false
+pub returns-clause-done : goal.returns-clause-done
+returns-clause-done c = expiring-all c.args.nodes.now c.args.handles.now c.args.charges.now c.args.p.0 (own_invalid c.args.p.0 c.args.slots c.args.ids) (λ k. get_or c.args.slots k 0 % node_count) (lent c.args.rings.now) c.args.nh c.loop-k.invariant c.loop-k-test.false

@@ -2,6 +2,7 @@
 use Prim.Native.Nat.{◌%◌}
 use lib.ListN.{get_or}
 use Rattle.rings.specs.Rings.{rings_of}
+use Rattle.rings.specs.Lent.{lent}
 use Rattle.notices.specs.Notices.{own_invalid}
 use Rattle.notices.specs.Code.{Expiring}
 use Rattle.model.specs.Numbers.{nodes as node_count}
@@ -9,4 +10,4 @@ use Rattle.notices.proofs.expire_shown.Given as goal
 
 abbrev pub invariant-loop-k : goal.invariant-loop-k
 invariant-loop-k l =
-    Expiring l.nodes l.handles l.charges l.p.0 (own_invalid l.p.0 l.slots l.ids) (λ j. get_or l.slots j 0 % node_count) (rings_of l.initial.ends l.initial.entries l.initial.carried l.initial.numbers) (rings_of l.ends l.entries l.carried l.numbers) l.k l.nh
+    Expiring l.nodes l.handles l.charges l.p.0 (own_invalid l.p.0 l.slots l.ids) (λ j. get_or l.slots j 0 % node_count) (lent l.initial.rings) (lent l.rings) l.k l.nh

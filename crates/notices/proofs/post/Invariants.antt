@@ -1,7 +1,8 @@
 -- `notices::post` meets its contract: after each turn what is left to do gives what the whole gives. Assumes nothing.
 use Rattle.rings.specs.Rings.{rings_of}
+use Rattle.rings.specs.Lent.{lent}
 use Rattle.notices.specs.Code.{Posting}
 use Rattle.notices.proofs.post.Given as goal
 
 abbrev pub invariant-loop : goal.invariant-loop
-invariant-loop l = Posting (rings_of l.initial.ends l.initial.entries l.initial.carried l.initial.numbers) l.e l.set (rings_of l.ends l.entries l.carried l.numbers) l.rest l.counter
+invariant-loop l = Posting (lent l.initial.rings) l.e l.set (lent l.rings) l.rest l.counter

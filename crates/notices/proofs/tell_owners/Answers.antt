@@ -1,13 +1,14 @@
 -- `notices::tell_owners` meets its contract: the loop's invariant is the rings after the owners passed are told. Assumes nothing.
 use Rattle.rings.specs.Rings.{rings_of}
+use Rattle.rings.specs.Lent.{lent}
 use Rattle.notices.specs.Code.{owning-start, owning-next, owning-all}
 use Rattle.notices.proofs.tell_owners.Goals as goal
 
 pub loop-q-init : goal.loop-q-init
-loop-q-init c = let a = c.args in owning-start _ _ _ _ (rings_of a.ends.now a.entries.now a.carried.now a.numbers.now) c.requires.2.ends c.requires.2.rows
+loop-q-init c = let a = c.args in owning-start _ _ _ _ (lent a.rings.now) c.args.rings.now.sized.ends c.args.rings.now.sized.rows
 
 pub loop-q-preserved : goal.loop-q-preserved
-loop-q-preserved c = let a = c.args in owning-next a.nodes.now a.handles.now a.p.0 a.n (rings_of a.ends.now a.entries.now a.carried.now a.numbers.now) c.loop-q.invariant c.loop-q-test.true c.set_of-set.ensures c.tell.ensures
+loop-q-preserved c = let a = c.args in owning-next a.nodes.now a.handles.now a.p.0 a.n (lent a.rings.now) c.loop-q.invariant c.loop-q-test.true c.set_of-set.ensures c.tell.ensures.done
 
-pub returns : goal.returns
-returns c = let a = c.args in owning-all a.nodes.now a.handles.now a.p.0 a.n (rings_of a.ends.now a.entries.now a.carried.now a.numbers.now) c.loop-q.invariant c.loop-q-test.false
+pub returns-clause-done : goal.returns-clause-done
+returns-clause-done c = let a = c.args in owning-all a.nodes.now a.handles.now a.p.0 a.n (lent a.rings.now) c.loop-q.invariant c.loop-q-test.false
