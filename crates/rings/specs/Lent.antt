@@ -1,6 +1,7 @@
 -- The four tables of the queues, lent together: the rings that they hold, and that a call leaves the same four lent.
 -- Assumes nothing.
-use Rattle.std.specs.Prelude.{◌≡◌}
+use Rattle.std.specs.Prelude.{◌≡◌, refl}
+use Rattle.std.proofs.Common.{◌∙◌}
 use Rattle.rings.specs.declared.lent.RingTables.{RingTables}
 use Rattle.rings.specs.Rings.{Rings, rings_of}
 
@@ -12,3 +13,9 @@ pub record SameTables (t u : RingTables) : Type 0 where
   pub entries : u.entries.ghost_name ≡ t.entries.ghost_name
   pub carried : u.carried.ghost_name ≡ t.carried.ghost_name
   pub numbers : u.numbers.ghost_name ≡ t.numbers.ghost_name
+
+pub same-self : {t : RingTables} → SameTables t t
+same-self = record { ends = refl; entries = refl; carried = refl; numbers = refl }
+
+pub same-again : {t u v : RingTables} → SameTables t u → SameTables u v → SameTables t v
+same-again a b = record { ends = b.ends ∙ a.ends; entries = b.entries ∙ a.entries; carried = b.carried ∙ a.carried; numbers = b.numbers ∙ a.numbers }

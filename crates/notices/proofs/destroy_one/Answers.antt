@@ -8,8 +8,5 @@ use Rattle.notices.proofs.destroy_one.Goals as goal
 pub notice-e-requires : goal.notice-e-requires
 notice-e-requires c = omega (arith, c.requires.3)
 
-pub post-requires : goal.post-requires
-post-requires c = let w = c.withdraw in let z = c.requires in record { ends = omega (arith, w.auto.ends, c.args.rings.now.sized.ends); rows = record { entries = omega (arith, w.auto.entries, c.args.rings.now.sized.rows.entries); carried = omega (arith, w.auto.carried, c.args.rings.now.sized.rows.carried); numbers = omega (arith, w.auto.numbers, c.args.rings.now.sized.rows.numbers) } }
-
 pub returns-clause-done : goal.returns-clause-done
 returns-clause-done c = let a = c.args in destroy-one a.nodes.now a.handles.now a.charges.now (lent a.rings.now) a.p.0 a.s a.n c.addressees-to.ensures c.one_slot-m.ensures c.withdraw.ensures.done c.set_dead.ensures c.notice-e.ensures c.post.ensures.done

@@ -1,8 +1,8 @@
 -- `notices::post` meets its contract: after each turn what is left to do gives what the whole gives. Assumes nothing.
 use Rattle.rings.specs.Rings.{rings_of}
-use Rattle.rings.specs.Lent.{lent}
+use Rattle.rings.specs.Lent.{lent, SameTables}
 use Rattle.notices.specs.Code.{Posting}
 use Rattle.notices.proofs.post.Given as goal
 
 abbrev pub invariant-loop : goal.invariant-loop
-invariant-loop l = Posting (lent l.initial.rings) l.e l.set (lent l.rings) l.rest l.counter
+invariant-loop l = record { same : SameTables l.initial.rings l.rings; done : Posting (lent l.initial.rings) l.e l.set (lent l.rings) l.rest l.counter }
