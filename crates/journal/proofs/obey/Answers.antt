@@ -15,31 +15,31 @@ pub returns-then-not-is_sound : goal.returns-then-not-is_sound
 returns-then-not-is_sound c = kept-unsound _ _ _ _ _ c.requires c.if-journal-used.false c.is_sound.ensures c.if-not-is_sound.true c.write_refusal-then-not-is_sound.ensures c.with_used-then-not-is_sound.ensures
 
 pub execute-requires : goal.execute-requires
-execute-requires c = let z = sound-then _ c.is_sound.ensures c.if-not-is_sound.false in (z.0, z.1, legal-command _ _ (sym c.parse.ensures ∙ c.in-Read.is), c.requires)
+execute-requires c = let z = sound-then _ c.is_sound.ensures c.if-not-is_sound.false in (z.0, z.1, legal-command _ _ (sym c.parse.ensures ∙ c.in-Ok.is), c.requires)
 
-pub returns-in-Refused : goal.returns-in-Refused
-returns-in-Refused c = kept-unread _ _ _ _ _ c.requires c.if-journal-used.false c.is_sound.ensures c.if-not-is_sound.false c.parse.ensures c.in-Refused.is c.write_refusal-in-Refused.ensures c.with_used-in-Refused.ensures
+pub returns-in-Err : goal.returns-in-Err
+returns-in-Err c = kept-unread _ _ _ _ _ c.requires c.if-journal-used.false c.is_sound.ensures c.if-not-is_sound.false c.parse.ensures c.in-Err.is c.from.ensures c.write_refusal-in-Err.ensures c.with_used-in-Err.ensures
 
-pub shape_of-ps-in-Read : goal.shape_of-ps-in-Read
-shape_of-ps-in-Read c = omega (arith, c.execute.auto.ps)
+pub shape_of-ps-in-Ok : goal.shape_of-ps-in-Ok
+shape_of-ps-in-Ok c = omega (arith, c.execute.auto.ps)
 
-pub shape_of-ns-in-Read : goal.shape_of-ns-in-Read
-shape_of-ns-in-Read c = omega (arith, c.execute.auto.ns)
+pub shape_of-ns-in-Ok : goal.shape_of-ns-in-Ok
+shape_of-ns-in-Ok c = omega (arith, c.execute.auto.ns)
 
-pub shape_of-hs-in-Read : goal.shape_of-hs-in-Read
-shape_of-hs-in-Read c = omega (arith, c.execute.auto.hs)
+pub shape_of-hs-in-Ok : goal.shape_of-hs-in-Ok
+shape_of-hs-in-Ok c = omega (arith, c.execute.auto.hs)
 
-pub shape_of-cs-in-Read : goal.shape_of-cs-in-Read
-shape_of-cs-in-Read c = omega (arith, c.execute.auto.cs)
+pub shape_of-cs-in-Ok : goal.shape_of-cs-in-Ok
+shape_of-cs-in-Ok c = omega (arith, c.execute.auto.cs)
 
-pub shape_of-ends-in-Read : goal.shape_of-ends-in-Read
-shape_of-ends-in-Read c = omega (arith, c.execute.auto.ends)
+pub shape_of-ends-in-Ok : goal.shape_of-ends-in-Ok
+shape_of-ends-in-Ok c = omega (arith, c.execute.auto.ends)
 
-pub shape_of-es-in-Read : goal.shape_of-es-in-Read
-shape_of-es-in-Read c = omega (arith, c.execute.auto.es)
+pub shape_of-es-in-Ok : goal.shape_of-es-in-Ok
+shape_of-es-in-Ok c = omega (arith, c.execute.auto.es)
 
-pub shape_of-carried-in-Read : goal.shape_of-carried-in-Read
-shape_of-carried-in-Read c = omega (arith, c.execute.auto.carried)
+pub shape_of-carried-in-Ok : goal.shape_of-carried-in-Ok
+shape_of-carried-in-Ok c = omega (arith, c.execute.auto.carried)
 
-pub returns-in-Read : goal.returns-in-Read
-returns-in-Read c = kept_read _ _ _ _ _ c.requires c.if-journal-used.false c.is_sound.ensures c.if-not-is_sound.false c.parse.ensures c.in-Read.is c.execute.ensures
+pub returns-in-Ok : goal.returns-in-Ok
+returns-in-Ok c = kept_read _ _ _ _ _ c.requires c.if-journal-used.false c.is_sound.ensures c.if-not-is_sound.false c.parse.ensures c.in-Ok.is c.execute.ensures
