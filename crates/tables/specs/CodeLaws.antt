@@ -1,6 +1,6 @@
 -- The laws that the functions' proofs cite, one for each return or turn of a loop, over plain variables: each is shaped like what the callee ensures.
 -- Assumes nothing.
-use Rattle.std.specs.Prelude.{ℕ, zero, suc, ◌+◌, ◌-◌, ◌*◌, ◌/◌, ◌%◌, ◌^◌, ◌≤◌, ◌<◌, ◌≡◌, List, length, get_or, eqb, leb, Option, Some, None}
+use Rattle.std.specs.Prelude.{ℕ, zero, suc, ◌+◌, ◌-◌, ◌*◌, ◌/◌, ◌%◌, ◌^◌, ◌≤◌, ◌<◌, min, ◌≡◌, List, length, get_or, eqb, leb, Option, Some, None}
 use Rattle.std.proofs.Math.Path.{refl}
 use Rattle.std.proofs.Common.{sym, ap, ◌∙◌}
 use Rattle.std.proofs.Math.Bool.{true, false}
@@ -31,7 +31,7 @@ use Rattle.quota.specs.declared.Charge.{Charge}
 use Rattle.quota.specs.Charges.{users, nothing}
 use Rattle.laws.specs.Bits.{bits}
 use Rattle.model.specs.Numbers.{nodes}
-use Rattle.tables.specs.Handles.{own_step, handle_row, list_block, length_block, block_size, handles_size, halvings, id_at, count_at, has_in, has_at, found_by, found_own, list_length, listed_id, word_at, guessed, at_least, place_in, spot, found_among, found_listed, entry_of, lookup, holders_below, holders_at, put_handle, clear_below, clear_peer, shifted}
+use Rattle.tables.specs.Handles.{own_step, handle_row, list_block, length_block, block_size, handles_size, halvings, list_reads, id_at, count_at, has_in, has_at, found_by, found_own, list_length, listed_id, word_at, guess, guessed, at_least, place_in, spot, found_among, found_listed, entry_of, lookup, holders_below, holders_at, put_handle, clear_below, clear_peer, shifted}
 use Rattle.tables.specs.Charges.{charge_at, charges_at}
 use Rattle.ids.specs.Sizes.{peers, slots, handle_fields}
 
@@ -121,6 +121,16 @@ module _ (h : List ℕ) (p i n r : ℕ) where
 
   pub halving-done : (low high c : ℕ) → Halving h p i n r low high c → high ≤ low → (low ≡ place_in h p i n) × (c ≤ r + halvings)
   halving-done low high c w l = (sym (w.place ∙ halve-done (at_least h p i) (r + halvings - c) low high l), w.last)
+
+-- What a search in a list reads at most, when the entry at the guessed place is another.
+long : (h : List ℕ) (p : ℕ) {a : ℕ} → a ≡ id_at h length_block p → {n : ℕ} → n ≡ min a nodes → list_length h p ≡ n
+long h p ea en = sym (en ∙ ap (λ (x : ℕ). min x nodes) ea)
+
+module _ (h : List ℕ) (p i : ℕ) {a v c : ℕ} (e : (a ≡ id_at h length_block p) × (v ≡ word_at h length_block p) × (c ≡ 0 + 1)) {n : ℕ} (en : n ≡ min a nodes) where
+  module _ (some : n ≡ 0 → ⊥) {k : ℕ} (ek : (k ≡ guess v i n) × (k < n)) {w y m : ℕ} (f : (w ≡ listed_id h p k) × (y ≡ word_at h (list_block p) k) × (m ≡ c + 1)) where
+    pub listed-else : (w ≡ i → ⊥) → {r : Option ℕ} {o : ℕ} → (r ≡ found_among h p i n) × (o ≤ m + (halvings + 1)) → (r ≡ found_listed h p i) × (o ≤ list_reads)
+    unfolding found_listed
+    listed-else q {r} {o} t = (rw (long h p e.0 en, ne_eqb n 0 some, ← e.1, ← ek.0, ← f.0, ne_eqb w i q) t.0, omega (arith, e.2, f.2, t.1))
 
 -- seek: what is found in the list is the slot of the entry
 entry-slot : (h : List ℕ) (p i : ℕ) → option_map (λ (e : Entry). e.slot) (entry_of h p i) ≡ found_listed h p i
