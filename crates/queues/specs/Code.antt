@@ -1,7 +1,7 @@
 -- The laws that the functions' proofs cite, one for each return or turn of a loop, over plain variables: each is shaped like what the callee ensures.
 -- Assumes nothing.
 use Prim.Native.Nat.{ℕ, zero, suc, ◌+◌, ◌-◌, ◌*◌, min, ◌≤◌, ◌<◌}
-use Rattle.std.specs.Prelude.{◌≡◌, Bool, not, List, [], ◌∷◌, length, get_or, take, drop, eqb}
+use Rattle.std.specs.Prelude.{◌≡◌, Bool, List, [], ◌∷◌, length, get_or, take, drop, eqb}
 use Rattle.std.proofs.Math.Path.{refl, sym, ap}
 use Rattle.std.proofs.Common.{◌∙◌, arith, drop_of_length-le, drop-cons, get_or-take, length-take-le, length-drop, get_or-drop, ext_get_or}
 use Rattle.std.proofs.Math.Bool.{true, false}
@@ -16,7 +16,7 @@ use Rattle.quota.specs.declared.Charges.{Charges}
 use Rattle.quota.specs.Charges.{fresh_charges, charged, discharged}
 use Rattle.rings.specs.declared.Entry.{Entry}
 use Rattle.rings.specs.declared.Match.{Match}
-use Rattle.rings.specs.Rings.{kind_destroyed, kind_released, peers, ring_size, row_count, carried_size, Rings, rings_of, rows_of, head_of, length_of, row_of, entry_at, queue_of, matches, pushed, removed}
+use Rattle.rings.specs.Rings.{peers, ring_size, row_count, carried_size, Rings, rings_of, rows_of, head_of, length_of, row_of, entry_at, queue_of, matches, pushed, removed}
 use Rattle.rings.specs.Laws.{row_at, queue-empty, queue-length, queue-at}
 use Rattle.pool.specs.Pool.{Kept, kept, appended, closed, kept_pieces}
 use Rattle.tables.specs.Charges.{charges_at, put_charges}
@@ -24,14 +24,7 @@ use Rattle.model.specs.Lists.{either, any, any_below}
 use Rattle.queues.specs.Queues.{Queues, used_of, message_kind, is_message, charge_in, entered, enqueued, settled_charges, settled_pool, lessened, lessened_all, lessened_charges, withdrawn, removed_from, emptied_charges, leads, follows_in, names_in, attached_of, carries_in, named_in, brings_in, carried_before}
 use Rattle.ids.specs.Sizes.{entry_fields, carried_fields}
 
--- is_message_kind, is_message
-module _ (k : ℕ) where
-  pub message-destroyed : k ≡ kind_destroyed → false ≡ message_kind k
-  message-destroyed h = rw (eq-eqb k kind_destroyed h)
-
-  pub message-else : (k ≡ kind_destroyed → ⊥) → not (eqb k kind_released) ≡ message_kind k
-  message-else h = rw (ne_eqb k kind_destroyed h)
-
+-- is_message
 pub message-entry : (e : Entry) {b : Bool} → b ≡ message_kind e.kind → b ≡ is_message e
 unfolding is_message
 message-entry e h = h
