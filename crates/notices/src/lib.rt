@@ -20,6 +20,7 @@ use rings::{DESTROYED, DESTROYED_BIT, Entry, Match, RELEASED, RELEASED_BIT, Ring
 
 // Which of a peer's slots are asked for: those whose nodes live; those whose sum of counts falls to 1 when a peer's handle
 // goes; those of a set whose IDs are above the one of a place.
+// An enum, no closure: other crates ask by it, and the contract of `set_of` and its definition `asks` are in its words.
 #[derive(Clone, Copy)]
 pub enum Asked {
     Living,

@@ -1,11 +1,13 @@
 -- The laws that the functions' proofs cite, one for each return or turn of a loop, over plain variables: each is shaped like what the callee ensures.
 -- Assumes nothing.
-use Prim.Native.Nat.{ℕ, zero, suc, ◌+◌, ◌*◌, min, ◌≤◌, ◌<◌}
-use Rattle.std.specs.Prelude.{◌≡◌, Bool, not, List, [], ◌∷◌, length, get_or, take, drop, eqb}
+use Prim.Native.Nat.{ℕ, zero, suc, ◌+◌, ◌-◌, ◌*◌, min, ◌≤◌, ◌<◌}
+use Rattle.std.specs.Prelude.{◌≡◌, Bool, List, [], ◌∷◌, length, get_or, take, drop, eqb}
 use Rattle.std.proofs.Math.Path.{refl, sym, ap}
-use Rattle.std.proofs.Common.{◌∙◌, arith, drop_of_length-le, drop-cons, get_or-take, length-take-le}
+use Rattle.std.proofs.Common.{◌∙◌, arith, drop_of_length-le, drop-cons, get_or-take, length-take-le, length-drop, get_or-drop, ext_get_or}
 use Rattle.std.proofs.Math.Bool.{true, false}
 use borrow.Author.Tests.{eq-eqb, ne_eqb, lt-ltb, le-ltb, le-leb, lt-leb}
+use Rattle.std.specs.List.{list_any}
+use Rattle.std.specs.Prelude.{◌||◌}
 use Rattle.laws.specs.Tests.{pick, Same, Same.same, Same.other, same?}
 use Rattle.laws.specs.Stores.{take_min}
 use Rattle.laws.specs.Rows.{row_in, row-length, row5}
@@ -14,7 +16,7 @@ use Rattle.quota.specs.declared.Charges.{Charges}
 use Rattle.quota.specs.Charges.{fresh_charges, charged, discharged}
 use Rattle.rings.specs.declared.Entry.{Entry}
 use Rattle.rings.specs.declared.Match.{Match}
-use Rattle.rings.specs.Rings.{kind_destroyed, kind_released, peers, ring_size, row_count, Rings, rings_of, rows_of, head_of, length_of, row_of, entry_at, queue_of, matches, pushed, removed}
+use Rattle.rings.specs.Rings.{peers, ring_size, row_count, carried_size, Rings, rings_of, rows_of, head_of, length_of, row_of, entry_at, queue_of, matches, pushed, removed}
 use Rattle.rings.specs.Laws.{row_at, queue-empty, queue-length, queue-at}
 use Rattle.pool.specs.Pool.{Kept, kept, appended, closed, kept_pieces}
 use Rattle.tables.specs.Charges.{charges_at, put_charges}
@@ -22,14 +24,7 @@ use Rattle.model.specs.Lists.{either, any, any_below}
 use Rattle.queues.specs.Queues.{Queues, used_of, message_kind, is_message, charge_in, entered, enqueued, settled_charges, settled_pool, lessened, lessened_all, lessened_charges, withdrawn, removed_from, emptied_charges, leads, follows_in, names_in, attached_of, carries_in, named_in, brings_in, carried_before}
 use Rattle.ids.specs.Sizes.{entry_fields, carried_fields}
 
--- is_message_kind, is_message
-module _ (k : ℕ) where
-  pub message-destroyed : k ≡ kind_destroyed → false ≡ message_kind k
-  message-destroyed h = rw (eq-eqb k kind_destroyed h)
-
-  pub message-else : (k ≡ kind_destroyed → ⊥) → not (eqb k kind_released) ≡ message_kind k
-  message-else h = rw (ne_eqb k kind_destroyed h)
-
+-- is_message
 pub message-entry : (e : Entry) {b : Bool} → b ≡ message_kind e.kind → b ≡ is_message e
 unfolding is_message
 message-entry e h = h
@@ -184,34 +179,29 @@ module _ {A : Type 0} (t : A → Bool) (x : A) (xs : List A) where
   any_next : t x ≡ false → any t (x ∷ xs) ≡ any t xs
   any_next h = rw h
 
--- is_among
-pub record Among (c : List ℕ) (row n s k : ℕ) : Type 0 where
-  pub rest : any (eqb s) (drop k (take n (row_in carried_fields c row))) ≡ any (eqb s) (take n (row_in carried_fields c row))
+-- is_among: the first n slots of a row stand side by side in the table.
+list-any : {A : Type 0} (t : A → Bool) (xs : List A) → list_any t xs ≡ any t xs
+list-any t [] = refl
+list-any t (x ∷ xs) = go (t x) (list-any t xs)
+  where
+    go : (b : Bool) → list_any t xs ≡ any t xs → (b || list_any t xs) ≡ either b (any t xs)
+    go true ih = refl
+    go false ih = ih
 
-pub among-start : (c : List ℕ) (row n s : ℕ) → Among c row n s 0
-among-start c row n s = record { rest = refl }
+among-row : (c : List ℕ) (row n : ℕ) → length c ≡ carried_size → row < row_count → n ≤ carried_fields → take n (drop (carried_fields * row) c) ≡ take n (row_in carried_fields c row)
+among-row c row n size l few =
+    let s : length (drop (carried_fields * row) c) ≡ length c - carried_fields * row = length-drop (carried_fields * row) c in
+    let x : length (take n (drop (carried_fields * row) c)) ≡ n = length-take-le n (drop (carried_fields * row) c) (omega (arith, s, size)) in
+    let y : length (take n (row_in carried_fields c row)) ≡ n = length-take-le n (row_in carried_fields c row) (omega (arith, row-length 8 c row)) in
+    ext_get_or 0 (take n (drop (carried_fields * row) c)) (take n (row_in carried_fields c row)) (x ∙ sym y)
+    (λ k lt. let m : k < n = omega (arith, x, lt) in
+    get_or-take n (drop (carried_fields * row) c) k 0 m ∙ get_or-drop (carried_fields * row) c k 0 ∙ sym (get_or-take n (row_in carried_fields c row) k 0 m ∙ row_at 8 c row k (omega (arith, m, few))))
 
-module _ {c : List ℕ} {row n s k : ℕ} (v : Among c row n s k) (fit : n ≤ 8) where
-  among-size : length (take n (row_in carried_fields c row)) ≡ n
-  among-size = length-take-le n (row_in carried_fields c row) (omega (arith, row-length 8 c row))
-
-  pub among-end : n ≤ k → false ≡ any (eqb s) (take n (row_in carried_fields c row))
-  among-end h = ap (any (eqb s)) (sym (drop_of_length-le (take n (row_in carried_fields c row)) {i = k} (omega (arith, among-size)))) ∙ v.rest
-
-  module _ (lt : k < n) {b : ℕ} (eb : b ≡ get_or c (carried_fields * row + k) 0) where
-    among-here : any (eqb s) (b ∷ drop (k + 1) (take n (row_in carried_fields c row))) ≡ any (eqb s) (take n (row_in carried_fields c row))
-    among-here =
-        let here : get_or (take n (row_in carried_fields c row)) k 0 ≡ b = get_or-take n (row_in carried_fields c row) k 0 lt ∙ row_at 8 c row k (omega arith) ∙ sym eb in
-        let step : suc k ≡ k + 1 = omega arith in
-        let next : drop k (take n (row_in carried_fields c row)) ≡ b ∷ drop (k + 1) (take n (row_in carried_fields c row)) = drop-cons (take n (row_in carried_fields c row)) k 0 (omega (arith, among-size)) ∙ ap (λ (x : ℕ). x ∷ drop (suc k) (take n (row_in carried_fields c row))) here
-        ∙ ap (λ (x : ℕ). b ∷ drop x (take n (row_in carried_fields c row))) step in
-        ap (any (eqb s)) (sym next) ∙ v.rest
-
-    pub among-found : b ≡ s → true ≡ any (eqb s) (take n (row_in carried_fields c row))
-    among-found e = sym (any_here (eqb s) b (drop (k + 1) (take n (row_in carried_fields c row))) (eq-eqb s b (sym e))) ∙ among-here
-
-    pub among_next : (b ≡ s → ⊥) → Among c row n s (k + 1)
-    among_next ne = record { rest = sym (any_next (eqb s) b (drop (k + 1) (take n (row_in carried_fields c row))) (ne_eqb s b (λ x. ne (sym x)))) ∙ among-here }
+pub among-slice : (c : List ℕ) (row n s : ℕ) → length c ≡ carried_size → row < row_count → n ≤ carried_fields →
+    list_any (eqb s) (take (carried_fields * row + n - carried_fields * row) (drop (carried_fields * row) c)) ≡ any (eqb s) (take n (row_in carried_fields c row))
+among-slice c row n s size l few =
+    let z : carried_fields * row + n - carried_fields * row ≡ n = omega arith in
+    rw z (list-any (eqb s) (take n (drop (carried_fields * row) c)) ∙ ap (any (eqb s)) (among-row c row n size l few))
 
 -- names
 module _ (s : ℕ) (e c : List ℕ) (row : ℕ) {b : Bool} (eb : b ≡ message_kind (get_or e (entry_fields * row) 0)) where

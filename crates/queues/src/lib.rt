@@ -287,12 +287,7 @@ fn is_among(carried: &[u8], row: usize, n: usize, s: usize) -> bool
     ensures { result ≡ any (eqb s) (take n (row_in carried_fields carried.now row)) }
 {
     let a = CARRIED_FIELDS * row;
-    for k in 0..n {
-        if usize::from(carried[a + k]) == s {
-            return true;
-        }
-    }
-    false
+    carried[a..a + n].iter().any(|x| s == usize::from(*x))
 }
 
 // Is the entry in the row a message that names the slot, as destination or attached? Whatever its number is.
