@@ -4,7 +4,7 @@ use Prim.Native.Nat.{ℕ, zero, suc, ◌+◌, ◌*◌, ◌/◌, ◌%◌, ◌≤�
 use Rattle.std.specs.Prelude.{◌≡◌, Bool, List, [], ◌∷◌, ◌++◌, map, length, get_or, set, take, drop, replicate, eqb, ltb, cond, ◌&&◌, Option, Some, None, Ok, Err}
 use Rattle.std.specs.List.{filter, list_all}
 use Rattle.std.proofs.Math.Path.{refl, sym, ap}
-use Rattle.std.proofs.Common.{ap₂, ◌∙◌, arith, zero-add, mul-le-mul_left, add-one, length-append, take_at, drop-cons}
+use Rattle.std.proofs.Common.{ap₂, ◌∙◌, arith, zero-add, add-one, length-append, take_at, drop-cons}
 use Rattle.std.proofs.Math.Bool.{true, false}
 use Rattle.std.proofs.lemmas.List.{length-replicate, set_at}
 use Rattle.std.proofs.lemmas.List.Sums.{length-filter, count_by-le-length}
@@ -27,7 +27,7 @@ use Rattle.model.specs.Lists.{both, every}
 use Rattle.model.specs.Refusals.{places_at}
 use Rattle.judges.specs.Orders.{eight, ids_from, slots_at, living_at, allowed_at, affordable_at}
 use Rattle.judges.specs.CodeOrders.{missing, found}
-use Rattle.ids.specs.Sizes.{peers, slots, most_ids, most_bytes}
+use Rattle.ids.specs.Sizes.{peers, slots, most_ids}
 use Rattle.model.specs.Numbers.{nodes}
 
 -- Tests of every element.
@@ -163,9 +163,6 @@ unfolding places_at
 places-is l p e = e ∙ ap length (filter-keep (λ s. eqb (s / slots) p) l)
 
 -- allowed_at
-pub product : (m n : ℕ) → m ≤ most_ids → n ≤ most_bytes → m * n ≤ 4096
-product m n l h = omega (arith, mul-le-mul_left m h)
-
 pub allowed-is : (cs : List ℕ) (u : User) (ds : List ℕ) (nb nh p : ℕ) {m : ℕ} {c : Charges} {b : Bool} → m ≡ places_at p ds → c ≡ charges_at cs p →
     b ≡ allows_all c u (record { messages = m; bytes = m * nb; handles = m * nh }) → b ≡ allowed_at cs u ds nb nh p
 unfolding allowed_at

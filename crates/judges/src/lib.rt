@@ -306,7 +306,8 @@ fn places_at(to: &[u8], p: Peer) -> u16
 
 // Does quota allow what a send to the slots adds at the peer?
 fn allowed_at(charges: &[u16], u: User, to: &[u8], z: Sizes, p: Peer) -> bool
-    requires { (length charges.now ≡ charges_size) × (length to.now ≤ most_ids) × (z.nh ≤ most_ids) × (z.nb ≤ most_bytes) × (p.0 < peer_count) }
+    requires { (length charges.now ≡ charges_size) × (length to.now ≤ most_ids) × (z.nh ≤ most_ids) × (z.nb ≤ most_bytes)
+        × (p.0 < peer_count) }
     ensures { result ≡ allowed_at charges.now u to.now z.nb z.nh p.0 }
 {
     let m = places_at(to, p);

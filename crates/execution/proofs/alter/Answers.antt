@@ -1,7 +1,6 @@
 -- `execution::alter` meets its contract: one law for each arm, and the orders of no arm leave the bus alone. Assumes nothing.
 use Prim.Native.Nat.{ℕ}
 use mathlib.Core.Path.{◌≡◌, refl}
-use mathlib.Core.List.{List}
 use Rattle.ids.specs.declared.Peer.{Peer}
 use Rattle.ids.specs.declared.User.{User}
 use Rattle.ids.specs.declared.HandleId.{HandleId}
@@ -9,8 +8,7 @@ use Rattle.judges.specs.declared.Order.{Order}
 use Rattle.judges.specs.declared.Order.TheVariants as order
 use Rattle.view.specs.View.{Bus}
 use Rattle.bus_model.specs.Command.{altered}
-use Rattle.execution.specs.Code.{fair-as, alters-open, alters-disconnect, alters-create, alters-destroy, alters-release}
-use borrow.Author.Rules.{rules}
+use Rattle.execution.specs.Code.{alters-open, alters-disconnect, alters-create, alters-destroy, alters-release}
 use Rattle.execution.proofs.alter.Goals as goal
 
 -- The orders of no arm leave the bus alone.
@@ -28,24 +26,6 @@ others b (order.Receive p) _ _ _ _ _ = refl
 others b (order.ShowSeed p) _ _ _ _ _ = refl
 others b (order.Quota p u) _ _ _ _ _ = refl
 others b (order.Holders s) _ _ _ _ _ = refl
-
-pub open_peer-requires : goal.open_peer-requires
-open_peer-requires c = let z = c.requires.0 in let h = fair-as c.in-Open.is c.requires.1 in (z.peers, h)
-
-pub disconnect-requires : goal.disconnect-requires
-disconnect-requires c = let z = c.requires.0 in let h = fair-as c.in-Disconnect.is c.requires.1 in (z.peers, z.nodes, z.handles, z.charges, record { ends = z.ends; rows = z.rows }, h)
-
-pub drop_seed-requires : goal.drop_seed-requires
-drop_seed-requires c = (c.requires.0.seeds, fair-as c.in-Disconnect.is c.requires.1)
-
-pub create-requires : goal.create-requires
-create-requires c = let z = c.requires.0 in let h = fair-as c.in-Create.is c.requires.1 in (z.peers, z.nodes, z.handles, h.0, h.1)
-
-pub destroy-requires : goal.destroy-requires
-destroy-requires c = let z = c.requires.0 in let h = fair-as c.in-Destroy.is c.requires.1 in (z.peers, z.nodes, z.handles, z.charges, record { ends = z.ends; rows = z.rows }, h)
-
-pub release-requires : goal.release-requires
-release-requires c = let z = c.requires.0 in let h = fair-as c.in-Release.is c.requires.1 in (z.peers, z.nodes, z.handles, z.charges, record { ends = z.ends; rows = z.rows }, h.0, h.1)
 
 pub returns-in-Open : goal.returns-in-Open
 returns-in-Open c = alters-open _ _ _ _ _ _ _ _ _ _ c.in-Open.is c.open_peer.ensures

@@ -8,8 +8,7 @@ use Rattle.judges.specs.declared.Order.TheVariants as order
 use Rattle.judges.specs.declared.Places.{Places}
 use Rattle.view.specs.View.{Bus}
 use Rattle.bus_model.specs.Command.{answered, carried, reply_to, altered, changed}
-use Rattle.execution.specs.Code.{fair-as, did-receive, did-show, did-change}
-use borrow.Author.Rules.{rules}
+use Rattle.execution.specs.Code.{did-receive, did-show, did-change}
 use Rattle.execution.proofs.carry_out.Goals as goal
 
 -- The orders other than a receive and 0c.
@@ -27,15 +26,6 @@ others b f out (order.Receive p) w not_receive _ = absurd (not_receive p refl)
 others b f out (order.ShowSeed p) w _ not_show_seed = absurd (not_show_seed p refl)
 others b f out (order.Quota p u) w _ _ = refl
 others b f out (order.Holders s) w _ _ = refl
-
-pub receive-requires : goal.receive-requires
-receive-requires c = let z = c.requires.0 in let h = fair-as c.in-Receive.is c.requires.2 in (z.peers, z.nodes, z.handles, z.charges, record { ends = z.ends; rows = z.rows }, z.pool, h, c.requires.1 _ h)
-
-pub show_seed-requires : goal.show_seed-requires
-show_seed-requires c = let z = c.requires.0 in let h = fair-as c.in-ShowSeed.is c.requires.2 in (z.peers, z.nodes, z.handles, record { ends = z.ends; rows = z.rows }, z.seeds, h)
-
-pub change-a-requires : goal.change-a-requires
-change-a-requires c = (c.requires.0, c.requires.2)
 
 pub returns-in-Receive : goal.returns-in-Receive
 returns-in-Receive c = did-receive _ _ _ _ _ _ _ _ _ _ _ _ _ c.in-Receive.is c.receive.ensures

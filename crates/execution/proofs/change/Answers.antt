@@ -9,8 +9,7 @@ use Rattle.judges.specs.declared.Order.TheVariants as order
 use Rattle.judges.specs.declared.Places.{Places}
 use Rattle.view.specs.View.{Bus}
 use Rattle.bus_model.specs.Command.{settled, changed}
-use Rattle.execution.specs.Code.{fair-as, did-transfer, did-send, did-settle}
-use borrow.Author.Rules.{rules}
+use Rattle.execution.specs.Code.{did-transfer, did-send, did-settle}
 use Rattle.execution.proofs.change.Goals as goal
 
 -- The orders of no arm, neither a transfer nor a send.
@@ -28,21 +27,6 @@ others b f (order.Receive p) w _ _ = refl
 others b f (order.ShowSeed p) w _ _ = refl
 others b f (order.Quota p u) w _ _ = refl
 others b f (order.Holders s) w _ _ = refl
-
-pub transfer-requires : goal.transfer-requires
-transfer-requires c = let z = c.requires.0 in let h = fair-as c.in-Transfer.is c.requires.1 in (z.peers, z.nodes, z.handles, record { ends = z.ends; rows = z.rows }, h.0, h.1)
-
-pub send-requires : goal.send-requires
-send-requires c = let z = c.requires.0 in let h = fair-as c.in-Send.is c.requires.1 in (z.peers, z.charges, record { ends = z.ends; rows = z.rows }, h.0, h.1)
-
-pub replace_seed-requires : goal.replace_seed-requires
-replace_seed-requires c = (c.requires.0.seeds, (fair-as c.in-Send.is c.requires.1).0)
-
-pub reply-a-requires : goal.reply-a-requires
-reply-a-requires c = let z = c.requires.0 in (z.handles, z.charges, c.requires.1)
-
-pub alter-requires : goal.alter-requires
-alter-requires c = c.requires
 
 pub returns-in-Transfer : goal.returns-in-Transfer
 returns-in-Transfer c = did-transfer _ _ _ _ _ _ _ _ _ _ _ _ c.in-Transfer.is c.transfer.ensures

@@ -8,8 +8,7 @@ use Rattle.judges.specs.declared.Order.{Order}
 use Rattle.judges.specs.declared.Order.TheVariants as order
 use Rattle.answers.specs.declared.Answer.TheVariants.{Done as is_done}
 use Rattle.bus_model.specs.Command.{reply_to}
-use Rattle.execution.specs.Code.{fair-as, replies-refuse, replies-quota, replies-holders}
-use borrow.Author.Rules.{rules}
+use Rattle.execution.specs.Code.{replies-refuse, replies-quota, replies-holders}
 use Rattle.execution.proofs.reply.Goals as goal
 
 -- The orders of no arm are answered by 00 alone.
@@ -27,12 +26,6 @@ others hs cs (order.Receive p) _ _ _ = refl
 others hs cs (order.ShowSeed p) _ _ _ = refl
 others hs cs (order.Quota p u) _ not_quota _ = absurd (not_quota p u refl)
 others hs cs (order.Holders s) _ _ not_holders = absurd (not_holders s refl)
-
-pub load-requires : goal.load-requires
-load-requires c = (c.requires.1, fair-as c.in-Quota.is c.requires.2)
-
-pub holders-requires : goal.holders-requires
-holders-requires c = (c.requires.0, fair-as c.in-Holders.is c.requires.2)
 
 pub returns-in-Refuse : goal.returns-in-Refuse
 returns-in-Refuse c = replies-refuse _ _ c.in-Refuse.is
