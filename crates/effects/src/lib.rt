@@ -3,6 +3,8 @@
 #![tactic(auto)]
 
 ghost use Rattle.std.specs.Prelude.{◌≡◌, ◌-◌, ◌<◌, ◌≤◌, length, take};
+ghost use Rattle.rings.specs.Lent.{lent, SameTables};
+ghost use Rattle.queues.specs.Queued.{queued};
 ghost use Rattle.rings.specs.Rings.{rings_of, ends_size, length_of, ring_size, QueueTables};
 ghost use Rattle.pool.specs.Pool.{pool_size};
 ghost use Rattle.answers.specs.Answer.{answer_after, outcome_of};
@@ -24,7 +26,7 @@ use frames::Sizes;
 use ids::{HandleId, INVALID, MOST_IDS, NODES, Peer, SLOTS, USERS, User};
 use judges::Places;
 use notices::Asked;
-use rings::{Entry, Match};
+use rings::{Entry, Match, RingTables};
 
 // The command is counted: its number.
 fn next_number(peers: &mut [u64]) -> u64
@@ -66,23 +68,21 @@ pub fn destroy(
     nodes: &mut [u64],
     handles: &[u64],
     charges: &[u16],
-    ends: &mut [u16],
-    entries: &mut [u16],
-    carried: &mut [u8],
-    numbers: &mut [u64],
+    rings: &mut RingTables<'_>,
     p: Peer,
     s: usize,
 )
     requires { (length peers.old ≡ peers_size) × (length nodes.old ≡ nodes_size) × (length handles.now ≡ handles_size)
-        × (length charges.now ≡ charges_size) × QueueTables ends.old entries.old carried.old numbers.old × (p.0 < peer_count) }
-    ensures { let before = rings_of ends.old entries.old carried.old numbers.old in
-        let after = rings_of ends.new entries.new carried.new numbers.new in
+        × (length charges.now ≡ charges_size) × (p.0 < peer_count) }
+    ensures same { SameTables rings.old rings.new }
+    ensures done { let before = lent rings.old in
+        let after = lent rings.new in
         destroys_of peers.new nodes.new after
         ≡ destroys peers.old nodes.old handles.now charges.now before p.0 s }
 {
     let n = next_number(peers);
     notices::destroy_one(
-        nodes, handles, charges, ends, entries, carried, numbers, p, s, n,
+        nodes, handles, charges, rings, p, s, n,
     );
 }
 
@@ -92,30 +92,26 @@ fn forget_own(
     nodes: &[u64],
     handles: &[u64],
     charges: &mut [u16],
-    ends: &mut [u16],
-    entries: &mut [u16],
-    carried: &mut [u8],
-    numbers: &mut [u64],
+    rings: &mut RingTables<'_>,
     pool: &mut [u8],
     p: Peer,
     s: usize,
 )
-    requires { (length nodes.now ≡ nodes_size) × (length handles.now ≡ handles_size) × (length charges.old ≡ charges_size)
-        × QueueTables ends.old entries.old carried.old numbers.old × (p.0 < peer_count) }
-    ensures { let before = queues_of charges.old
-        ends.old entries.old carried.old numbers.old pool.old in
-        let after = queues_of charges.new
-        ends.new entries.new carried.new numbers.new pool.new in
+    requires { (length nodes.now ≡ nodes_size) × (length handles.now ≡ handles_size)
+        × (length charges.old ≡ charges_size) × (p.0 < peer_count) }
+    ensures same { SameTables rings.old rings.new }
+    ensures done { let before = queued charges.old rings.old pool.old in
+        let after = queued charges.new rings.new pool.new in
         after ≡ forgotten_own nodes.now handles.now before p.0 s }
 {
     if queues::attached(tables::load(charges, p)) == 0 {
         let m = Match::one_slot(rings::ALL_BITS, s);
-        queues::remove(charges, ends, entries, carried, numbers, pool, p, m);
+        queues::remove(charges, rings, pool, p, m);
         return;
     }
     let m = Match::one_slot(rings::MESSAGE_BIT + rings::RELEASED_BIT, s);
-    queues::remove(charges, ends, entries, carried, numbers, pool, p, m);
-    notices::expire_all(nodes, handles, charges, ends, entries, carried, numbers, p);
+    queues::remove(charges, rings, pool, p, m);
+    notices::expire_all(nodes, handles, charges, rings, p);
 }
 
 // The peer's handle to the slot's node is gone.
@@ -123,30 +119,26 @@ fn forget(
     nodes: &[u64],
     handles: &[u64],
     charges: &mut [u16],
-    ends: &mut [u16],
-    entries: &mut [u16],
-    carried: &mut [u8],
-    numbers: &mut [u64],
+    rings: &mut RingTables<'_>,
     pool: &mut [u8],
     p: Peer,
     s: usize,
 )
-    requires { (length nodes.now ≡ nodes_size) × (length handles.now ≡ handles_size) × (length charges.old ≡ charges_size)
-        × QueueTables ends.old entries.old carried.old numbers.old × (p.0 < peer_count) × (s < node_count) }
-    ensures { let before = queues_of charges.old
-        ends.old entries.old carried.old numbers.old pool.old in
-        let after = queues_of charges.new
-        ends.new entries.new carried.new numbers.new pool.new in
+    requires { (length nodes.now ≡ nodes_size) × (length handles.now ≡ handles_size)
+        × (length charges.old ≡ charges_size) × (p.0 < peer_count) × (s < node_count) }
+    ensures same { SameTables rings.old rings.new }
+    ensures done { let before = queued charges.old rings.old pool.old in
+        let after = queued charges.new rings.new pool.new in
         after ≡ forgotten nodes.now handles.now before p.0 s }
 {
     if s / SLOTS == p.0 {
         forget_own(
-            nodes, handles, charges, ends, entries, carried, numbers, pool, p, s,
+            nodes, handles, charges, rings, pool, p, s,
         );
         return;
     }
     notices::expire(
-        nodes, handles, charges, ends, entries, carried, numbers, p, s,
+        nodes, handles, charges, rings, p, s,
     );
 }
 
@@ -162,17 +154,14 @@ fn drop_reference(handles: &mut [u64], p: Peer, s: usize) -> u64
 fn notify(
     nodes: &[u64],
     handles: &[u64],
-    ends: &mut [u16],
-    entries: &mut [u16],
-    carried: &mut [u8],
-    numbers: &mut [u64],
+    rings: &mut RingTables<'_>,
     s: usize,
     n: u64,
 )
-    requires { (length nodes.now ≡ nodes_size) × (length handles.now ≡ handles_size)
-        × QueueTables ends.old entries.old carried.old numbers.old × (s < node_count) }
-    ensures { let before = rings_of ends.old entries.old carried.old numbers.old in
-        let after = rings_of ends.new entries.new carried.new numbers.new in
+    requires { (length nodes.now ≡ nodes_size) × (length handles.now ≡ handles_size) × (s < node_count) }
+    ensures same { SameTables rings.old rings.new }
+    ensures done { let before = lent rings.old in
+        let after = lent rings.new in
         after ≡ notified nodes.now handles.now before s n }
 {
     if !tables::is_live(nodes, s) {
@@ -180,7 +169,7 @@ fn notify(
     }
     if tables::total(handles, s) == 1 {
         let e = notices::notice(rings::RELEASED, s, n);
-        queues::enter(ends, entries, carried, numbers, Peer(s / SLOTS), e);
+        queues::enter(rings, Peer(s / SLOTS), e);
     }
 }
 
@@ -189,21 +178,16 @@ pub fn release(
     nodes: &[u64],
     handles: &mut [u64],
     charges: &mut [u16],
-    ends: &mut [u16],
-    entries: &mut [u16],
-    carried: &mut [u8],
-    numbers: &mut [u64],
+    rings: &mut RingTables<'_>,
     pool: &mut [u8],
     p: Peer,
     s: usize,
 )
-    requires { (length peers.old ≡ peers_size) × (length nodes.now ≡ nodes_size)
-        × (length handles.old ≡ handles_size) × (length charges.old ≡ charges_size)
-        × QueueTables ends.old entries.old carried.old numbers.old × (p.0 < peer_count) × (s < node_count) }
-    ensures { let before = queues_of charges.old
-        ends.old entries.old carried.old numbers.old pool.old in
-        let after = queues_of charges.new
-        ends.new entries.new carried.new numbers.new pool.new in
+    requires { (length peers.old ≡ peers_size) × (length nodes.now ≡ nodes_size) × (length handles.old ≡ handles_size)
+        × (length charges.old ≡ charges_size) × (p.0 < peer_count) × (s < node_count) }
+    ensures same { SameTables rings.old rings.new }
+    ensures done { let before = queued charges.old rings.old pool.old in
+        let after = queued charges.new rings.new pool.new in
         releases_of peers.new handles.new after
         ≡ releases peers.old nodes.now handles.old before p.0 s }
 {
@@ -211,33 +195,31 @@ pub fn release(
     let left = drop_reference(handles, p, s);
     if left == 0 {
         forget(
-            nodes, handles, charges, ends, entries, carried, numbers, pool, p, s,
+            nodes, handles, charges, rings, pool, p, s,
         );
     }
-    notify(nodes, handles, ends, entries, carried, numbers, s, n);
+    notify(nodes, handles, rings, s, n);
 }
 
 pub fn transfer(
     peers: &mut [u64],
     nodes: &[u64],
     handles: &mut [u64],
-    ends: &mut [u16],
-    entries: &mut [u16],
-    carried: &mut [u8],
-    numbers: &mut [u64],
+    rings: &mut RingTables<'_>,
     q: Peer,
     s: usize,
 ) -> HandleId
     requires { (length peers.old ≡ peers_size) × (length nodes.now ≡ nodes_size) × (length handles.old ≡ handles_size)
-        × QueueTables ends.old entries.old carried.old numbers.old × (q.0 < peer_count) × (s < node_count) }
-    ensures { let before = rings_of ends.old entries.old carried.old numbers.old in
-        let after = rings_of ends.new entries.new carried.new numbers.new in
+        × (q.0 < peer_count) × (s < node_count) }
+    ensures same { SameTables rings.old rings.new }
+    ensures done { let before = lent rings.old in
+        let after = lent rings.new in
         given_of result.0 peers.new handles.new after
         ≡ transfers peers.old nodes.now handles.old before q.0 s }
 {
     let n = next_number(peers);
     HandleId(grants::give(
-        peers, nodes, handles, ends, entries, carried, numbers, q, n, s,
+        peers, nodes, handles, rings, q, n, s,
     ))
 }
 
@@ -260,10 +242,7 @@ fn message_to(s: usize, u: User, nb: usize, nh: usize, slots: [u8; 8], n: u64) -
 // A message for each destination, in order.
 fn deliver(
     charges: &mut [u16],
-    ends: &mut [u16],
-    entries: &mut [u16],
-    carried: &mut [u8],
-    numbers: &mut [u64],
+    rings: &mut RingTables<'_>,
     pool: &mut [u8],
     u: User,
     z: Sizes,
@@ -271,11 +250,10 @@ fn deliver(
     payload: &[u8],
     n: u64,
 )
-    requires { (length charges.old ≡ charges_size) × QueueTables ends.old entries.old carried.old numbers.old × (z.nd ≤ most_ids) }
-    ensures { let before = queues_of charges.old
-        ends.old entries.old carried.old numbers.old pool.old in
-        let after = queues_of charges.new
-        ends.new entries.new carried.new numbers.new pool.new in
+    requires { (length charges.old ≡ charges_size) × (z.nd ≤ most_ids) }
+    ensures same { SameTables rings.old rings.new }
+    ensures done { let before = queued charges.old rings.old pool.old in
+        let after = queued charges.new rings.new pool.new in
         after ≡ sent_to before u.0 z.nh w payload.now n z.nd }
 {
     let slots = w.carried;
@@ -284,10 +262,7 @@ fn deliver(
         let e = message_to(s, u, payload.len(), z.nh, slots, n);
         queues::enqueue(
             charges,
-            ends,
-            entries,
-            carried,
-            numbers,
+            rings,
             pool,
             Peer(s / SLOTS),
             e,
@@ -299,28 +274,23 @@ fn deliver(
 pub fn send(
     peers: &mut [u64],
     charges: &mut [u16],
-    ends: &mut [u16],
-    entries: &mut [u16],
-    carried: &mut [u8],
-    numbers: &mut [u64],
+    rings: &mut RingTables<'_>,
     pool: &mut [u8],
     p: Peer,
     z: Sizes,
     w: Places,
     payload: &[u8],
 )
-    requires { (length peers.old ≡ peers_size) × (length charges.old ≡ charges_size)
-        × QueueTables ends.old entries.old carried.old numbers.old × (p.0 < peer_count) × (z.nd ≤ most_ids) }
-    ensures { let before = queues_of charges.old
-        ends.old entries.old carried.old numbers.old pool.old in
-        let after = queues_of charges.new
-        ends.new entries.new carried.new numbers.new pool.new in
+    requires { (length peers.old ≡ peers_size) × (length charges.old ≡ charges_size) × (p.0 < peer_count) × (z.nd ≤ most_ids) }
+    ensures same { SameTables rings.old rings.new }
+    ensures done { let before = queued charges.old rings.old pool.old in
+        let after = queued charges.new rings.new pool.new in
         sends_of peers.new after ≡ sends peers.old before p.0 z w payload.now }
 {
     let n = next_number(peers);
     let u = tables::user_of(peers, p);
     deliver(
-        charges, ends, entries, carried, numbers, pool, u, z, w, payload, n,
+        charges, rings, pool, u, z, w, payload, n,
     );
 }
 
@@ -339,26 +309,24 @@ pub fn disconnect(
     nodes: &mut [u64],
     handles: &mut [u64],
     charges: &mut [u16],
-    ends: &mut [u16],
-    entries: &mut [u16],
-    carried: &mut [u8],
-    numbers: &mut [u64],
+    rings: &mut RingTables<'_>,
     p: Peer,
 )
     requires { (length peers.old ≡ peers_size) × (length nodes.old ≡ nodes_size) × (length handles.old ≡ handles_size)
-        × (length charges.old ≡ charges_size) × QueueTables ends.old entries.old carried.old numbers.old × (p.0 < peer_count) }
-    ensures { let before = rings_of ends.old entries.old carried.old numbers.old in
-        let after = rings_of ends.new entries.new carried.new numbers.new in
+        × (length charges.old ≡ charges_size) × (p.0 < peer_count) }
+    ensures same { SameTables rings.old rings.new }
+    ensures done { let before = lent rings.old in
+        let after = lent rings.new in
         disconnects_of peers.new nodes.new handles.new charges.new after
         ≡ disconnects peers.old nodes.old handles.old charges.old before p.0 }
 {
     let n = next_number(peers);
     let set = notices::set_of(nodes, handles, p, Asked::Living);
     notices::destroy_set(
-        nodes, handles, charges, ends, entries, carried, numbers, p, set, n,
+        nodes, handles, charges, rings, p, set, n,
     );
-    queues::empty(charges, ends, p);
-    notices::tell_owners(nodes, handles, ends, entries, carried, numbers, p, n);
+    queues::empty(charges, rings.ends, p);
+    notices::tell_owners(nodes, handles, rings, p, n);
     tables::clear_peer(handles, p);
     tables::set_disconnected(peers, p);
 }
@@ -405,37 +373,33 @@ fn receive_message(
     nodes: &[u64],
     handles: &mut [u64],
     charges: &mut [u16],
-    ends: &mut [u16],
-    entries: &mut [u16],
-    carried: &mut [u8],
-    numbers: &mut [u64],
+    rings: &mut RingTables<'_>,
     pool: &mut [u8],
     p: Peer,
     e: Entry,
     out: &mut [u8],
 ) -> Outcome
     requires { (length peers.old ≡ peers_size) × (length nodes.now ≡ nodes_size) × (length handles.old ≡ handles_size)
-        × (length charges.old ≡ charges_size) × QueueTables ends.old entries.old carried.old numbers.old
-        × (length pool.old ≡ pool_size) × (p.0 < peer_count) × (length_of ends.old p.0 ≤ ring_size) }
-    ensures { let before = queues_of charges.old
-        ends.old entries.old carried.old numbers.old pool.old in
-        let after = queues_of charges.new
-        ends.new entries.new carried.new numbers.new pool.new in
+        × (length charges.old ≡ charges_size) × (length pool.old ≡ pool_size) × (p.0 < peer_count)
+        × (length_of rings.old.ends.now p.0 ≤ ring_size) }
+    ensures same { SameTables rings.old rings.new }
+    ensures done { let before = queued charges.old rings.old pool.old in
+        let after = queued charges.new rings.new pool.new in
         received_of result out.new peers.new handles.new after
         ≡ received_message peers.old nodes.now handles.old before p.0 e out.old }
 {
-    let flag = queues::follows(ends, entries, carried, numbers, p, e.number);
+    let flag = queues::follows(rings, p, e.number);
     let to = grants::id_or_invalid(handles, p, usize::from(e.slot) % NODES);
-    rings::pop(ends, p);
+    rings::pop(rings.ends, p);
     let slots = e.carried;
     let nh = usize::from(e.nh).min(MOST_IDS);
     let ids = grants::give_all(
-        peers, nodes, handles, ends, entries, carried, numbers, p, e.number, slots, nh,
+        peers, nodes, handles, rings, p, e.number, slots, nh,
     );
     let o = write_message(out, charges, pool, p, to, flag, e, ids);
     queues::settle(charges, pool, p, e);
     notices::expire_shown(
-        nodes, handles, charges, ends, entries, carried, numbers, p, slots, ids, nh,
+        nodes, handles, charges, rings, p, slots, ids, nh,
     );
     o
 }
@@ -460,31 +424,27 @@ pub fn receive(
     nodes: &[u64],
     handles: &mut [u64],
     charges: &mut [u16],
-    ends: &mut [u16],
-    entries: &mut [u16],
-    carried: &mut [u8],
-    numbers: &mut [u64],
+    rings: &mut RingTables<'_>,
     pool: &mut [u8],
     p: Peer,
     out: &mut [u8],
 ) -> Outcome
     requires { (length peers.old ≡ peers_size) × (length nodes.now ≡ nodes_size) × (length handles.old ≡ handles_size)
-        × (length charges.old ≡ charges_size) × QueueTables ends.old entries.old carried.old numbers.old
-        × (length pool.old ≡ pool_size) × (p.0 < peer_count) × (length_of ends.old p.0 ≤ ring_size) }
-    ensures { let before = queues_of charges.old
-        ends.old entries.old carried.old numbers.old pool.old in
-        let after = queues_of charges.new
-        ends.new entries.new carried.new numbers.new pool.new in
+        × (length charges.old ≡ charges_size) × (length pool.old ≡ pool_size) × (p.0 < peer_count)
+        × (length_of rings.old.ends.now p.0 ≤ ring_size) }
+    ensures same { SameTables rings.old rings.new }
+    ensures done { let before = queued charges.old rings.old pool.old in
+        let after = queued charges.new rings.new pool.new in
         received_of result out.new peers.new handles.new after
         ≡ received peers.old nodes.now handles.old before p.0 out.old }
 {
     tables::count_command(peers);
-    let e = rings::first_entry(ends, entries, carried, numbers, p);
+    let e = rings.first(p);
     if !queues::is_message(e) {
-        return receive_notice(handles, ends, p, e, out);
+        return receive_notice(handles, rings.ends, p, e, out);
     }
     receive_message(
-        peers, nodes, handles, charges, ends, entries, carried, numbers, pool, p, e, out,
+        peers, nodes, handles, charges, rings, pool, p, e, out,
     )
 }
 
@@ -520,18 +480,16 @@ pub fn show_seed(
     peers: &mut [u64],
     nodes: &[u64],
     handles: &mut [u64],
-    ends: &mut [u16],
-    entries: &mut [u16],
-    carried: &mut [u8],
-    numbers: &mut [u64],
+    rings: &mut RingTables<'_>,
     seeds: &[u8],
     p: Peer,
     out: &mut [u8],
 ) -> Outcome
     requires { (length peers.old ≡ peers_size) × (length nodes.now ≡ nodes_size) × (length handles.old ≡ handles_size)
-        × QueueTables ends.old entries.old carried.old numbers.old × (length seeds.now ≡ seeds_size) × (p.0 < peer_count) }
-    ensures { let before = rings_of ends.old entries.old carried.old numbers.old in
-        let after = rings_of ends.new entries.new carried.new numbers.new in
+        × (length seeds.now ≡ seeds_size) × (p.0 < peer_count) }
+    ensures same { SameTables rings.old rings.new }
+    ensures done { let before = lent rings.old in
+        let after = lent rings.new in
         shown_of result out.new peers.new handles.new after
         ≡ shows peers.old nodes.now handles.old before seeds.now p.0 out.old }
 {
@@ -540,7 +498,7 @@ pub fn show_seed(
     let slots = seeds::slots_of(seeds, p);
     let nh = seeds::nh_of(seeds, p);
     let ids = grants::give_all(
-        peers, nodes, handles, ends, entries, carried, numbers, p, n, slots, nh,
+        peers, nodes, handles, rings, p, n, slots, nh,
     );
     write_seed(out, seeds, p, user, nh, ids)
 }
