@@ -4,6 +4,8 @@
 #![tactic(auto)]
 
 ghost use Rattle.std.specs.Prelude.{◌≡◌, length};
+ghost use Rattle.rings.specs.Lent.{SameTables};
+ghost use Rattle.view.specs.Lent.{bus_with};
 ghost use Rattle.view.specs.View.{bus_of, Shape};
 ghost use Rattle.queues.specs.Queues.{Short};
 ghost use Rattle.tables.specs.Handles.{handles_size};
@@ -12,6 +14,7 @@ ghost use Rattle.bus_model.specs.Command.{done_of, reply_to, altered, changed_of
 
 use answers::{Answer, Outcome};
 use judges::{Order, Ruling};
+use rings::RingTables;
 
 // The answer to a refusal or a question; to any other order that shows neither an ID nor a message it is 00 alone.
 fn reply(hs: &[u64], cs: &[u16], order: Order) -> Answer
@@ -32,34 +35,30 @@ fn alter(
     ns: &mut [u64],
     hs: &mut [u64],
     cs: &mut [u16],
-    ends: &mut [u16],
-    entries: &mut [u16],
-    carried: &mut [u8],
-    numbers: &mut [u64],
+    rings: &mut RingTables<'_>,
     pool: &mut [u8],
     seeds: &mut [u8],
     order: Order,
 )
-    requires { Shape (bus_of ps.old ns.old hs.old cs.old ends.old entries.old carried.old numbers.old pool.old seeds.old)
+    requires { Shape (bus_with ps.old ns.old hs.old cs.old rings.old pool.old seeds.old)
         × Fair order }
-    ensures { let before = bus_of ps.old ns.old hs.old cs.old
-        ends.old entries.old carried.old numbers.old pool.old seeds.old in
-        let after = bus_of ps.new ns.new hs.new cs.new
-        ends.new entries.new carried.new numbers.new pool.new seeds.new in
+    ensures same { SameTables rings.old rings.new }
+    ensures done { let before = bus_with ps.old ns.old hs.old cs.old rings.old pool.old seeds.old in
+        let after = bus_with ps.new ns.new hs.new cs.new rings.new pool.new seeds.new in
         after ≡ altered before order }
 {
     match order {
         Order::Open(p, u) => effects::open_peer(ps, p, u),
         Order::Disconnect(p) => {
-            effects::disconnect(ps, ns, hs, cs, ends, entries, carried, numbers, p);
+            effects::disconnect(ps, ns, hs, cs, rings, p);
             seeds::drop_seed(seeds, p);
         }
         Order::Create(p, i, s) => effects::create(ps, ns, hs, p, i, s),
         Order::Destroy(p, s) => {
-            effects::destroy(ps, ns, hs, cs, ends, entries, carried, numbers, p, s)
+            effects::destroy(ps, ns, hs, cs, rings, p, s)
         }
         Order::Release(p, s) => {
-            effects::release(ps, ns, hs, cs, ends, entries, carried, numbers, pool, p, s)
+            effects::release(ps, ns, hs, cs, rings, pool, p, s)
         }
         _ => {}
     }
@@ -71,40 +70,36 @@ fn change(
     ns: &mut [u64],
     hs: &mut [u64],
     cs: &mut [u16],
-    ends: &mut [u16],
-    entries: &mut [u16],
-    carried: &mut [u8],
-    numbers: &mut [u64],
+    rings: &mut RingTables<'_>,
     pool: &mut [u8],
     seeds: &mut [u8],
     f: &[u8],
     r: Ruling,
 ) -> Answer
-    requires { Shape (bus_of ps.old ns.old hs.old cs.old ends.old entries.old carried.old numbers.old pool.old seeds.old)
+    requires { Shape (bus_with ps.old ns.old hs.old cs.old rings.old pool.old seeds.old)
         × Fair r.order }
-    ensures { let before = bus_of ps.old ns.old hs.old cs.old
-        ends.old entries.old carried.old numbers.old pool.old seeds.old in
-        let after = bus_of ps.new ns.new hs.new cs.new
-        ends.new entries.new carried.new numbers.new pool.new seeds.new in
+    ensures same { SameTables rings.old rings.new }
+    ensures done { let before = bus_with ps.old ns.old hs.old cs.old rings.old pool.old seeds.old in
+        let after = bus_with ps.new ns.new hs.new cs.new rings.new pool.new seeds.new in
         changed_of result after ≡ changed before f.now r.order r.places }
 {
     match r.order {
         Order::Transfer(q, s) => {
             Answer::Transferred(effects::transfer(
-                ps, ns, hs, ends, entries, carried, numbers, q, s,
+                ps, ns, hs, rings, q, s,
             ))
         }
         Order::Send(p, z) => {
             let w = r.places;
             let data = frames::payload(f);
-            effects::send(ps, cs, ends, entries, carried, numbers, pool, p, z, w, data);
+            effects::send(ps, cs, rings, pool, p, z, w, data);
             effects::replace_seed(seeds, p, z, w, data);
             Answer::Done
         }
         order => {
             let a = reply(hs, cs, order);
             alter(
-                ps, ns, hs, cs, ends, entries, carried, numbers, pool, seeds, order,
+                ps, ns, hs, cs, rings, pool, seeds, order,
             );
             a
         }
@@ -117,36 +112,32 @@ pub fn carry_out(
     ns: &mut [u64],
     hs: &mut [u64],
     cs: &mut [u16],
-    ends: &mut [u16],
-    entries: &mut [u16],
-    carried: &mut [u8],
-    numbers: &mut [u64],
+    rings: &mut RingTables<'_>,
     pool: &mut [u8],
     seeds: &mut [u8],
     f: &[u8],
     r: Ruling,
     out: &mut [u8],
 ) -> Outcome
-    requires { Shape (bus_of ps.old ns.old hs.old cs.old ends.old entries.old carried.old numbers.old pool.old seeds.old)
-        × Short ends.old × Fair r.order }
-    ensures { let before = bus_of ps.old ns.old hs.old cs.old
-        ends.old entries.old carried.old numbers.old pool.old seeds.old in
-        let after = bus_of ps.new ns.new hs.new cs.new
-        ends.new entries.new carried.new numbers.new pool.new seeds.new in
+    requires { Shape (bus_with ps.old ns.old hs.old cs.old rings.old pool.old seeds.old)
+        × Short rings.old.ends.now × Fair r.order }
+    ensures same { SameTables rings.old rings.new }
+    ensures done { let before = bus_with ps.old ns.old hs.old cs.old rings.old pool.old seeds.old in
+        let after = bus_with ps.new ns.new hs.new cs.new rings.new pool.new seeds.new in
         done_of result after out.new ≡ carried_out before f.now out.old r }
 {
     match r.order {
         Order::Receive(p) => {
             effects::receive(
-                ps, ns, hs, cs, ends, entries, carried, numbers, pool, p, out,
+                ps, ns, hs, cs, rings, pool, p, out,
             )
         }
         Order::ShowSeed(p) => {
-            effects::show_seed(ps, ns, hs, ends, entries, carried, numbers, seeds, p, out)
+            effects::show_seed(ps, ns, hs, rings, seeds, p, out)
         }
         _ => {
             let a = change(
-                ps, ns, hs, cs, ends, entries, carried, numbers, pool, seeds, f, r,
+                ps, ns, hs, cs, rings, pool, seeds, f, r,
             );
             answers::write_plain(out, a)
         }

@@ -27,20 +27,20 @@ others b (order.ShowSeed p) _ _ _ _ _ = refl
 others b (order.Quota p u) _ _ _ _ _ = refl
 others b (order.Holders s) _ _ _ _ _ = refl
 
-pub returns-in-Open : goal.returns-in-Open
-returns-in-Open c = alters-open _ _ _ _ _ _ _ _ _ _ c.in-Open.is c.open_peer.ensures
+pub returns-in-Open-clause-done : goal.returns-in-Open-clause-done
+returns-in-Open-clause-done c = alters-open _ _ _ _ _ _ _ _ _ _ c.in-Open.is c.open_peer.ensures
 
-pub returns-in-Disconnect : goal.returns-in-Disconnect
-returns-in-Disconnect c = alters-disconnect _ _ _ _ _ _ _ _ _ _ c.in-Disconnect.is c.disconnect.ensures c.drop_seed.ensures
+pub returns-in-Disconnect-clause-done : goal.returns-in-Disconnect-clause-done
+returns-in-Disconnect-clause-done c = alters-disconnect _ _ _ _ _ _ _ _ _ _ c.in-Disconnect.is c.disconnect.ensures.done c.drop_seed.ensures
 
-pub returns-in-Create : goal.returns-in-Create
-returns-in-Create c = alters-create _ _ _ _ _ _ _ _ _ _ c.in-Create.is c.create.ensures
+pub returns-in-Create-clause-done : goal.returns-in-Create-clause-done
+returns-in-Create-clause-done c = alters-create _ _ _ _ _ _ _ _ _ _ c.in-Create.is c.create.ensures
 
-pub returns-in-Destroy : goal.returns-in-Destroy
-returns-in-Destroy c = alters-destroy _ _ _ _ _ _ _ _ _ _ c.in-Destroy.is c.destroy.ensures
+pub returns-in-Destroy-clause-done : goal.returns-in-Destroy-clause-done
+returns-in-Destroy-clause-done c = alters-destroy _ _ _ _ _ _ _ _ _ _ c.in-Destroy.is c.destroy.ensures.done
 
-pub returns-in-Release : goal.returns-in-Release
-returns-in-Release c = alters-release _ _ _ _ _ _ _ _ _ _ c.in-Release.is c.release.ensures
+pub returns-in-Release-clause-done : goal.returns-in-Release-clause-done
+returns-in-Release-clause-done c = alters-release _ _ _ _ _ _ _ _ _ _ c.in-Release.is c.release.ensures.done
 
-pub returns-in_default : goal.returns-in_default
-returns-in_default c = others _ c.args.order c.in_default.not-Open c.in_default.not-Disconnect c.in_default.not-Create c.in_default.not-Destroy c.in_default.not-Release
+pub returns-in_default-clause-done : goal.returns-in_default-clause-done
+returns-in_default-clause-done c = others _ c.args.order c.in_default.not-Open c.in_default.not-Disconnect c.in_default.not-Create c.in_default.not-Destroy c.in_default.not-Release

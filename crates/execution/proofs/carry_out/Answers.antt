@@ -27,11 +27,11 @@ others b f out (order.ShowSeed p) w _ not_show_seed = absurd (not_show_seed p re
 others b f out (order.Quota p u) w _ _ = refl
 others b f out (order.Holders s) w _ _ = refl
 
-pub returns-in-Receive : goal.returns-in-Receive
-returns-in-Receive c = did-receive _ _ _ _ _ _ _ _ _ _ _ _ _ c.in-Receive.is c.receive.ensures
+pub returns-in-Receive-clause-done : goal.returns-in-Receive-clause-done
+returns-in-Receive-clause-done c = did-receive _ _ _ _ _ _ _ _ _ _ _ _ _ c.in-Receive.is c.receive.ensures.done
 
-pub returns-in-ShowSeed : goal.returns-in-ShowSeed
-returns-in-ShowSeed c = did-show _ _ _ _ _ _ _ _ _ _ _ _ _ c.in-ShowSeed.is c.show_seed.ensures
+pub returns-in-ShowSeed-clause-done : goal.returns-in-ShowSeed-clause-done
+returns-in-ShowSeed-clause-done c = did-show _ _ _ _ _ _ _ _ _ _ _ _ _ c.in-ShowSeed.is c.show_seed.ensures.done
 
-pub returns-in_default : goal.returns-in_default
-returns-in_default c = did-change _ _ _ _ c.change-a.ensures c.write_plain.ensures (others _ _ _ c.args.r.order _ c.in_default.not-Receive c.in_default.not-ShowSeed)
+pub returns-in_default-clause-done : goal.returns-in_default-clause-done
+returns-in_default-clause-done c = did-change _ _ _ _ c.change-a.ensures.done c.write_plain.ensures (others _ _ _ c.args.r.order _ c.in_default.not-Receive c.in_default.not-ShowSeed)

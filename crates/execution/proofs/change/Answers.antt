@@ -28,11 +28,11 @@ others b f (order.ShowSeed p) w _ _ = refl
 others b f (order.Quota p u) w _ _ = refl
 others b f (order.Holders s) w _ _ = refl
 
-pub returns-in-Transfer : goal.returns-in-Transfer
-returns-in-Transfer c = did-transfer _ _ _ _ _ _ _ _ _ _ _ _ c.in-Transfer.is c.transfer.ensures
+pub returns-in-Transfer-clause-done : goal.returns-in-Transfer-clause-done
+returns-in-Transfer-clause-done c = did-transfer _ _ _ _ _ _ _ _ _ _ _ _ c.in-Transfer.is c.transfer.ensures.done
 
-pub returns-in-Send : goal.returns-in-Send
-returns-in-Send c = did-send _ _ _ _ _ _ _ _ _ _ _ _ c.in-Send.is c.payload-data.ensures c.send.ensures c.replace_seed.ensures
+pub returns-in-Send-clause-done : goal.returns-in-Send-clause-done
+returns-in-Send-clause-done c = did-send _ _ _ _ _ _ _ _ _ _ _ _ c.in-Send.is c.payload-data.ensures c.send.ensures.done c.replace_seed.ensures
 
-pub returns-in_default : goal.returns-in_default
-returns-in_default c = did-settle _ _ _ _ c.reply-a.ensures c.alter.ensures (others _ _ c.args.r.order _ c.in_default.not-Transfer c.in_default.not-Send)
+pub returns-in_default-clause-done : goal.returns-in_default-clause-done
+returns-in_default-clause-done c = did-settle _ _ _ _ c.reply-a.ensures c.alter.ensures.done (others _ _ c.args.r.order _ c.in_default.not-Transfer c.in_default.not-Send)
