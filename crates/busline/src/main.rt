@@ -4,17 +4,16 @@
 
 #![tactic(auto)]
 
-ghost use Rattle.std.specs.Prelude.{◌≡◌, true, false, ◌+◌, ◌<◌, ◌≤◌, ◌++◌, length, take, drop};
-ghost use Rattle.lines.specs.Line.{most_carried, carried_of};
+ghost use Rattle.std.specs.Prelude.{◌≡◌, ◌+◌, ◌≤◌, length, take, IfOk, IfSome};
+ghost use Rattle.lines.specs.Line.{most_carried};
 ghost use Rattle.view.specs.View.{bus_of};
-ghost use Rattle.session.specs.Session.{longest, Chunk, Underway};
+ghost use Rattle.session.specs.Session.{longest, Sent, Underway};
 ghost use Rattle.bus_model.specs.Command.{fresh_bus};
 
 use ids::{
     CARRIED_SIZE, CHARGES_SIZE, ENDS_SIZE, ENTRIES_SIZE, HANDLES_SIZE, NODES_SIZE, NUMBERS_SIZE,
     PEERS_SIZE, POOL_SIZE, SEEDS_SIZE,
 };
-use session::Progress;
 use std::io::{ErrorKind, Read, Write};
 use std::rt::Clock;
 use std::time::Duration;
@@ -38,65 +37,55 @@ fn try_again(rt: &impl Clock, error: &io::Error) -> bool {
     }
 }
 
-// What was read: how many characters, 0 at the end of the input, or that the read failed.
-#[derive(Clone, Copy)]
-struct Input {
-    got: usize,
-    failed: bool,
-}
-
 // One read. Its tries are counted, up to a number that no run uses up.
-fn read_some(rt: &impl Clock, input: &mut impl Read, part: &mut [u8]) -> Input
-    ensures { result.got ≤ length part.old }
+fn read_some(rt: &impl Clock, input: &mut impl Read, part: &mut [u8]) -> io::Result<usize>
+    ensures { IfOk result (λ got. got ≤ length part.old) }
 {
     for _ in 0..u64::MAX {
         match input.read(part) {
             Ok(got) => {
-                return Input { got, failed: false };
+                return Ok(got);
             }
             Err(error) => {
                 if !try_again(rt, &error) {
-                    break;
+                    return Err(error);
                 }
             }
         }
     }
-    Input {
-        got: 0,
-        failed: true,
-    }
+    Err(io::Error::from(ErrorKind::Interrupted))
 }
 
-// One write, its tries counted likewise. How many bytes it took, 0 where it failed.
-fn write_some(rt: &impl Clock, output: &mut impl Write, bytes: &[u8]) -> usize
-    ensures { result ≤ length bytes.now }
+// One write, its tries counted likewise. How many bytes it took.
+fn write_some(rt: &impl Clock, output: &mut impl Write, bytes: &[u8]) -> io::Result<usize>
+    ensures { IfOk result (λ put. put ≤ length bytes.now) }
 {
     for _ in 0..u64::MAX {
         match output.write(bytes) {
             Ok(put) => {
-                return put;
+                return Ok(put);
             }
             Err(error) => {
                 if !try_again(rt, &error) {
-                    break;
+                    return Err(error);
                 }
             }
         }
     }
-    0
+    Err(io::Error::from(ErrorKind::Interrupted))
 }
 
-// Writes all the bytes, or stops at a write that failed. Whether all are written.
-fn write_text(rt: &impl Clock, output: &mut impl Write, bytes: &[u8]) -> bool {
-    let mut done = 0;
-    while done < bytes.len() {
-        let put = write_some(rt, output, &bytes[done..]);
+// Writes all the bytes, or stops at a write that failed or took nothing.
+fn write_text(rt: &impl Clock, output: &mut impl Write, bytes: &[u8]) -> io::Result<()> {
+    let mut rest = bytes;
+    while !rest.is_empty() {
+        let put = write_some(rt, output, rest)?;
         if put == 0 {
-            return false;
+            return Err(io::Error::from(ErrorKind::WriteZero));
         }
-        done += put;
+        rest = &rest[put..];
     }
-    true
+    Ok(())
 }
 
 fn say_not_read(rt: &impl Eprint) {
@@ -107,32 +96,8 @@ fn say_not_written(rt: &impl Eprint) {
     let _ = rt.eprint("busline: cannot write the output\n");
 }
 
-// What came of a chunk: where its piece starts, and whether all its answers are written.
-#[derive(Clone, Copy)]
-struct Sent {
-    from: usize,
-    whole: bool,
-}
-
-fn sent_to(from: usize, whole: bool) -> Sent
-    ensures { (result.from ≡ from) × (result.whole ≡ whole) }
-{
-    Sent { from, whole }
-}
-
-// Before the first call for a chunk.
-fn beginning() -> Progress
-    ensures { (result.from ≡ 0) × (result.more ≡ true) }
-{
-    Progress {
-        from: 0,
-        at: 0,
-        more: true,
-    }
-}
-
-// The whole lines of a chunk answered, and their answers written: as many texts as they fill. After a write that failed
-// nothing more of the chunk is answered.
+// The whole lines of a chunk answered, and their answers written: as many texts as they fill. Where its piece
+// starts. None after a write that failed: then nothing more of the chunk is answered.
 fn answer_chunk(
     rt: &impl Clock,
     output: &mut impl Write,
@@ -148,30 +113,38 @@ fn answer_chunk(
     seeds: &mut [u8],
     s: &[u8],
     text: &mut [u8],
-) -> Sent
+) -> Option<usize>
     requires { longest ≤ length text.old }
     ensures { let before = bus_of peers.old nodes.old handles.old charges.old
         ends.old entries.old carried.old numbers.old pool.old seeds.old in
         let after = bus_of peers.new nodes.new handles.new charges.new
         ends.new entries.new carried.new numbers.new pool.new seeds.new in
-        Chunk before s.now after result.from result.whole }
+        Sent before s.now after result }
 {
-    let mut p = beginning();
-    while p.more {
-        p = session::answer_lines(
-            peers, nodes, handles, charges, ends, entries, carried, numbers, pool, seeds, s,
-            p.from, text,
+    let mut from = 0;
+    loop {
+        let p = session::answer_lines(
+            peers, nodes, handles, charges, ends, entries, carried, numbers, pool, seeds, s, from,
+            text,
         );
-        if !write_text(rt, output, &text[..p.at]) {
-            return sent_to(p.from, false);
+        if write_text(rt, output, &text[..p.at]).is_err() {
+            return None;
         }
+        if !p.more {
+            return Some(p.from);
+        }
+        from = p.from;
     }
-    sent_to(p.from, true)
 }
 
-fn read_behind(rt: &impl Clock, input: &mut impl Read, buf: &mut [u8], held: usize) -> Input
+fn read_behind(
+    rt: &impl Clock,
+    input: &mut impl Read,
+    buf: &mut [u8],
+    held: usize,
+) -> io::Result<usize>
     requires { held ≤ length buf.old }
-    ensures { (held + result.got ≤ length buf.old) × (take held buf.new ≡ take held buf.old) }
+    ensures { IfOk result (λ got. held + got ≤ length buf.old) × (take held buf.new ≡ take held buf.old) }
 {
     read_some(rt, input, &mut buf[held..])
 }
@@ -181,71 +154,39 @@ fn answer_piece(rt: &(impl Clock + Eprint), output: &mut impl Write, held: usize
     if held == 0 {
         return;
     }
-    if !write_text(rt, output, b"16\n") {
+    if write_text(rt, output, b"16\n").is_err() {
         say_not_written(rt);
     }
 }
 
-// A chunk read behind what is held: how many characters, 0 where there is no more to read. Then the piece that is held is
-// answered, or the failure is told.
+// A chunk read behind what is held: how many characters, none where there is no more to read. Then the piece that is held
+// is answered, or the failure is told.
 fn next_chunk(
     rt: &(impl Clock + Eprint),
     input: &mut impl Read,
     output: &mut impl Write,
     buf: &mut [u8],
     held: usize,
-) -> usize
+) -> Option<usize>
     requires { held ≤ length buf.old }
-    ensures { (held + result ≤ length buf.old) × (take held buf.new ≡ take held buf.old) }
+    ensures { IfSome result (λ got. held + got ≤ length buf.old) × (take held buf.new ≡ take held buf.old) }
 {
-    let read = read_behind(rt, input, buf, held);
-    if read.failed {
-        say_not_read(rt);
-        return 0;
-    }
-    if read.got == 0 {
-        answer_piece(rt, output, held);
-        return 0;
-    }
-    read.got
-}
-
-// A turn: how many characters are carried over, and whether there is more to read.
-#[derive(Clone, Copy)]
-struct Turn {
-    held: usize,
-    more: bool,
-}
-
-fn ended() -> Turn
-    ensures { (result.held ≡ 0) × (result.more ≡ false) }
-{
-    Turn {
-        held: 0,
-        more: false,
+    match read_behind(rt, input, buf, held) {
+        Ok(0) => {
+            answer_piece(rt, output, held);
+            None
+        }
+        Ok(got) => Some(got),
+        Err(_) => {
+            say_not_read(rt);
+            None
+        }
     }
 }
 
-// The piece of a chunk carried over, or where an answer is not written the end.
-fn carry(rt: &impl Eprint, buf: &mut [u8], sent: Sent, end: usize) -> Turn
-    ensures { let rest = carried_of buf.old sent.from end in
-        (result.held ≤ most_carried)
-        × (result.more ≡ true →
-        (sent.whole ≡ true) × (result.held ≡ length rest) × (buf.new ≡ rest ++ drop (length rest) buf.old)) }
-{
-    if !sent.whole {
-        say_not_written(rt);
-        return ended();
-    }
-    let rest = lines::carry_over(buf, sent.from, end);
-    Turn {
-        held: rest,
-        more: true,
-    }
-}
-
-// One chunk read behind what is held, answered, and its piece carried over. Where it goes on, the chunks so far, the bus,
-// what is carried over and what was written are those of a session (session/specs/Session.antt).
+// One chunk read behind what is held, answered, and its piece carried over: how many characters, none where there is no
+// more to read or an answer is not written. Where it goes on, the chunks so far, the bus, what is carried over and what was
+// written are those of a session (session/specs/Session.antt).
 fn take_turn(
     rt: &(impl Clock + Eprint),
     input: &mut impl Read,
@@ -263,39 +204,28 @@ fn take_turn(
     buf: &mut [u8],
     held: usize,
     text: &mut [u8],
-) -> Turn
+) -> Option<usize>
     requires { let bus = bus_of peers.old nodes.old handles.old charges.old
         ends.old entries.old carried.old numbers.old pool.old seeds.old in
         (held ≤ most_carried) × (length buf.old ≡ 65536) × (longest ≤ length text.old) × Underway bus (take held buf.old) }
     ensures { let bus = bus_of peers.new nodes.new handles.new charges.new
         ends.new entries.new carried.new numbers.new pool.new seeds.new in
-        (result.held ≤ most_carried) × (result.more ≡ true → Underway bus (take result.held buf.new)) }
+        IfSome result (λ rest. (rest ≤ most_carried) × Underway bus (take rest buf.new)) }
 {
-    let got = next_chunk(rt, input, output, buf, held);
-    if got == 0 {
-        return ended();
-    }
+    let got = next_chunk(rt, input, output, buf, held)?;
     let end = held + got;
-    let sent = answer_chunk(
-        rt,
-        output,
-        peers,
-        nodes,
-        handles,
-        charges,
-        ends,
-        entries,
-        carried,
-        numbers,
-        pool,
-        seeds,
-        &buf[..end],
-        text,
-    );
-    carry(rt, buf, sent, end)
+    let chunk = &buf[..end];
+    let Some(from) = answer_chunk(
+        rt, output, peers, nodes, handles, charges, ends, entries, carried, numbers, pool, seeds,
+        chunk, text,
+    ) else {
+        say_not_written(rt);
+        return None;
+    };
+    Some(lines::carry_over(buf, from, end))
 }
 
-// The loop counts its turns down from a number that no run uses up.
+// The turns are counted, up to a number that no run uses up.
 fn run(
     rt: &(impl Clock + Eprint),
     input: &mut impl Read,
@@ -318,17 +248,14 @@ fn run(
         (length buf.old ≡ 65536) × (longest ≤ length text.old) × (bus ≡ fresh_bus) }
 {
     let mut held = 0;
-    let mut turns = u64::MAX;
-    while turns > 0 {
-        let t = take_turn(
+    for _turn in 0..u64::MAX {
+        let Some(rest) = take_turn(
             rt, input, output, peers, nodes, handles, charges, ends, entries, carried, numbers,
             pool, seeds, buf, held, text,
-        );
-        if !t.more {
+        ) else {
             return;
-        }
-        held = t.held;
-        turns -= 1;
+        };
+        held = rest;
     }
 }
 

@@ -7,12 +7,25 @@ ghost use Rattle.std.specs.Prelude.{◌≡◌};
 ghost use Rattle.view.specs.View.{bus_of};
 ghost use Rattle.bus_model.specs.Command.{done_of, command_of, fresh_of, fresh_number};
 
+use answers::Outcome;
+
 // What comes back of a command: the number, 0 or the refusal, and the answer's length.
 #[repr(C)]
 #[derive(Clone, Copy)]
 pub struct BusOutcome {
     pub number: u8,
     pub len: usize,
+}
+
+impl From<Outcome> for BusOutcome {
+    ghost from_gives = { λ o r. (r.number ≡ o.number) × (r.len ≡ o.len) };
+
+    fn from(o: Outcome) -> BusOutcome {
+        BusOutcome {
+            number: o.number,
+            len: o.len,
+        }
+    }
 }
 
 // Version 0.6.0: 10,000 times the first part, 100 times the second, and the third.
@@ -73,8 +86,5 @@ pub fn eikelzwier_command(
     let o = bus::command(
         peers, nodes, handles, charges, ends, entries, carried, numbers, pool, seeds, frame, out,
     );
-    BusOutcome {
-        number: o.number,
-        len: o.len,
-    }
+    BusOutcome::from(o)
 }

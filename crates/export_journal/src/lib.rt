@@ -7,6 +7,8 @@ ghost use Rattle.std.specs.Prelude.{◌≡◌};
 ghost use Rattle.view.specs.View.{bus_of};
 ghost use Rattle.journal_model.specs.Journal.{returned_with, command_with};
 
+use journal_model::JournalOutcome;
+
 // What comes back of a command with a journal: the number, the answer's length and the journal's used length.
 #[repr(C)]
 #[derive(Clone, Copy)]
@@ -14,6 +16,18 @@ pub struct BusReport {
     pub number: u8,
     pub len: usize,
     pub used: usize,
+}
+
+impl From<JournalOutcome> for BusReport {
+    ghost from_gives = { λ o r. (r.number ≡ o.number) × (r.len ≡ o.len) × (r.used ≡ o.used) };
+
+    fn from(o: JournalOutcome) -> BusReport {
+        BusReport {
+            number: o.number,
+            len: o.len,
+            used: o.used,
+        }
+    }
 }
 
 // One command with a journal, of which `used` bytes are used.
@@ -40,13 +54,9 @@ pub fn eikelzwier_command_with_journal(
         returned_with (record { number = result.number; len = result.len; used = result.used }) after out.new journal.new
         ≡ command_with before frame.now out.old journal.old used }
 {
-    let k = journal::command_with_journal(
+    let o = journal::command_with_journal(
         peers, nodes, handles, charges, ends, entries, carried, numbers, pool, seeds, frame, out,
         journal, used,
     );
-    BusReport {
-        number: k.number,
-        len: k.len,
-        used: k.used,
-    }
+    BusReport::from(o)
 }

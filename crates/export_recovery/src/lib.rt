@@ -21,36 +21,38 @@ pub struct BusRecovery {
     pub used: usize,
 }
 
-const NO_PLACE: usize = 18446744073709551615;
+const NO_PLACE: usize = usize::MAX;
 
-fn told(r: Recovered) -> BusRecovery
-    ensures { (result.number ≡ number_in r) × (result.line ≡ line_in r) × (result.place ≡ place_in r) × (result.used ≡ used_in r) }
-{
-    match r {
-        Recovered::Whole(n, used) => BusRecovery {
-            number: 0,
-            line: n,
-            place: NO_PLACE,
-            used,
-        },
-        Recovered::Stopped(n) => BusRecovery {
-            number: EIO,
-            line: n,
-            place: NO_PLACE,
-            used: 0,
-        },
-        Recovered::Unread(n, place) => BusRecovery {
-            number: EIO,
-            line: n,
-            place,
-            used: 0,
-        },
-        Recovered::WrongLength => BusRecovery {
-            number: EIO,
-            line: 0,
-            place: NO_PLACE,
-            used: 0,
-        },
+impl From<Recovered> for BusRecovery {
+    ghost from_gives = { λ r b. (b.number ≡ number_in r) × (b.line ≡ line_in r) × (b.place ≡ place_in r) × (b.used ≡ used_in r) };
+
+    fn from(r: Recovered) -> BusRecovery {
+        match r {
+            Recovered::Whole(n, used) => BusRecovery {
+                number: 0,
+                line: n,
+                place: NO_PLACE,
+                used,
+            },
+            Recovered::Stopped(n) => BusRecovery {
+                number: EIO,
+                line: n,
+                place: NO_PLACE,
+                used: 0,
+            },
+            Recovered::Unread(n, place) => BusRecovery {
+                number: EIO,
+                line: n,
+                place,
+                used: 0,
+            },
+            Recovered::WrongLength => BusRecovery {
+                number: EIO,
+                line: 0,
+                place: NO_PLACE,
+                used: 0,
+            },
+        }
     }
 }
 
@@ -77,5 +79,5 @@ pub fn eikelzwier_recover(
     let r = recovery::recover(
         peers, nodes, handles, charges, ends, entries, carried, numbers, pool, seeds, kept,
     );
-    told(r)
+    BusRecovery::from(r)
 }

@@ -1,6 +1,6 @@
 -- One law for each return of a command with a journal, over plain variables.
 -- Assumes nothing.
-use Rattle.std.specs.Prelude.{ℕ, ◌+◌, ◌*◌, ◌-◌, ◌≤◌, ◌<◌, ◌≡◌, Bool, true, List, [], ltb, Option, Some, None, Ok, Err}
+use Rattle.std.specs.Prelude.{ℕ, ◌+◌, ◌*◌, ◌≤◌, ◌<◌, ◌≡◌, Bool, true, List, [], ltb, Option, Some, None, Ok, Err}
 use Rattle.std.proofs.Math.Path.{refl, sym}
 use Rattle.std.proofs.Common.{ap, ◌∙◌, lt-ltb, le-ltb}
 use Rattle.std.proofs.Math.Bool.{false}
@@ -17,7 +17,6 @@ use Rattle.answers.specs.declared.Outcome.{Outcome}
 use Rattle.answers.specs.Answer.{answer_size, answer_after, outcome_of}
 use Rattle.view.specs.View.{Bus}
 use Rattle.judges.specs.declared.Order.{Order}
-use Rattle.judges.specs.declared.Order.TheVariants as order
 use Rattle.judges.specs.declared.Ruling.{Ruling}
 use Rattle.judges.specs.Orders.{sight, ruling_of}
 use Rattle.bus_model.specs.Command.{Done, done_of, sound_ok, carried_out, command_of}

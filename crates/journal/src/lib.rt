@@ -19,6 +19,8 @@ use ids::{ANSWER_SIZE, EFBIG, EINVAL, EIO};
 use journal_model::JournalOutcome;
 use judges::Order;
 
+// An outcome with the journal's used length. It joins two values into a type of `journal_model`: `From` of a pair is no
+// plainer, as `(answers::write_refusal(out, EFBIG), used).into()` shows.
 fn with_used(o: Outcome, used: usize) -> JournalOutcome
     ensures { result ≡ outcome_with o used }
 {
@@ -30,15 +32,14 @@ fn with_used(o: Outcome, used: usize) -> JournalOutcome
 }
 
 // Is it an order that changes the bus: neither a refusal nor a question?
+#[tactic(auto, unfolding(journal_model::specs::Counted::changing))]
 fn is_change(order: Order) -> bool
     ensures { result ≡ changing order }
 {
-    match order {
-        Order::Refuse(_) => false,
-        Order::Quota(_, _) => false,
-        Order::Holders(_) => false,
-        _ => true,
-    }
+    !matches!(
+        order,
+        Order::Refuse(_) | Order::Quota(_, _) | Order::Holders(_)
+    )
 }
 
 // The line of a command whose order changes the bus, appended to the journal; a refusal and a question are not kept.
@@ -83,8 +84,7 @@ fn execute(
         ≡ executed_with before f.now out.old (ruling_of tables f.now c) journal.old used }
 {
     let r = judges::judge(ps, ns, hs, cs, ends, es, carried, numbers, seeds, f, c);
-    let order = r.order;
-    let Some(next) = append_line(journal, used, f, order) else {
+    let Some(next) = append_line(journal, used, f, r.order) else {
         return with_used(answers::write_refusal(out, EFBIG), used);
     };
     let o = execution::carry_out(
@@ -118,10 +118,9 @@ fn obey(
         returned_with result after out.new journal.new
         ≡ obeyed_with before f.now out.old journal.old used }
 {
-    if journal.len() < used {
-        return with_used(answers::write_refusal(out, EIO), used);
-    }
-    if !bus::is_sound(ps, ns, hs, cs, ends, es, carried, numbers, pool, seeds) {
+    if journal.len() < used
+        || !bus::is_sound(ps, ns, hs, cs, ends, es, carried, numbers, pool, seeds)
+    {
         return with_used(answers::write_refusal(out, EIO), used);
     }
     match frames::parse(f) {

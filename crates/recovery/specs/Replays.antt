@@ -1,7 +1,7 @@
 -- The code's replay, by its returns; and that its reading of the bytes kept, line by line, is the replay of their lines.
 -- Assumes nothing.
 use Prim.Native.Nat.{ℕ, zero, suc, ◌+◌, ◌-◌, ◌/◌, ◌≤◌, ◌<◌, min}
-use Rattle.std.specs.Prelude.{◌≡◌, Bool, false, take, eqb, ltb}
+use Rattle.std.specs.Prelude.{◌≡◌, Bool, false, take, eqb, ltb, Ok, Err}
 use Rattle.std.proofs.Math.Path.{refl, sym, ap}
 use Rattle.std.proofs.Common.{subst, ◌∙◌, add-one, take_at, take_all, drop-drop, ltb-true, ltb-false}
 use Rattle.std.proofs.Math.Bool.{true}
@@ -23,12 +23,12 @@ use Rattle.answers.specs.Answer.{answer_size}
 use Rattle.view.specs.View.{Bus}
 use Rattle.bus_model.specs.Command.{Done, done_of, sized_ok, command_of, fresh_bus, fresh_of, fresh_number}
 use Rattle.bus_model.specs.Apart.{any-buffer}
-use Rattle.recovery.specs.declared.Step.{Step}
-use Rattle.recovery.specs.declared.Step.TheVariants as step
+use Rattle.recovery.specs.declared.Halt.{Halt}
+use Rattle.recovery.specs.declared.Halt.TheVariants as halt
 use Rattle.journal_model.specs.declared.Recovered.{Recovered}
 use Rattle.journal_model.specs.declared.Recovered.TheVariants as found
 use Rattle.journal_model.specs.Journal.{is_question, counted, spare, replay, lines_in, used_of, Recovery, recovery_from, recovery_of, recovered, wholly}
-use Rattle.recovery.specs.Steps.{Tried, tried_of, tried, Stepped, stepped_of, frame_step, read_step, line_step, halted_at, on_next, replay_from}
+use Rattle.recovery.specs.Steps.{Tried, tried_of, tried, Step, Stepped, stepped_of, frame_step, read_step, line_step, halted_at, on_next, replay_from}
 use Rattle.journal_model.specs.Exact.{counted-any, uncounted-leaves, spare-large}
 use Rattle.frames.specs.Lengths.{longest_frame}
 
@@ -73,27 +73,27 @@ module _ (b : Bus) (fr : List ℕ) {read : LineRead} where
     kept_frame : tried_of w b' ≡ tried b (take m fr)
     kept_frame = d ∙ ap (tried b) (take-least fr m n l en)
 
-    pub read-refused : w ≡ false → stepped_of step.Refused b' ≡ read_step b fr read
+    pub read-refused : w ≡ false → stepped_of (Err halt.Refused) b' ≡ read_step b fr read
     unfolding read_step frame_step tried
     read-refused z = rw e (go (look (counted b (take m fr) spare)) kept_frame)
       where
-        go : Seen (counted b (take m fr) spare) → tried_of w b' ≡ tried b (take m fr) → stepped_of step.Refused b' ≡ frame_step b (take m fr) next
+        go : Seen (counted b (take m fr) spare) → tried_of w b' ≡ tried b (take m fr) → stepped_of (Err halt.Refused) b' ≡ frame_step b (take m fr) next
         go (is_true y) h = clash (sym (ap (λ (t : Tried). t.was) (rw y at h)) ∙ z)
-        go (is_false y) h = rw y (ap (λ (t : Tried). stepped_of step.Refused t.bus) (rw y at h))
+        go (is_false y) h = rw y (ap (λ (t : Tried). stepped_of (Err halt.Refused) t.bus) (rw y at h))
 
-    pub read_next : w ≡ true → stepped_of (step.Next next) b' ≡ read_step b fr read
+    pub read_next : w ≡ true → stepped_of (Ok next) b' ≡ read_step b fr read
     unfolding read_step frame_step tried
     read_next z = rw e (go (look (counted b (take m fr) spare)) kept_frame)
       where
-        go : Seen (counted b (take m fr) spare) → tried_of w b' ≡ tried b (take m fr) → stepped_of (step.Next next) b' ≡ frame_step b (take m fr) next
+        go : Seen (counted b (take m fr) spare) → tried_of w b' ≡ tried b (take m fr) → stepped_of (Ok next) b' ≡ frame_step b (take m fr) next
         go (is_false y) h = clash (sym z ∙ ap (λ (t : Tried). t.was) (rw y at h))
-        go (is_true y) h = rw y (ap (λ (t : Tried). stepped_of (step.Next next) t.bus) (rw y at h))
+        go (is_true y) h = rw y (ap (λ (t : Tried). stepped_of (Ok next) t.bus) (rw y at h))
 
-  pub read-bad : {place next : ℕ} → read ≡ Bad place next → stepped_of (step.Unread place) b ≡ read_step b fr read
+  pub read-bad : {place next : ℕ} → read ≡ Bad place next → stepped_of (Err (halt.Unread place)) b ≡ read_step b fr read
   unfolding read_step
   read-bad e = rw e refl
 
-  pub read-piece : {place : ℕ} → read ≡ Piece place → stepped_of step.End b ≡ read_step b fr read
+  pub read-piece : {place : ℕ} → read ≡ Piece place → stepped_of (Err halt.End) b ≡ read_step b fr read
   unfolding read_step
   read-piece e = rw e refl
 
@@ -111,10 +111,8 @@ line-stepped b s x er ef d = d ∙ rw (ef, er) (any-frame b s x [] (read_line s)
 
 -- A line that was carried out lies in the input.
 abbrev InStep : List ℕ → Step → Type 0
-InStep s (step.Next k) = (0 < k) × (k ≤ length s)
-InStep s step.End = Unit {0}
-InStep s step.Refused = Unit {0}
-InStep s (step.Unread place) = Unit {0}
+InStep s (Ok k) = (0 < k) × (k ≤ length s)
+InStep s (Err x) = Unit {0}
 
 step_in : (b : Bus) (s : List ℕ) → InStep s (line_step b s).step
 unfolding line_step read_step frame_step
@@ -137,29 +135,29 @@ module _ (s : List ℕ) {W : Recovery} (most n at : ℕ) (b : Bus) (e : W ≡ re
   replay-done h = let z : most - n ≡ 0 = omega arith in sym (e ∙ ap (λ (k : ℕ). replay_from k n at b s) z)
 
   module _ (h : n < most) {x : Step} {b' : Bus} (d : stepped_of x b' ≡ line_step b (drop at s)) where
-    turn : W ≡ on_next x (λ next. replay_from (most - (n + 1)) (n + 1) (at + next) b' s) (recovery_from (halted_at x n at) b')
+    turn : W ≡ on_next x (λ next. replay_from (most - (n + 1)) (n + 1) (at + next) b' s) (λ y. recovery_from (halted_at y n at) b')
     unfolding replay_from
     turn =
         let z : most - n ≡ suc (most - (n + 1)) = omega arith in
         e ∙ ap (λ (k : ℕ). replay_from k n at b s) z
-        ∙ sym (ap (λ (y : Stepped). on_next y.step (λ next. replay_from (most - (n + 1)) (n + 1) (at + next) y.bus s) (recovery_from (halted_at y.step n at) y.bus)) d)
+        ∙ sym (ap (λ (y : Stepped). on_next y.step (λ next. replay_from (most - (n + 1)) (n + 1) (at + next) y.bus s) (λ z. recovery_from (halted_at z n at) y.bus)) d)
 
-    pub replay-next : {k : ℕ} → x ≡ step.Next k → W ≡ replay_from (most - (n + 1)) (n + 1) (at + k) b' s
+    pub replay-next : {k : ℕ} → x ≡ Ok k → W ≡ replay_from (most - (n + 1)) (n + 1) (at + k) b' s
     replay-next {k = k} q = turn ∙ rw q refl
 
-    pub next-in : {k : ℕ} → x ≡ step.Next k → (0 < k) × (k ≤ length s - at)
+    pub next-in : {k : ℕ} → x ≡ Ok k → (0 < k) × (k ≤ length s - at)
     next-in {k = k} q =
-        let i : InStep (drop at s) (step.Next k) = subst (λ (y : Step). InStep (drop at s) y) (ap (λ (y : Stepped). y.step) (sym d) ∙ q) (step_in b (drop at s)) in
+        let i : InStep (drop at s) (Ok k) = subst (λ (y : Step). InStep (drop at s) y) (ap (λ (y : Stepped). y.step) (sym d) ∙ q) (step_in b (drop at s)) in
         (i.0, rw length-drop at i.1)
 
 -- A WHOLE RECOVERY
 
 module _ (b : Bus) (t : List ℕ) where
-  step-piece : {place : ℕ} → read_line t ≡ Piece place → line_step b t ≡ stepped_of step.End b
+  step-piece : {place : ℕ} → read_line t ≡ Piece place → line_step b t ≡ stepped_of (Err halt.End) b
   unfolding line_step read_step
   step-piece r = rw r refl
 
-  step-bad : {place next : ℕ} → read_line t ≡ Bad place next → line_step b t ≡ stepped_of (step.Unread place) b
+  step-bad : {place next : ℕ} → read_line t ≡ Bad place next → line_step b t ≡ stepped_of (Err (halt.Unread place)) b
   unfolding line_step read_step
   step-bad r = rw r refl
 
@@ -215,14 +213,14 @@ module _ (s : List ℕ) where
           let r : read_line t ≡ Piece (fault_place t) = piece-read t p in
           let x : split t ≡ parts [] t = split-piece t p in
           let u : used_of s ≡ at = at-end at o (ap (λ (y : Split). y.rest) x) in
-          let z : line_step b t ≡ stepped_of step.End b = step-piece b t r in
+          let z : line_step b t ≡ stepped_of (Err halt.End) b = step-piece b t r in
           rw (z, x, u) refl
 
       line : line_length t < length t → Seen (well_formed l) →
           ((m a : ℕ) (d : Bus) → length s ≤ a + k → OnTo a → fresh_if_stopped (replay_from k m a d s) ≡ recovery_of s (replay m d (lines_in (drop a s)))) → Goal
       line q (is_false w) ih =
           let r : read_line t ≡ Bad (fault_place l) next = read_whole t q ∙ rw w refl in
-          let z : line_step b t ≡ stepped_of (step.Unread (fault_place l)) b = step-bad b t r in
+          let z : line_step b t ≡ stepped_of (Err (halt.Unread (fault_place l))) b = step-bad b t r in
           let y : n + 1 ≡ suc n = add-one n in
           let f : line_found l ≡ bad (fault_place l) = found-bad l w in
           rw (z, first-line t q, f, y) refl
@@ -311,22 +309,23 @@ pub invariant-first : (s : List ℕ) (most : ℕ) (b : Bus) (out : List ℕ) →
 invariant-first s most b out h = record { few = omega arith; inside = omega arith; room = h; comes = let z : most ≡ most - 0 = omega arith in ap (λ (k : ℕ). replay_from k 0 0 b s) z }
 
 pub invariant-next : {s : List ℕ} {most : ℕ} {b₀ b : Bus} {out : List ℕ} {n at : ℕ} → ReplayInvariant s most b₀ b out n at → n < most → {x : Step} {b' : Bus} → stepped_of x b' ≡ line_step b (take (length s - at) (drop at s)) →
-    {k : ℕ} → x ≡ step.Next k → {out' : List ℕ} → length out' ≡ length out → ReplayInvariant s most b₀ b' out' (n + 1) (at + k)
+    {k : ℕ} → x ≡ Ok k → {out' : List ℕ} → length out' ≡ length out → ReplayInvariant s most b₀ b' out' (n + 1) (at + k)
 invariant-next {s = s} {most = most} {b = b} {n = n} {at = at} i h d q l =
     let z = next-in s most n at b i.comes h (d ∙ from-part b s at) q in
     record { few = omega arith; inside = omega (arith, z.1, i.inside); room = l ∙ i.room; comes = replay-next s most n at b i.comes h (d ∙ from-part b s at) q }
 
 pub invariant-in : {s : List ℕ} {most : ℕ} {b₀ b : Bus} {out : List ℕ} {n at : ℕ} → ReplayInvariant s most b₀ b out n at → n < most → {x : Step} {b' : Bus} → stepped_of x b' ≡ line_step b (take (length s - at) (drop at s)) →
-    {k : ℕ} → x ≡ step.Next k → at + k ≤ length s
+    {k : ℕ} → x ≡ Ok k → at + k ≤ length s
 invariant-in {s = s} {most = most} {b = b} {n = n} {at = at} i h d q = let z = next-in s most n at b i.comes h (d ∙ from-part b s at) q in omega (arith, z.1, i.inside)
 
-pub invariant-done : {s : List ℕ} {most : ℕ} {b₀ b : Bus} {out : List ℕ} {n at : ℕ} → ReplayInvariant s most b₀ b out n at → most ≤ n → recovery_from (found.Whole n at) b ≡ replay_from most 0 0 b₀ s
-invariant-done {s = s} {most = most} {b = b} {n = n} {at = at} i h = replay-done s most n at b i.comes h
+pub invariant-done : {s : List ℕ} {most : ℕ} {b₀ b : Bus} {out : List ℕ} {n at : ℕ} → ReplayInvariant s most b₀ b out n at → most ≤ n → recovery_from (found.Whole most at) b ≡ replay_from most 0 0 b₀ s
+invariant-done {s = s} {most = most} {b = b} {n = n} {at = at} i h =
+    let z : most ≡ n = omega (arith, i.few, h) in ap (λ (k : ℕ). recovery_from (found.Whole k at) b) z ∙ replay-done s most n at b i.comes h
 
 pub invariant-halts : {s : List ℕ} {most : ℕ} {b₀ b : Bus} {out : List ℕ} {n at : ℕ} → ReplayInvariant s most b₀ b out n at → n < most → {x : Step} {b' : Bus} → stepped_of x b' ≡ line_step b (take (length s - at) (drop at s)) →
-    ((A : Type 0) (f : ℕ → A) (a : A) → on_next x f a ≡ a) → {r : Recovered} → r ≡ halted_at x n at → recovery_from r b' ≡ replay_from most 0 0 b₀ s
-invariant-halts {s = s} {most = most} {b = b} {n = n} {at = at} i h {x = x} {b' = b'} d o e =
-    ap (λ (y : Recovered). recovery_from y b') e ∙ sym (turn s most n at b i.comes h (d ∙ from-part b s at) ∙ o Recovery (λ next. replay_from (most - (n + 1)) (n + 1) (at + next) b' s) (recovery_from (halted_at x n at) b'))
+    {y : Halt} → x ≡ Err y → {r : Recovered} → r ≡ halted_at y n at → recovery_from r b' ≡ replay_from most 0 0 b₀ s
+invariant-halts {s = s} {most = most} {b = b} {n = n} {at = at} i h {b' = b'} d q e =
+    ap (λ (y : Recovered). recovery_from y b') e ∙ sym (turn s most n at b i.comes h (d ∙ from-part b s at) ∙ rw q refl)
 
 -- The lengths tell whether the buffers are sized.
 pub sized_same : (b d : Bus) → length d.peers ≡ length b.peers → length d.nodes ≡ length b.nodes → length d.handles ≡ length b.handles →

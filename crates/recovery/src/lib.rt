@@ -19,14 +19,10 @@ use lines::LineRead;
 fn is_question(f: &[u8]) -> bool
     ensures { result ≡ is_question (parse f.now) }
 {
-    let Parsed::Read(c) = frames::parse(f) else {
-        return false;
-    };
-    match c {
-        Command::Quota(_, _) => true,
-        Command::Holders(_, _) => true,
-        _ => false,
-    }
+    matches!(
+        frames::parse(f),
+        Parsed::Read(Command::Quota(_, _)) | Parsed::Read(Command::Holders(_, _))
+    )
 }
 
 // A frame of a journal carried out. Where it is refused or a question, nothing is done and the result is false. The answer
@@ -61,17 +57,16 @@ fn replay_frame(
     o.number == 0
 }
 
-// What came of a line: it was carried out, and the next one starts so many characters on; there is no whole line; it was
-// refused, or is a question; or it is no frame, with the place of its fault.
-#[derive(Clone, Copy)]
-pub enum Step {
-    Next(usize),
+// What halts a replay at a line: there is no whole line; it was refused, or is a question; or it is no frame, with the place
+// of its fault.
+#[derive(Clone, Copy, Debug, PartialEq, Eq)]
+pub enum Halt {
     End,
     Refused,
     Unread(usize),
 }
 
-// What was read carried out.
+// What was read carried out: where the next line starts, as characters from this one, or what halts the replay.
 fn replay_read(
     ps: &mut [u64],
     ns: &mut [u64],
@@ -86,7 +81,7 @@ fn replay_read(
     frame: &[u8],
     read: LineRead,
     out: &mut [u8],
-) -> Step
+) -> Result<usize, Halt>
     requires { (length frame.now ≡ longest_frame) × (length out.old ≡ answer_size) }
     ensures { let before = bus_of ps.old ns.old hs.old cs.old
         ends.old es.old carried.old numbers.old pool.old seeds.old in
@@ -96,17 +91,17 @@ fn replay_read(
 {
     match read {
         LineRead::Frame(m, next) => {
-            let n = copies::least(m, FRAME_SIZE);
-            let part = &frame[..n];
-            if !replay_frame(
+            let part = &frame[..m.min(FRAME_SIZE)];
+            if replay_frame(
                 ps, ns, hs, cs, ends, es, carried, numbers, pool, seeds, part, out,
             ) {
-                return Step::Refused;
+                Ok(next)
+            } else {
+                Err(Halt::Refused)
             }
-            Step::Next(next)
         }
-        LineRead::Bad(place, _) => Step::Unread(place),
-        LineRead::Piece(_) => Step::End,
+        LineRead::Bad(place, _) => Err(Halt::Unread(place)),
+        LineRead::Piece(_) => Err(Halt::End),
     }
 }
 
@@ -125,7 +120,7 @@ fn replay_line(
     s: &[u8],
     frame: &mut [u8; FRAME_SIZE],
     out: &mut [u8],
-) -> Step
+) -> Result<usize, Halt>
     requires { length out.old ≡ answer_size }
     ensures { let before = bus_of ps.old ns.old hs.old cs.old
         ends.old es.old carried.old numbers.old pool.old seeds.old in
@@ -140,14 +135,14 @@ fn replay_line(
 }
 
 // Where a replay halts behind n lines that end at `at`.
-fn halted(step: Step, n: usize, at: usize) -> Recovered
+fn halted(halt: Halt, n: usize, at: usize) -> Recovered
     requires { n + 1 ≤ 18446744073709551615 }
-    ensures { result ≡ halted_at step n at }
+    ensures { result ≡ halted_at halt n at }
 {
-    match step {
-        Step::Refused => Recovered::Stopped(n + 1),
-        Step::Unread(place) => Recovered::Unread(n + 1, place),
-        _ => Recovered::Whole(n, at),
+    match halt {
+        Halt::End => Recovered::Whole(n, at),
+        Halt::Refused => Recovered::Stopped(n + 1),
+        Halt::Unread(place) => Recovered::Unread(n + 1, place),
     }
 }
 
@@ -175,31 +170,17 @@ fn replay_lines(
         ends.new es.new carried.new numbers.new pool.new seeds.new in
         recovery_from result after ≡ replay_from most 0 0 before kept.now }
 {
-    let mut n = 0;
     let mut at = 0;
-    while n < most {
-        let step = replay_line(
-            ps,
-            ns,
-            hs,
-            cs,
-            ends,
-            es,
-            carried,
-            numbers,
-            pool,
-            seeds,
-            &kept[at..],
-            frame,
-            out,
-        );
-        let Step::Next(k) = step else {
-            return halted(step, n, at);
-        };
-        at += k;
-        n += 1;
+    for n in 0..most {
+        let rest = &kept[at..];
+        match replay_line(
+            ps, ns, hs, cs, ends, es, carried, numbers, pool, seeds, rest, frame, out,
+        ) {
+            Ok(next) => at += next,
+            Err(halt) => return halted(halt, n, at),
+        }
     }
-    Recovered::Whole(n, at)
+    Recovered::Whole(most, at)
 }
 
 // The same with buffers of its own for a frame and for its answer.
@@ -233,10 +214,7 @@ pub fn replay(
 fn is_whole(r: Recovered) -> bool
     ensures { result ≡ wholly r }
 {
-    match r {
-        Recovered::Whole(_, _) => true,
-        _ => false,
-    }
+    matches!(r, Recovered::Whole(_, _))
 }
 
 // The bus after the whole lines of the bytes kept of a journal, from a fresh one. A line that is no frame, that is refused
@@ -263,19 +241,9 @@ pub fn recover(
     if bus::fresh(ps, ns, hs, cs, ends, es, carried, numbers, pool, seeds) != 0 {
         return Recovered::WrongLength;
     }
+    let most = kept.len();
     let r = replay(
-        ps,
-        ns,
-        hs,
-        cs,
-        ends,
-        es,
-        carried,
-        numbers,
-        pool,
-        seeds,
-        kept,
-        kept.len(),
+        ps, ns, hs, cs, ends, es, carried, numbers, pool, seeds, kept, most,
     );
     if is_whole(r) {
         return r;

@@ -16,9 +16,9 @@ use Rattle.lines.specs.declared.LineRead.TheVariants.{Frame, Bad, Piece}
 use Rattle.view.specs.View.{Bus}
 use Rattle.bus_model.specs.Command.{done_of, command_of, fresh_bus}
 use Rattle.answers.specs.declared.Outcome.{Outcome}
-use Rattle.answers.specs.Answer.{answer_size, bit}
+use Rattle.answers.specs.Answer.{answer_size}
 use Rattle.session.specs.Replies.{reply-of}
-use Rattle.session.specs.Session.{reply_to, Answered, answered_of, answered, answers_text, Served, Put, PutRead, used_by, Holds, Stopped, Serves, Serves.none, Serves.call, Session, Session.begins, Session.reads, Underway, Chunk, AllAnswered, Front, AlwaysFront, FrontWithin, PieceAnswered, GoesOn, longest}
+use Rattle.session.specs.Session.{reply_to, Answered, answered_of, answered, answers_text, Served, Put, PutRead, used_by, Holds, Serves, Serves.none, Serves.call, Session, Session.begins, Session.reads, Underway, Chunk, AllAnswered, Front, AlwaysFront, FrontWithin, PieceAnswered, GoesOn, longest}
 
 -- LINES ONE AFTER ANOTHER
 
@@ -308,15 +308,6 @@ line-took b s from at t c u f g r to er eg p eu h k =
     (took b s from at t c u to f r (subst (λ (y : LineRead). Told x f y) (sym z) (read_told x f)) (subst (λ (y : LineRead). Fits x y) (sym z) (read_fits x))
     (subst (λ (l : List ℕ). PutRead b l r t at c u to) w p) h k)
 
--- where the answering stops: at the piece, or where the next answer line might not fit
-pub stopped-piece : {b c d : Bus} {s t u v : List ℕ} {from next at : ℕ} → Served b s from 0 t c u next at → (d ≡ c) × (v ≡ u) × NoLf (drop next s) →
-    Served b s from 0 t d v next at × Stopped s t next at false
-stopped-piece h e = (rw (e.0, e.1) h, record { piece = λ x. e.2; full = λ x. clash (sym x) })
-
-pub stopped-full : {b c : Bus} {s t u : List ℕ} {from next at : ℕ} → Served b s from 0 t c u next at → length t < at + longest →
-    Served b s from 0 t c u next at × Stopped s t next at true
-stopped-full h l = (h, record { piece = λ x. clash x; full = λ x. l })
-
 -- one call more for a chunk
 pub serves_more : {s : List ℕ} {b c d : Bus} {from mid next at : ℕ} {t u w : List ℕ} → Serves s b from c mid w → Served c s mid 0 t d u next at →
     Serves s b from d next (w ++ take at u)
@@ -336,12 +327,6 @@ chunk-more k h = record { written = _; serves = serves_more k.serves h; piece = 
 
 pub chunk-all : {b c : Bus} {s : List ℕ} {next : ℕ} {x : Bool} → Chunk b s c next x → NoLf (drop next s) → Chunk b s c next true
 chunk-all k h = record { written = k.written; serves = k.serves; piece = λ z. h }
-
--- each call for a chunk comes nearer to its end, or is the last
-pub call-less : (b c : Bus) (s t u : List ℕ) (from next at : ℕ) (x y : Bool) → Served b s from 0 t c u next at → Stopped s t next at y → longest ≤ length t → x ≡ true →
-    2 * (length s - next) + bit y < 2 * (length s - from) + bit x
-call-less b c s t u from next at x true h k l e = rw e (omega (arith, goes_on_lem b c s t u from next at h k l, h.between.within))
-call-less b c s t u from next at x false h k l e = rw e (omega (arith, h.between.takes, h.between.within))
 
 -- the fresh bus, and nothing read
 pub underway-first : (b : Bus) (buf : List ℕ) → b ≡ fresh_bus → Underway b (take 0 buf)

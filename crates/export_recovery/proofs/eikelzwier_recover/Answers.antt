@@ -3,4 +3,4 @@ use Rattle.journal_model.specs.Stops.{told-as}
 use Rattle.export_recovery.proofs.eikelzwier_recover.Goals as goal
 
 pub returns : goal.returns
-returns c = let q = c.recover-r.ensures in told-as c.told.ensures q
+returns c = let q = c.recover-r.ensures in told-as c.from.ensures q

@@ -1,7 +1,5 @@
 -- `journal::append_line` meets its contract: one law for each return. Assumes nothing.
-use borrow.Author.Tests.{not-true, not-false}
 use Rattle.journal.specs.Code.{append-none, append-written}
-use borrow.Author.Rules.{rules}
 use Rattle.journal.proofs.append_line.Goals as goal
 
 pub returns-then-not-is_change : goal.returns-then-not-is_change

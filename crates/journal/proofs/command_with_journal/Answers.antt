@@ -1,6 +1,5 @@
 -- `journal::command_with_journal` meets its contract: the answer buffer is too short, or the command is obeyed. Assumes nothing.
 use Rattle.journal.specs.Code.{kept-short, kept-long}
-use borrow.Author.Rules.{rules}
 use Rattle.journal.proofs.command_with_journal.Goals as goal
 
 pub returns-then-out-lt-ANSWER_SIZE : goal.returns-then-out-lt-ANSWER_SIZE

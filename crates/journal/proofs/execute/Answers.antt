@@ -2,7 +2,6 @@
 use Rattle.bus.specs.Code.{fair-ruling}
 use Rattle.journal.specs.Code.{execute-full, execute-next}
 use native.Mathlib.Omega.{arith}
-use borrow.Author.Rules.{rules}
 use Rattle.journal.proofs.execute.Goals as goal
 
 pub judge-r-requires : goal.judge-r-requires
