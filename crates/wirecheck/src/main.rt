@@ -17,7 +17,7 @@
 ghost use Rattle.std.specs.Prelude.{◌≡◌, ◌+◌, ◌≤◌, length};
 
 use answers::{Answer, Header, Received};
-use frames::{Command, Parsed};
+use frames::Command;
 use ids::{HandleId, Peer, User};
 use lines::{LineRead, Written};
 use quota::{Charge, Charges};
@@ -172,8 +172,8 @@ fn say_fault(rt: &impl Print, place: usize) {
 
 fn judge(frame: &[u8], charges: Charges) -> Answered {
     match frames::parse(frame) {
-        Parsed::Refused(n) => kept(Answer::Refused(n), charges),
-        Parsed::Read(c) => carry_out(c, frame, charges),
+        Err(refusal) => kept(Answer::Refused(u8::from(refusal)), charges),
+        Ok(c) => carry_out(c, frame, charges),
     }
 }
 
