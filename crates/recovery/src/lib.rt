@@ -10,7 +10,7 @@ ghost use Rattle.view.specs.View.{bus_of};
 ghost use Rattle.journal_model.specs.Journal.{is_question, wholly, recovery_from, recovered};
 ghost use Rattle.recovery.specs.Steps.{tried_of, tried, stepped_of, read_step, line_step, halted_at, replay_from};
 
-use frames::{Command, Parsed};
+use frames::Command;
 use ids::{ANSWER_SIZE, FRAME_SIZE};
 use journal_model::Recovered;
 use lines::LineRead;
@@ -21,7 +21,7 @@ fn is_question(f: &[u8]) -> bool
 {
     matches!(
         frames::parse(f),
-        Parsed::Read(Command::Quota(_, _)) | Parsed::Read(Command::Holders(_, _))
+        Ok(Command::Quota(_, _)) | Ok(Command::Holders(_, _))
     )
 }
 
