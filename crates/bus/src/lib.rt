@@ -19,6 +19,7 @@ use ids::{
     ENTRIES_SIZE, GIVEN_END, HANDLES_SIZE, NODES_SIZE, NUMBERS_SIZE, PEER_FIELDS, PEERS,
     PEERS_SIZE, POOL_SIZE, RING, SEEDS_SIZE,
 };
+use rings::RingTables;
 
 // The rows of a ring as a number of the table of heads and lengths.
 const RING_ROWS: u16 = RING as u16;
@@ -133,10 +134,14 @@ fn execute(
         done_of result after out.new
         ≡ carried_out before f.now out.old (ruling_of tables f.now c) }
 {
-    let r = judges::judge(ps, ns, hs, cs, ends, entries, carried, numbers, seeds, f, c);
-    execution::carry_out(
-        ps, ns, hs, cs, ends, entries, carried, numbers, pool, seeds, f, r, out,
-    )
+    let mut rings = RingTables {
+        ends,
+        entries,
+        carried,
+        numbers,
+    };
+    let r = judges::judge(ps, ns, hs, cs, &rings, seeds, f, c);
+    execution::carry_out(ps, ns, hs, cs, &mut rings, pool, seeds, f, r, out)
 }
 
 // A command into an answer buffer that is long enough.

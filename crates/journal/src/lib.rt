@@ -18,6 +18,7 @@ use frames::Command;
 use ids::{ANSWER_SIZE, EFBIG, EINVAL, EIO};
 use journal_model::JournalOutcome;
 use judges::Order;
+use rings::RingTables;
 
 // An outcome with the journal's used length. It joins two values into a type of `journal_model`: `From` of a pair is no
 // plainer, as `(answers::write_refusal(out, EFBIG), used).into()` shows.
@@ -83,13 +84,17 @@ fn execute(
         returned_with result after out.new journal.new
         ≡ executed_with before f.now out.old (ruling_of tables f.now c) journal.old used }
 {
-    let r = judges::judge(ps, ns, hs, cs, ends, es, carried, numbers, seeds, f, c);
+    let mut rings = RingTables {
+        ends,
+        entries: es,
+        carried,
+        numbers,
+    };
+    let r = judges::judge(ps, ns, hs, cs, &rings, seeds, f, c);
     let Some(next) = append_line(journal, used, f, r.order) else {
         return with_used(answers::write_refusal(out, EFBIG), used);
     };
-    let o = execution::carry_out(
-        ps, ns, hs, cs, ends, es, carried, numbers, pool, seeds, f, r, out,
-    );
+    let o = execution::carry_out(ps, ns, hs, cs, &mut rings, pool, seeds, f, r, out);
     with_used(o, next)
 }
 

@@ -2,10 +2,11 @@
 use Rattle.bus.specs.Code.{fair-ruling}
 use Rattle.journal.specs.Code.{execute-full, execute-next}
 use native.Mathlib.Omega.{arith}
+use borrow.Author.Rules.{rules}
 use Rattle.journal.proofs.execute.Goals as goal
 
 pub judge-r-requires : goal.judge-r-requires
-judge-r-requires c = let z = c.requires.0 in (z.peers, z.nodes, z.handles, z.charges, record { ends = z.ends; rows = z.rows }, c.requires.1, z.seeds, c.requires.2)
+judge-r-requires c = let z = c.requires.0 in (z.peers, z.nodes, z.handles, z.charges, c.requires.1, z.seeds, c.requires.2)
 
 pub write_refusal-requires : goal.write_refusal-requires
 write_refusal-requires c = c.requires.3
@@ -20,4 +21,4 @@ pub shape_of-journal : goal.shape_of-journal
 shape_of-journal c = omega (arith, c.append_line.auto.journal)
 
 pub returns : goal.returns
-returns c = execute-next _ _ _ _ _ c.judge-r.ensures c.append_line.ensures c.in-Some.is c.carry_out-o.ensures c.with_used-2.ensures
+returns c = search (rules, execute-next _ _ _ _ _ c.judge-r.ensures c.append_line.ensures c.in-Some.is c.carry_out-o.ensures.done c.with_used-2.ensures)
