@@ -1,5 +1,6 @@
 -- What document 01 promises, of runs of calls of the code (Calls): of each call nothing is known but what the function's own contract ensures.
 -- Assumes nothing.
+use Rattle.std.specs.Prelude.{Ok}
 use Prim.Native.Nat.{ℕ, suc, ◌-◌, ◌^◌, ◌%◌, ◌≤◌, ◌<◌}
 use mathlib.Core.Path.{◌≡◌, refl, sym, ap, subst, ◌∙◌}
 use mathlib.Core.Bool.{true, false}
@@ -14,7 +15,6 @@ use Rattle.laws.specs.Weights.{All, all-imp}
 use Rattle.ids.specs.Refusals.{EIO, EINVAL, EAGAIN}
 use Rattle.ids.specs.declared.Peer.{Peer}
 use Rattle.frames.specs.declared.Command.TheVariants.{ShowSeed}
-use Rattle.frames.specs.declared.Parsed.TheVariants.{Read}
 use Rattle.frames.specs.Frame.{opcode, parse}
 use Rattle.answers.specs.declared.Outcome.{Outcome}
 use Rattle.answers.specs.Answer.{answer_size}
@@ -153,7 +153,7 @@ module _ (hs : List Exchange) (b : Bus) (t : Calls hs b) where
   shows-last-seed-of-calls xs ys x e = shows-last-seed xs ys x (cut_at (xs ++ (x ∷ ys)) e)
 
   -- 0c is 11 exactly where there is no such 07 and no row before it in the order applies.
-  pub none-gives-eleven-of-calls : (xs ys : List Fed) (x : Fed) → history_of hs ≡ xs ++ (x ∷ ys) → (p : Peer) (room : ℕ) → parse x.frame ≡ Read (ShowSeed p room) →
+  pub none-gives-eleven-of-calls : (xs ys : List Fed) (x : Fed) → history_of hs ≡ xs ++ (x ∷ ys) → (p : Peer) (room : ℕ) → parse x.frame ≡ Ok (ShowSeed p room) →
       (x.number ≡ EAGAIN → LastSeed xs p.0 → ⊥)
       × ((LastSeed xs p.0 → ⊥) → (x.number ≡ EINVAL → ⊥) → tally xs < 2 ^ 40 - 1 → stands_in xs p.0 ≡ opened → x.number ≡ EAGAIN)
   none-gives-eleven-of-calls xs ys x e = none-gives-eleven xs ys x (cut_at (xs ++ (x ∷ ys)) e)

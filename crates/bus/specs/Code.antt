@@ -1,7 +1,7 @@
 -- One law for each return of the code that a definition does not say at once, over plain variables.
 -- Assumes nothing.
 use Prim.Native.Nat.{ℕ, zero, suc, ◌+◌, ◌*◌, ◌≤◌, ◌<◌}
-use Rattle.std.specs.Prelude.{◌≡◌, Bool, List, length, get_or, replicate, ltb, leb}
+use Rattle.std.specs.Prelude.{◌≡◌, Bool, List, length, get_or, replicate, ltb, leb, Ok, Err}
 use Rattle.std.proofs.Math.Path.{refl, sym, ap}
 use Rattle.std.proofs.Common.{subst, ◌∙◌}
 use Rattle.std.proofs.Math.Bool.{true, false}
@@ -13,11 +13,10 @@ use Rattle.model.specs.Occurs.{both_true}
 use Rattle.view.specs.View.{Bus, bus_of, Shape}
 use Rattle.rings.specs.Rings.{ring_size, length_of}
 use Rattle.queues.specs.Queues.{Short}
-use Rattle.ids.specs.Refusals.{EIO}
+use Rattle.ids.specs.Refusals.{EIO, refusal_number}
+use Rattle.ids.specs.declared.Refusal.{Refusal}
 use Rattle.frames.specs.declared.Command.{Command}
-use Rattle.frames.specs.declared.Parsed.{Parsed}
-use Rattle.frames.specs.declared.Parsed.TheVariants.{Read, Refused}
-use Rattle.frames.specs.Frame.{parse}
+use Rattle.frames.specs.Frame.{parse, Parsed}
 use Rattle.frames.specs.Legal.{Legal}
 use Rattle.answers.specs.declared.Answer.TheVariants.{Refused as is_refused}
 use Rattle.answers.specs.declared.Outcome.{Outcome}
@@ -117,11 +116,11 @@ module _ (b : Bus) (f out : List ℕ) where
     not_sound n w = rw (le-ltb (length out) answer_size h, ← e, n, w.0, w.1)
 
     module _ (t : r ≡ true) {x : Parsed} (ex : x ≡ parse f) where
-      pub not-read : {n : ℕ} → x ≡ Refused n → {o : Outcome} {out' : List ℕ} → Written (is_refused n) out o out' → done_of o b out' ≡ command_of b f out
+      pub not-read : {n : Refusal} → x ≡ Err n → {m : ℕ} → m ≡ refusal_number n → {o : Outcome} {out' : List ℕ} → Written (is_refused m) out o out' → done_of o b out' ≡ command_of b f out
       unfolding command_of
-      not-read en w = rw (le-ltb (length out) answer_size h, ← e, t, ← ex, en, w.0, w.1)
+      not-read en em w = rw (le-ltb (length out) answer_size h, ← e, t, ← ex, en, ← em, w.0, w.1)
 
-      pub was_read : {c : Command} → x ≡ Read c → {d : Done} →
+      pub was_read : {c : Command} → x ≡ Ok c → {d : Done} →
           d ≡ carried_out b f out (ruling_of (sight b.peers b.nodes b.handles b.charges b.rings b.seeds) f c) → d ≡ command_of b f out
       unfolding command_of
       was_read ec k = rw (le-ltb (length out) answer_size h, ← e, t, ← ex, ec) k

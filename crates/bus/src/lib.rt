@@ -13,7 +13,7 @@ ghost use Rattle.ids.specs.Sizes.{peers as peer_count, peers_size, ends_size};
 ghost use Rattle.bus_model.specs.Command.{sized_ok, peer_ok, ranges_ok, sound_ok, done_of, carried_out, command_of, fresh_of, fresh_number};
 
 use answers::Outcome;
-use frames::{Command, Parsed};
+use frames::Command;
 use ids::{
     ACCEPTED_END, ANSWER_SIZE, CARRIED_SIZE, CHARGES_SIZE, EINVAL, EIO, END_FIELDS, ENDS_SIZE,
     ENTRIES_SIZE, GIVEN_END, HANDLES_SIZE, NODES_SIZE, NUMBERS_SIZE, PEER_FIELDS, PEERS,
@@ -165,8 +165,8 @@ fn obey(
         return answers::write_refusal(out, EIO);
     }
     match frames::parse(f) {
-        Parsed::Refused(n) => answers::write_refusal(out, n),
-        Parsed::Read(c) => execute(
+        Err(refusal) => answers::write_refusal(out, u8::from(refusal)),
+        Ok(c) => execute(
             ps, ns, hs, cs, ends, entries, carried, numbers, pool, seeds, f, c, out,
         ),
     }

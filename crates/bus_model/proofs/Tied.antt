@@ -1,13 +1,12 @@
 -- The theorems that go with specs/Tie.antt and stand on others: each goes by the definitions and the theorems there.
 -- Assumes nothing.
-use Rattle.std.specs.Prelude.{ℕ, zero, suc, ◌≤◌, ◌<◌, ◌≡◌, true, false, List, [], length, eqb, ltb}
+use Rattle.std.specs.Prelude.{ℕ, zero, suc, ◌≤◌, ◌<◌, ◌≡◌, true, false, List, [], length, eqb, ltb, Ok, Err}
 use Rattle.std.proofs.Math.Path.{refl}
 use Rattle.std.proofs.Common.{arith, lt-ltb, eqb-true}
 use Rattle.laws.specs.Tests.{Seen, Seen.is_true, Seen.is_false, look}
+use Rattle.ids.specs.Refusals.{refusal_number}
 use Rattle.frames.specs.declared.Command.{Command}
-use Rattle.frames.specs.declared.Parsed.{Parsed}
-use Rattle.frames.specs.declared.Parsed.TheVariants.{Read, Refused}
-use Rattle.frames.specs.Frame.{parse}
+use Rattle.frames.specs.Frame.{parse, Parsed}
 use Rattle.frames.specs.Legal.{Legal}
 use Rattle.frames.proofs.Legal.{legal-command}
 use Rattle.answers.specs.declared.Answer.TheVariants.{Refused as is_refused}
@@ -50,8 +49,8 @@ module _ (b : Bus) (shape : Shape b) (raw : Raw b) (g : Good (state_of b)) (list
 
   parsed-same : (f out : List ℕ) (x : Parsed) → parse f ≡ x → ltb (length out) answer_size ≡ false →
       SameAs (obeyed b f out x) (finish (state_of b) out (judge (state_of b) f x))
-  parsed-same f out (Refused n) p e = refused-same n f out e
-  parsed-same f out (Read k) p e =
+  parsed-same f out (Err r) p e = refused-same (refusal_number r) f out e
+  parsed-same f out (Ok k) p e =
       rw (ruling-same b shape g lists f k (legal-command f k p)) (read_same f out k (legal-command f k p) e (look (eqb (refusal (state_of b) f k) 0)))
 
   -- A short answer buffer.

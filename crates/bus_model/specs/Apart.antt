@@ -2,15 +2,13 @@
 -- afterwards are the same for two such buffers. Of a call on any bus, not of runs alone.
 -- Assumes nothing.
 use Prim.Native.Nat.{ℕ, ◌≤◌}
-use Rattle.std.specs.Prelude.{◌≡◌, refl, false, length, take, drop, ltb}
+use Rattle.std.specs.Prelude.{◌≡◌, refl, false, length, take, drop, ltb, Ok, Err}
 use Rattle.std.proofs.Math.Path.{sym}
 use Rattle.std.proofs.Common.{◌∙◌, le-ltb}
 use mathlib.Core.List.{List, []}
 use Rattle.std.proofs.Math.Seq.{take-append_seam}
 use Rattle.laws.specs.Tests.{Seen, Seen.is_true, Seen.is_false, look}
-use Rattle.frames.specs.declared.Parsed.{Parsed}
-use Rattle.frames.specs.declared.Parsed.TheVariants.{Read, Refused}
-use Rattle.frames.specs.Frame.{parse}
+use Rattle.frames.specs.Frame.{parse, Parsed}
 use Rattle.answers.specs.declared.Answer.{Answer}
 use Rattle.answers.specs.Answer.{answer_size, answer_bytes, answer_after, outcome_of}
 use Rattle.rings.specs.Rings.{first_of}
@@ -71,8 +69,8 @@ module _ (x y : List ℕ) (l : ltb (length x) answer_size ≡ false) (m : ltb (l
 
   alike-obeyed : (b : Bus) (f : List ℕ) (r : Parsed) → Alike (obeyed b f x r) (obeyed b f y r)
   unfolding carried_out
-  alike-obeyed b f (Refused n) = alike-written _ b [] []
-  alike-obeyed b f (Read k) =
+  alike-obeyed b f (Err r) = alike-written _ b [] []
+  alike-obeyed b f (Ok k) =
       let r = ruling_of (sight b.peers b.nodes b.handles b.charges b.rings b.seeds) f k in
       alike-carried b f r.order r.places
 

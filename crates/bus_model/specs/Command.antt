@@ -1,13 +1,11 @@
 -- What a command does to the lent buffers, for any contents: the number, the bus and the answer buffer afterwards. And what a fresh bus is.
 -- Assumes nothing.
-use Rattle.std.specs.Prelude.{ℕ, zero, suc, ◌+◌, ◌<◌, ◌≤◌, Bool, true, List, [], length, get_or, replicate, eqb, ltb, leb}
+use Rattle.std.specs.Prelude.{ℕ, zero, suc, ◌+◌, ◌<◌, ◌≤◌, Bool, true, List, [], length, get_or, replicate, eqb, ltb, leb, Ok, Err}
 use Rattle.laws.specs.Tests.{pick}
-use Rattle.ids.specs.Refusals.{EINVAL, EIO}
+use Rattle.ids.specs.Refusals.{EINVAL, EIO, refusal_number}
 use Rattle.ids.specs.Sizes.{peers, most_ids, accepted_end, given_end, peers_size, nodes_size, seeds_size}
 use Rattle.model.specs.Numbers.{nodes}
-use Rattle.frames.specs.declared.Parsed.{Parsed}
-use Rattle.frames.specs.declared.Parsed.TheVariants.{Read, Refused}
-use Rattle.frames.specs.Frame.{parse, payload_of}
+use Rattle.frames.specs.Frame.{parse, payload_of, Parsed}
 use Rattle.quota.specs.Charges.{balance_of}
 use Rattle.answers.specs.declared.Answer.{Answer}
 use Rattle.answers.specs.declared.Answer.TheVariants.{Refused as is_refused, Done as is_done, Transferred as is_transferred, Quota as is_quota, Holders as is_holders}
@@ -121,8 +119,8 @@ carried_out b f out r = carried b f out r.order r.places
 
 -- A frame's command judged and carried out, or the frame's refusal.
 abbrev pub obeyed : Bus → List ℕ → List ℕ → Parsed → Done
-obeyed b f out (Refused n) = refused_by n b out
-obeyed b f out (Read c) = carried_out b f out (ruling_of (sight b.peers b.nodes b.handles b.charges b.rings b.seeds) f c)
+obeyed b f out (Err r) = refused_by (refusal_number r) b out
+obeyed b f out (Ok c) = carried_out b f out (ruling_of (sight b.peers b.nodes b.handles b.charges b.rings b.seeds) f c)
 
 -- "Order: answer buffer; EIO; .."
 unfoldable pub command_of : Bus → List ℕ → List ℕ → Done

@@ -1,17 +1,15 @@
 -- What document 01 demands, said of exchanges and buses: no command of a run is answered 5; the third demand; IDs are never given twice, and two handles of a peer have two;
 -- a refusal leaves the buffers alone.
 -- Assumes nothing.
-use Rattle.std.specs.Prelude.{ℕ, ◌+◌, ◌*◌, ◌≤◌, ◌<◌, ◌≡◌, refl, true, false, List, [], ◌∷◌, ◌++◌, map, length, take, drop, eqb, ltb, leb}
+use Rattle.std.specs.Prelude.{ℕ, ◌+◌, ◌*◌, ◌≤◌, ◌<◌, ◌≡◌, refl, true, false, List, [], ◌∷◌, ◌++◌, map, length, take, drop, eqb, ltb, leb, Ok, Err}
 use Rattle.std.proofs.Common.{sym, ap, ap₂, ◌∙◌, arith, ltb-true, ltb-false}
 use Rattle.std.proofs.Math.Logic.◌⊎◌.{inl, inr}
-use Rattle.ids.specs.Refusals.{EINVAL, EIO, EOVERFLOW, EEXIST, ENXIO, EPERM, EHOSTUNREACH, ENOSPC, EDQUOT, ERANGE}
+use Rattle.ids.specs.Refusals.{EINVAL, EIO, EOVERFLOW, EEXIST, ENXIO, EPERM, EHOSTUNREACH, ENOSPC, EDQUOT, ERANGE, refusal_number}
 use Rattle.laws.specs.Tests.{pick_all, Seen, Seen.is_true, Seen.is_false, look}
 use Rattle.laws.specs.Weights.{All}
 use Rattle.frames.specs.declared.Command.{Command}
 use Rattle.frames.specs.declared.Command.TheVariants.{Open, Disconnect, Create, Destroy, Release, Transfer, Send, Receive, Quota, Holders, ShowSeed}
-use Rattle.frames.specs.declared.Parsed.{Parsed}
-use Rattle.frames.specs.declared.Parsed.TheVariants.{Read, Refused}
-use Rattle.frames.specs.Frame.{parse, payload_of}
+use Rattle.frames.specs.Frame.{parse, payload_of, Parsed}
 use Rattle.frames.specs.Legal.{Outcome as Read-as}
 use Rattle.frames.proofs.Legal.{legal}
 use Rattle.answers.specs.declared.Answer.{Answer}
@@ -149,10 +147,10 @@ step-not-five b c e = go (look (ltb (length c.buffer) answer_size)) (parse c.fra
 
     go : Seen (ltb (length c.buffer) answer_size) → (x : Parsed) → parse c.frame ≡ x → Read-as c.frame x → ⊥
     go (is_true s) x p l = omega (arith, rw s at e)
-    go (is_false s) (Refused n) p (inl h) = omega (arith, rw (s, p) at e)
-    go (is_false s) (Refused n) p (inr (inl h)) = omega (arith, rw (s, p) at e)
-    go (is_false s) (Refused n) p (inr (inr h)) = omega (arith, rw (s, p) at e)
-    go (is_false s) (Read k) p l = on k (rw (s, p) at e) (look (eqb (refusal b c.frame k) 0))
+    go (is_false s) (Err r) p (inl h) = omega (arith, ap refusal_number h, rw (s, p) at e)
+    go (is_false s) (Err r) p (inr (inl h)) = omega (arith, ap refusal_number h, rw (s, p) at e)
+    go (is_false s) (Err r) p (inr (inr h)) = omega (arith, ap refusal_number h, rw (s, p) at e)
+    go (is_false s) (Ok k) p l = on k (rw (s, p) at e) (look (eqb (refusal b c.frame k) 0))
 
 -- The exchanges of a run feed the book what the model's calls feed it.
 pub fed-as : (st : State) (x : Exchange) → As-model st x → fed_of x ≡ fed x.call (step st x.call)
@@ -205,8 +203,8 @@ left-carried b f out (order.Holders s) w e h = absurd (h (zero_number _ [] [] ou
 
 left-obeyed : (b : Bus) (f out : List ℕ) (x : Parsed) → ltb (length out) answer_size ≡ false → ((obeyed b f out x).outcome.number ≡ 0 → ⊥) → Left b out (obeyed b f out x)
 unfolding carried_out
-left-obeyed b f out (Refused n) e h = left-refused n b out e
-left-obeyed b f out (Read k) e h =
+left-obeyed b f out (Err r) e h = left-refused (refusal_number r) b out e
+left-obeyed b f out (Ok k) e h =
     let r = ruling_of (sight b.peers b.nodes b.handles b.charges b.rings b.seeds) f k in
     left-carried b f out r.order r.places e h
 

@@ -1,16 +1,16 @@
 -- "5 EIO: a lent bus buffer lacks its exact length, or a number stored there is out of its range; docs/ lists each length and range": docs/BUFFERS.md's lists, with its
 -- numbers and places written out, and that 5 is given exactly where one of them is not kept.
 -- Assumes nothing.
-use Rattle.std.specs.Prelude.{ℕ, ◌+◌, ◌*◌, ◌^◌, ◌≤◌, ◌<◌, ◌≡◌, refl, true, false, List, [], length, get_or, eqb, ltb, leb}
-use Rattle.std.proofs.Common.{sym, ◌∙◌, arith, ltb-true, leb-true}
+use Rattle.ids.specs.Refusals.{refusal_number}
+use Rattle.frames.specs.Frame.{Parsed}
+use Rattle.std.specs.Prelude.{ℕ, ◌+◌, ◌*◌, ◌^◌, ◌≤◌, ◌<◌, ◌≡◌, refl, true, false, List, [], length, get_or, eqb, ltb, leb, Ok, Err}
+use Rattle.std.proofs.Common.{sym, ◌∙◌, arith, ltb-true, leb-true, ap}
 use Rattle.std.proofs.Math.Logic.◌⊎◌.{inl, inr}
 use Rattle.laws.specs.Tests.{pick_all, clash, Seen, Seen.is_true, Seen.is_false, look}
 use Rattle.ids.specs.Sizes.{ring_size, end_fields, given_end}
 use Rattle.tables.specs.Peers.{peer_row}
 use Rattle.frames.specs.declared.Command.{Command}
 use Rattle.frames.specs.declared.Command.TheVariants.{Open, Disconnect, Create, Destroy, Release, Transfer, Send, Receive, Quota, Holders, ShowSeed}
-use Rattle.frames.specs.declared.Parsed.{Parsed}
-use Rattle.frames.specs.declared.Parsed.TheVariants.{Read, Refused}
 use Rattle.frames.specs.Legal.{Outcome as Read-as}
 use Rattle.answers.specs.Answer.{answer_size, outcome_of}
 use Rattle.model.specs.Lists.{both}
@@ -138,7 +138,7 @@ module _ (b : Bus) (f out : List ℕ) (e : ltb (length out) answer_size ≡ fals
   unfolding outcome_of
   refused-number n = rw e
 
-  read-not-five : (c : Command) → NotFive (obeyed b f out (Read c)).outcome.number
+  read-not-five : (c : Command) → NotFive (obeyed b f out (Ok c)).outcome.number
   unfolding carried_out ruling_of
   read-not-five c =
       let n = refusal_by v.find v.free v.state f c in
@@ -147,10 +147,10 @@ module _ (b : Bus) (f out : List ℕ) (e : ltb (length out) answer_size ≡ fals
       (λ z. refusal-not-five v.find v.free v.state f c (sym (refused-number n) ∙ z))
 
   pub obeyed-not-five : (x : Parsed) → Read-as f x → NotFive (obeyed b f out x).outcome.number
-  obeyed-not-five (Read c) h z = read-not-five c z
-  obeyed-not-five (Refused n) (inl h) z = omega (arith, refused-number n)
-  obeyed-not-five (Refused n) (inr (inl h)) z = omega (arith, refused-number n)
-  obeyed-not-five (Refused n) (inr (inr h)) z = omega (arith, refused-number n)
+  obeyed-not-five (Ok c) h z = read-not-five c z
+  obeyed-not-five (Err r) (inl h) z = omega (arith, ap refusal_number h, refused-number (refusal_number r))
+  obeyed-not-five (Err r) (inr (inl h)) z = omega (arith, ap refusal_number h, refused-number (refusal_number r))
+  obeyed-not-five (Err r) (inr (inr h)) z = omega (arith, ap refusal_number h, refused-number (refusal_number r))
 
 pub fresh-five : FreshFive
 unfolding fresh_number

@@ -1,6 +1,6 @@
 -- What a call leaves alone, on any bus, of a run or not: the answer buffer behind the answer's length, and, for a question, every byte of the bus. And the answer's first byte is the number.
 -- Assumes nothing.
-use Rattle.std.specs.Prelude.{ℕ, suc, ◌≤◌, ◌<◌, ◌≡◌, refl, ◌⊎◌, List, [], ◌∷◌, ◌++◌, length, get_or, take, drop, eqb, ltb}
+use Rattle.std.specs.Prelude.{ℕ, suc, ◌≤◌, ◌<◌, ◌≡◌, refl, ◌⊎◌, List, [], ◌∷◌, ◌++◌, length, get_or, take, drop, eqb, ltb, Ok, Err}
 use Rattle.std.proofs.Common.{sym, ap, ◌∙◌, arith, length-append, length-drop, ltb-false}
 use Rattle.std.proofs.Math.Logic.◌⊎◌.{inl, inr}
 use Rattle.std.proofs.Math.Seq.{take-append_seam, drop-append_seam}
@@ -8,9 +8,7 @@ use Rattle.laws.specs.Tests.{pick_all, Seen, Seen.is_true, Seen.is_false, look}
 use Rattle.ids.specs.Refusals.{EINVAL}
 use Rattle.frames.specs.declared.Command.{Command}
 use Rattle.frames.specs.declared.Command.TheVariants.{Open, Disconnect, Create, Destroy, Release, Transfer, Send, Receive, Quota, Holders, ShowSeed}
-use Rattle.frames.specs.declared.Parsed.{Parsed}
-use Rattle.frames.specs.declared.Parsed.TheVariants.{Read, Refused}
-use Rattle.frames.specs.Frame.{opcode, parse}
+use Rattle.frames.specs.Frame.{opcode, parse, Parsed}
 use Rattle.answers.specs.declared.Answer.{Answer}
 use Rattle.answers.specs.Answer.{answer_size, number_of, contents_of, answer_bytes, answer_after, outcome_of}
 use Rattle.answers.specs.AnswerLaws.{contents-size}
@@ -98,8 +96,8 @@ written-carried b f out (order.Holders s) w = written _ [] [] out
 
 written-obeyed : (b : Bus) (f out : List ℕ) (x : Parsed) → WrittenBy out (obeyed b f out x)
 unfolding carried_out
-written-obeyed b f out (Refused n) = written _ [] [] out
-written-obeyed b f out (Read k) =
+written-obeyed b f out (Err r) = written _ [] [] out
+written-obeyed b f out (Ok k) =
     let r = ruling_of (sight b.peers b.nodes b.handles b.charges b.rings b.seeds) f k in
     written-carried b f out r.order r.places
 
@@ -127,7 +125,7 @@ seed-no-question : Asks 12 → ⊥
 seed-no-question (inl e) = omega arith
 seed-no-question (inr e) = omega arith
 
-asked : (b : Bus) (f out : List ℕ) (k : Command) → Asks (code k) → (obeyed b f out (Read k)).bus ≡ b
+asked : (b : Bus) (f out : List ℕ) (k : Command) → Asks (code k) → (obeyed b f out (Ok k)).bus ≡ b
 unfolding carried_out ruling_of
 asked b f out (Open p u) a = absurd (no-question (omega arith) a)
 asked b f out (Disconnect p) a = absurd (no-question (omega arith) a)
@@ -146,8 +144,8 @@ asked b f out (Holders p i) a =
     pick_all (λ (r : Ruling). (carried b f out r.order r.places).bus ≡ b) (eqb (refusal_by v.find v.free v.state f (Holders p i)) 0) _ _ refl refl
 
 asked-frame : (b : Bus) (f out : List ℕ) → Asks (opcode f) → (x : Parsed) → parse f ≡ x → (obeyed b f out x).bus ≡ b
-asked-frame b f out a (Refused n) e = refl
-asked-frame b f out a (Read k) e = asked b f out k (rw (coded f k e).byte at a)
+asked-frame b f out a (Err r) e = refl
+asked-frame b f out a (Ok k) e = asked b f out k (rw (coded f k e).byte at a)
 
 pub code-questions : CodeQuestions
 unfolding command_of

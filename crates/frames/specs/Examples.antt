@@ -2,8 +2,7 @@
 -- Assumes nothing.
 use Rattle.std.specs.Prelude.{ℕ, ◌≡◌, refl, List, [], ◌∷◌, map}
 use Rattle.laws.specs.Bytes.{num_at}
-use Rattle.frames.specs.declared.Parsed.{Parsed}
-use Rattle.frames.specs.declared.Parsed.TheVariants.{Read, Refused}
+use Rattle.ids.specs.Refusals.{refused}
 use Rattle.frames.specs.Frame.{parse, parse_send, parse_sizes, parse_other, parse_rest, parse_open, parse_create, parse_transfer, parse_quota, frame_length, short_at, id_at}
 
 pub record Example : Type 0 where
@@ -12,11 +11,6 @@ pub record Example : Type 0 where
 
 abbrev answers : List ℕ → ℕ → Example
 answers f n = record { frame = f; number = n }
-
--- 0 for a frame that is read.
-unfoldable pub number_of : Parsed → ℕ
-number_of (Read c) = 0
-number_of (Refused n) = n
 
 abbrev pub examples : List Example
 examples =
@@ -61,6 +55,6 @@ examples =
     ∷ answers (6 ∷ 0 ∷ 0 ∷ 0 ∷ 0 ∷ 0 ∷ 0 ∷ 0 ∷ 0 ∷ 7 ∷ 8 ∷ []) 22
     ∷ []
 
-pub examples-hold : map (λ e. number_of (parse e.frame)) examples ≡ map (λ e. e.number) examples
-unfolding number_of parse parse_send parse_sizes parse_other parse_rest parse_open parse_create parse_transfer parse_quota frame_length short_at id_at num_at
+pub examples-hold : map (λ e. refused (parse e.frame)) examples ≡ map (λ e. e.number) examples
+unfolding parse parse_send parse_sizes parse_other parse_rest parse_open parse_create parse_transfer parse_quota frame_length short_at id_at num_at
 examples-hold = refl

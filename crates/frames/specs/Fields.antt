@@ -1,17 +1,15 @@
 -- Where a command that was read stands in its frame: its command byte, its acting peer, and the fields that are read off the frame again.
 -- Callers use this law and never the text of `parse`.
 -- Assumes nothing.
-use Rattle.std.specs.Prelude.{ℕ, suc, ◌%◌, ◌≤◌, ◌≡◌, refl, Bool, true, List, length, get_or, eqb, ltb}
+use Rattle.std.specs.Prelude.{ℕ, suc, ◌%◌, ◌≤◌, ◌≡◌, refl, Bool, true, List, length, get_or, eqb, ltb, Ok, Err}
 use Rattle.std.proofs.Common.{arith, eqb-true}
 use Rattle.std.proofs.lemmas.Bool.{eqb-false}
-use Rattle.ids.specs.Refusals.{EINVAL, EMSGSIZE}
+use Rattle.ids.specs.declared.Refusal.TheVariants.{EINVAL, EMSGSIZE}
 use Rattle.laws.specs.Tests.{pick, pick-cases, pick_all}
 use Rattle.ids.specs.declared.Peer.{Peer}
 use Rattle.frames.specs.declared.Command.{Command}
 use Rattle.frames.specs.declared.Command.TheVariants.{Open, Disconnect, Create, Destroy, Release, Transfer, Send, Receive, Quota, Holders, ShowSeed}
-use Rattle.frames.specs.declared.Parsed.{Parsed}
-use Rattle.frames.specs.declared.Parsed.TheVariants.{Read, Refused}
-use Rattle.frames.specs.Frame.{last_peer, last_user, oversized, send_length, short_at, opcode, peer_at, id_at, parse_sizes, parse_send, parse_open, parse_create, parse_transfer, parse_quota, parse_rest}
+use Rattle.frames.specs.Frame.{last_peer, last_user, oversized, send_length, short_at, opcode, peer_at, id_at, parse_sizes, parse_send, parse_open, parse_create, parse_transfer, parse_quota, parse_rest, Parsed}
 
 -- The command byte and the acting peer.
 pub record Acts (f : List ℕ) (op : ℕ) (p : Peer) : Type 0 where
@@ -32,11 +30,11 @@ Fields f (Holders p i) = Acts f 10 p × (i ≡ id_at f 2)
 Fields f (ShowSeed p r) = Acts f 12 p
 
 abbrev pub InFrame : List ℕ → Parsed → Type 0
-InFrame f (Read c) = Fields f c
-InFrame f (Refused n) = Unit {0}
+InFrame f (Ok c) = Fields f c
+InFrame f (Err n) = Unit {0}
 
-pub unless : (f : List ℕ) (bad : Bool) (r : Parsed) → InFrame f r → InFrame f (pick bad (Refused EINVAL) r)
-unless f bad r h = pick_all (InFrame f) bad (Refused EINVAL) r tt h
+pub unless : (f : List ℕ) (bad : Bool) (r : Parsed) → InFrame f r → InFrame f (pick bad (Err EINVAL) r)
+unless f bad r h = pick_all (InFrame f) bad (Err EINVAL) r tt h
 
 pub fields-send : (f : List ℕ) → opcode f ≡ 7 → InFrame f (parse_send f)
 unfolding parse_send parse_sizes
@@ -47,7 +45,7 @@ fields-send f o =
     let nb = short_at f 4 in
     unless f (ltb (length f) 6) _
     (unless f (ltb last_peer (get_or f 1 0)) _
-    (pick_all (InFrame f) (oversized nd nh nb) (Refused EMSGSIZE) _ tt (pick_all (InFrame f) (eqb (length f) (send_length nd nh nb)) _ (Refused EINVAL) here tt)))
+    (pick_all (InFrame f) (oversized nd nh nb) (Err EMSGSIZE) _ tt (pick_all (InFrame f) (eqb (length f) (send_length nd nh nb)) _ (Err EINVAL) here tt)))
 
 acts : (f : List ℕ) (k : ℕ) → eqb (opcode f) k ≡ true → Acts f k (peer_at f 1)
 acts f k e = record { command = eqb-true (opcode f) k e; peer = refl }
@@ -68,7 +66,7 @@ fields-rest f z y l s =
     let op = opcode f in
     pick-cases (InFrame f) (eqb op 1) _ _ (λ e. unless f (ltb last_user (get_or f 2 0)) _ (acts f 1 e, refl)) (λ n1.
     pick-cases (InFrame f) (eqb op 2) _ _ (λ e. acts f 2 e) (λ n2.
-    pick-cases (InFrame f) (eqb op 3) _ _ (λ e. pick_all (InFrame f) (eqb ((id_at f 2).0 % 4) 0) _ (Refused EINVAL) (acts f 3 e, refl) tt) (λ n3.
+    pick-cases (InFrame f) (eqb op 3) _ _ (λ e. pick_all (InFrame f) (eqb ((id_at f 2).0 % 4) 0) _ (Err EINVAL) (acts f 3 e, refl) tt) (λ n3.
     pick-cases (InFrame f) (eqb op 4) _ _ (λ e. (acts f 4 e, refl)) (λ n4.
     pick-cases (InFrame f) (eqb op 5) _ _ (λ e. (acts f 5 e, refl)) (λ n5.
     pick-cases (InFrame f) (eqb op 6) _ _ (λ e. unless f (ltb last_peer (get_or f 10 0)) _ (acts f 6 e, refl)) (λ n6.

@@ -1,18 +1,16 @@
 -- What holds of every command that the frame reader hands on, and that it refuses with no other number than 22, 25 and 90.
 -- Callers use this law and never the text of `parse`.
 -- Assumes nothing.
-use Rattle.std.specs.Prelude.{ℕ, ◌%◌, ◌≤◌, ◌≡◌, refl, Bool, true, false, ◌⊎◌, List, length, get_or, eqb, ltb}
+use Rattle.std.specs.Prelude.{ℕ, ◌%◌, ◌≤◌, ◌≡◌, refl, Bool, true, false, ◌⊎◌, List, length, get_or, eqb, ltb, Ok, Err}
 use Rattle.std.proofs.Math.Logic.◌⊎◌.{inl, inr}
 use Rattle.std.proofs.Common.{arith, length-drop, ltb-false, eqb-true}
-use Rattle.ids.specs.Refusals.{EINVAL, EMSGSIZE, ENOTTY}
+use Rattle.ids.specs.declared.Refusal.TheVariants.{EINVAL, EMSGSIZE, ENOTTY}
 use Rattle.laws.specs.Tests.{pick, pick-cases, pick_all, pick-else, clash}
 use Rattle.ids.specs.declared.Peer.{Peer}
 use Rattle.frames.specs.declared.Command.{Command}
 use Rattle.frames.specs.declared.Command.TheVariants.{Open, Disconnect, Create, Destroy, Release, Transfer, Send, Receive, Quota, Holders, ShowSeed}
 use Rattle.frames.specs.declared.Sizes.{Sizes}
-use Rattle.frames.specs.declared.Parsed.{Parsed}
-use Rattle.frames.specs.declared.Parsed.TheVariants.{Read, Refused}
-use Rattle.frames.specs.Frame.{last_peer, last_user, most_ids, most_bytes, peer_at, opcode, id_at, short_at, oversized, send_length, frame_length, parse_sizes, parse_send, parse_open, parse_create, parse_transfer, parse_quota, parse_rest, parse_other, payload_of}
+use Rattle.frames.specs.Frame.{last_peer, last_user, most_ids, most_bytes, peer_at, opcode, id_at, short_at, oversized, send_length, frame_length, parse_sizes, parse_send, parse_open, parse_create, parse_transfer, parse_quota, parse_rest, parse_other, payload_of, Parsed}
 
 -- The sizes of a send: as the frame has them, in document 01's bounds, and the frame is as long as they say.
 pub record Sized (f : List ℕ) (z : Sizes) : Type 0 where
@@ -39,15 +37,15 @@ Legal f (Holders p i) = p.0 ≤ last_peer
 Legal f (ShowSeed p r) = p.0 ≤ last_peer
 
 abbrev pub Outcome : List ℕ → Parsed → Type 0
-Outcome f (Read c) = Legal f c
-Outcome f (Refused n) = (n ≡ EINVAL) ⊎ ((n ≡ ENOTTY) ⊎ (n ≡ EMSGSIZE))
+Outcome f (Ok c) = Legal f c
+Outcome f (Err r) = (r ≡ EINVAL) ⊎ ((r ≡ ENOTTY) ⊎ (r ≡ EMSGSIZE))
 
 -- A choice between a refusal with EINVAL and what is left where its test failed.
-invalid : (f : List ℕ) → Outcome f (Refused EINVAL)
+invalid : (f : List ℕ) → Outcome f (Err EINVAL)
 invalid f = inl refl
 
-pub unless : (f : List ℕ) (bad : Bool) (r : Parsed) → (bad ≡ false → Outcome f r) → Outcome f (pick bad (Refused EINVAL) r)
-unless f bad r h = pick-cases (Outcome f) bad (Refused EINVAL) r (λ e. invalid f) h
+pub unless : (f : List ℕ) (bad : Bool) (r : Parsed) → (bad ≡ false → Outcome f r) → Outcome f (pick bad (Err EINVAL) r)
+unless f bad r h = pick-cases (Outcome f) bad (Err EINVAL) r (λ e. invalid f) h
 
 -- Numbers that are not oversized are in their bounds.
 pub in_bounds : (nd nh nb : ℕ) → oversized nd nh nb ≡ false → (nd ≤ most_ids) × (nh ≤ most_ids) × (nb ≤ most_bytes)
@@ -65,8 +63,8 @@ legal-send f =
     let nb = short_at f 4 in
     unless f (ltb (length f) 6) _ (λ long.
     unless f (ltb last_peer p) _ (λ peer.
-    pick-cases (Outcome f) (oversized nd nh nb) (Refused EMSGSIZE) _ (λ over. inr (inr refl)) (λ sizes.
-    pick-cases (Outcome f) (eqb (length f) (send_length nd nh nb)) _ (Refused EINVAL) (λ whole.
+    pick-cases (Outcome f) (oversized nd nh nb) (Err EMSGSIZE) _ (λ over. inr (inr refl)) (λ sizes.
+    pick-cases (Outcome f) (eqb (length f) (send_length nd nh nb)) _ (Err EINVAL) (λ whole.
     let b = in_bounds nd nh nb sizes in (
       ltb-false last_peer p peer,
       record {
@@ -86,7 +84,7 @@ unfolding parse_rest parse_open parse_create parse_transfer parse_quota
 legal-rest f op p h =
     pick_all (Outcome f) (eqb op 1) _ _ (unless f (ltb last_user (get_or f 2 0)) _ (λ e. (h, ltb-false last_user (get_or f 2 0) e)))
     (pick_all (Outcome f) (eqb op 2) _ _ h
-    (pick_all (Outcome f) (eqb op 3) _ _ (pick-cases (Outcome f) (eqb ((id_at f 2).0 % 4) 0) _ (Refused EINVAL) (λ e. (h, eqb-true ((id_at f 2).0 % 4) 0 e)) (λ e. invalid f))
+    (pick_all (Outcome f) (eqb op 3) _ _ (pick-cases (Outcome f) (eqb ((id_at f 2).0 % 4) 0) _ (Err EINVAL) (λ e. (h, eqb-true ((id_at f 2).0 % 4) 0 e)) (λ e. invalid f))
     (pick_all (Outcome f) (eqb op 4) _ _ h
     (pick_all (Outcome f) (eqb op 5) _ _ h
     (pick_all (Outcome f) (eqb op 6) _ _ (unless f (ltb last_peer (get_or f 10 0)) _ (λ e. (h, ltb-false last_peer (get_or f 10 0) e)))
@@ -97,7 +95,7 @@ legal-rest f op p h =
 pub legal-other : (f : List ℕ) → Outcome f (parse_other f)
 unfolding parse_other
 legal-other f =
-    pick_all (Outcome f) (eqb (length f) (frame_length (opcode f))) _ (Refused EINVAL)
+    pick_all (Outcome f) (eqb (length f) (frame_length (opcode f))) _ (Err EINVAL)
     (unless f (ltb last_peer (get_or f 1 0)) _ (λ e. legal-rest f (opcode f) (peer_at f 1) (ltb-false last_peer (get_or f 1 0) e)))
     (invalid f)
 

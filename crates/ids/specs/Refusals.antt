@@ -1,6 +1,8 @@
 -- The refusal numbers of document 01's table, "Given exactly when"; and 27 of document 02.
 -- Assumes nothing.
-use Rattle.std.specs.Prelude.{ℕ}
+use Rattle.std.specs.Prelude.{ℕ, Result, Ok, Err}
+use Rattle.ids.specs.declared.Refusal.{Refusal}
+use Rattle.ids.specs.declared.Refusal.TheVariants as refusal
 
 -- destroy or holders question by a peer not the owner; release of a live node's owner handle at count 1
 abbrev pub EPERM : ℕ
@@ -65,3 +67,27 @@ EHOSTUNREACH = 113
 -- quota
 abbrev pub EDQUOT : ℕ
 EDQUOT = 122
+
+-- The number of a refusal, an answer's first byte.
+abbrev pub refusal_number : Refusal → ℕ
+refusal_number refusal.EPERM = EPERM
+refusal_number refusal.EIO = EIO
+refusal_number refusal.ENXIO = ENXIO
+refusal_number refusal.EBADF = EBADF
+refusal_number refusal.EAGAIN = EAGAIN
+refusal_number refusal.EEXIST = EEXIST
+refusal_number refusal.EINVAL = EINVAL
+refusal_number refusal.ENOTTY = ENOTTY
+refusal_number refusal.EFBIG = EFBIG
+refusal_number refusal.ENOSPC = ENOSPC
+refusal_number refusal.ERANGE = ERANGE
+refusal_number refusal.EOVERFLOW = EOVERFLOW
+refusal_number refusal.EMSGSIZE = EMSGSIZE
+refusal_number refusal.ESHUTDOWN = ESHUTDOWN
+refusal_number refusal.EHOSTUNREACH = EHOSTUNREACH
+refusal_number refusal.EDQUOT = EDQUOT
+
+-- The number of what was done or refused: 0 where it was done.
+abbrev pub refused : {A : Type 0} → Result A Refusal → ℕ
+refused (Ok x) = 0
+refused (Err r) = refusal_number r

@@ -3,17 +3,80 @@
 
 #![tactic(auto)]
 
+ghost use Rattle.std.specs.Prelude.{◌≡◌, ◌<◌, ◌≤◌, MatchResult};
+ghost use Rattle.ids.specs.Refusals.{refusal_number};
+ghost use Rattle.ids.specs.declared.Refusal.TheVariants.{EINVAL as einval};
+
 // A peer, 0 to 7 on a bus: the place of its rows in a peer's table.
-#[derive(Clone, Copy)]
+#[derive(Clone, Copy, Debug, PartialEq, Eq, PartialOrd, Ord)]
 pub struct Peer(pub usize);
 
+// The peer that a byte names: EINVAL past the last.
+impl TryFrom<u8> for Peer {
+    type Error = Refusal;
+
+    ghost try_from_gives = { λ x r. MatchResult r (λ y. (y.0 ≡ x) × (x ≤ 7)) (λ e. (e ≡ einval) × (7 < x)) };
+
+    fn try_from(byte: u8) -> Result<Peer, Refusal> {
+        let number = usize::from(byte);
+        if PEERS <= number {
+            return Err(Refusal::EINVAL);
+        }
+        Ok(Peer(number))
+    }
+}
+
 // A user, 0 to 3: whom a charge is counted under.
-#[derive(Clone, Copy)]
+#[derive(Clone, Copy, Debug, PartialEq, Eq, PartialOrd, Ord)]
 pub struct User(pub usize);
 
+// The user that a byte names: EINVAL past the last.
+impl TryFrom<u8> for User {
+    type Error = Refusal;
+
+    ghost try_from_gives = { λ x r. MatchResult r (λ y. (y.0 ≡ x) × (x ≤ 3)) (λ e. (e ≡ einval) × (3 < x)) };
+
+    fn try_from(byte: u8) -> Result<User, Refusal> {
+        let number = usize::from(byte);
+        if USERS <= number {
+            return Err(Refusal::EINVAL);
+        }
+        Ok(User(number))
+    }
+}
+
 // A handle's ID, as one peer knows a node.
-#[derive(Clone, Copy)]
+#[derive(Clone, Copy, Debug, PartialEq, Eq, PartialOrd, Ord)]
 pub struct HandleId(pub u64);
+
+// A refusal of the table: its number is the answer's first byte.
+#[derive(Clone, Copy, Debug, PartialEq, Eq)]
+pub enum Refusal {
+    EPERM = 1,
+    EIO = 5,
+    ENXIO = 6,
+    EBADF = 9,
+    EAGAIN = 11,
+    EEXIST = 17,
+    EINVAL = 22,
+    ENOTTY = 25,
+    EFBIG = 27,
+    ENOSPC = 28,
+    ERANGE = 34,
+    EOVERFLOW = 75,
+    EMSGSIZE = 90,
+    ESHUTDOWN = 108,
+    EHOSTUNREACH = 113,
+    EDQUOT = 122,
+}
+
+impl From<Refusal> for u8 {
+    ghost from_gives = { λ r n. n ≡ refusal_number r };
+
+    fn from(refusal: Refusal) -> u8 {
+        refusal as u8
+    }
+}
 
 // The refusal numbers of document 01's table, and 27 of document 02; specs/Refusals.antt has the row of each.
 pub const EPERM: u8 = 1;

@@ -1,16 +1,15 @@
 -- One law for each return of a command with a journal, over plain variables.
 -- Assumes nothing.
-use Rattle.std.specs.Prelude.{ℕ, ◌+◌, ◌*◌, ◌≤◌, ◌<◌, ◌≡◌, Bool, true, List, [], ltb, Option, Some, None}
+use Rattle.std.specs.Prelude.{ℕ, ◌+◌, ◌*◌, ◌≤◌, ◌<◌, ◌≡◌, Bool, true, List, [], ltb, Option, Some, None, Ok, Err}
 use Rattle.std.proofs.Math.Path.{refl, sym}
 use Rattle.std.proofs.Common.{ap, ◌∙◌, lt-ltb, le-ltb}
 use Rattle.std.proofs.Math.Bool.{false}
 use Rattle.std.proofs.Math.ListN.{length}
 use Rattle.laws.specs.Tests.{Seen, Seen.is_true, Seen.is_false, look, clash}
-use Rattle.ids.specs.Refusals.{EINVAL, EIO, EFBIG}
+use Rattle.ids.specs.Refusals.{EINVAL, EIO, EFBIG, refusal_number}
+use Rattle.ids.specs.declared.Refusal.{Refusal}
 use Rattle.frames.specs.declared.Command.{Command}
-use Rattle.frames.specs.declared.Parsed.{Parsed}
-use Rattle.frames.specs.declared.Parsed.TheVariants.{Read, Refused}
-use Rattle.frames.specs.Frame.{parse}
+use Rattle.frames.specs.Frame.{parse, Parsed}
 use Rattle.lines.specs.Line.{room_for, lines_after, line_written}
 use Rattle.answers.specs.declared.Answer.{Answer}
 use Rattle.answers.specs.declared.Answer.TheVariants.{Refused as is_refused}
@@ -120,16 +119,16 @@ module _ (b : Bus) (f out j : List ℕ) (u : ℕ) (h : answer_size ≤ length ou
         rw (le-ltb (length j) u l, unsound-uncounted b f out long (sym e ∙ n), long, ← e, n, ek, w.0, w.1) refl
 
     module _ (t : r ≡ true) {x : Parsed} (ex : x ≡ parse f) where
-      pub kept-unread : {n : ℕ} → x ≡ Refused n → {o : Outcome} {out' : List ℕ} → Wrote (is_refused n) out o out' → {k : JournalOutcome} → k ≡ outcome_with o u → returned_with k b out' j ≡ obeyed_with b f out j u
+      pub kept-unread : {n : Refusal} → x ≡ Err n → {m : ℕ} → m ≡ refusal_number n → {o : Outcome} {out' : List ℕ} → Wrote (is_refused m) out o out' → {k : JournalOutcome} → k ≡ outcome_with o u → returned_with k b out' j ≡ obeyed_with b f out j u
       unfolding obeyed_with appended_of command_of
-      kept-unread {n = n} en w ek =
-          rw (le-ltb (length j) u l, refused-uncounted b f out long (sym ex ∙ en), long, ← e, t, ← ex, en, ek, w.0, w.1) refl
+      kept-unread en em w ek =
+          rw (le-ltb (length j) u l, refused-uncounted b f out long (sym ex ∙ en), long, ← e, t, ← ex, en, ← em, ek, w.0, w.1) refl
 
-      pub kept_read : {c : Command} → x ≡ Read c → {d : WithJournal} →
+      pub kept_read : {c : Command} → x ≡ Ok c → {d : WithJournal} →
           d ≡ executed_with b f out (ruling_of (sight b.peers b.nodes b.handles b.charges b.rings b.seeds) f c) j u → d ≡ obeyed_with b f out j u
       unfolding obeyed_with appended_of executed_with
       kept_read {c = c} ec k =
-          let q : parse f ≡ Read c = sym ex ∙ ec in
+          let q : parse f ≡ Ok c = sym ex ∙ ec in
           let z = command-read b f out long (sym e ∙ t) q in
           rw (le-ltb (length j) u l, read-counted b f out long (sym e ∙ t) q, z) k
 

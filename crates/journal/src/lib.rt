@@ -14,7 +14,7 @@ ghost use Rattle.journal_model.specs.Counted.{changing};
 ghost use Rattle.journal.specs.Steps.{append_written, journal_after, executed_with};
 
 use answers::Outcome;
-use frames::{Command, Parsed};
+use frames::Command;
 use ids::{ANSWER_SIZE, EFBIG, EINVAL, EIO};
 use journal_model::JournalOutcome;
 use judges::Order;
@@ -124,8 +124,8 @@ fn obey(
         return with_used(answers::write_refusal(out, EIO), used);
     }
     match frames::parse(f) {
-        Parsed::Refused(n) => with_used(answers::write_refusal(out, n), used),
-        Parsed::Read(c) => execute(
+        Err(refusal) => with_used(answers::write_refusal(out, u8::from(refusal)), used),
+        Ok(c) => execute(
             ps, ns, hs, cs, ends, es, carried, numbers, pool, seeds, f, c, out, journal, used,
         ),
     }

@@ -1,15 +1,15 @@
 -- Which commands are counted, by the order that a command comes to.
 -- Assumes nothing.
-use Rattle.std.specs.Prelude.{ℕ, ◌≡◌, Bool, List, [], length, eqb, ltb}
+use Rattle.std.specs.Prelude.{ℕ, ◌≡◌, Bool, List, [], length, eqb, ltb, Ok, Err}
 use Rattle.std.proofs.Math.Path.{refl}
 use Rattle.std.proofs.Common.{sym, ap, ◌∙◌, arith, ne_eqb}
 use Rattle.std.proofs.Math.Bool.{true, false}
 use Rattle.std.proofs.Math.Logic.◌⊎◌.{inl, inr}
 use Rattle.laws.specs.Tests.{pick, Seen, Seen.is_true, Seen.is_false, look, clash}
-use Rattle.ids.specs.Refusals.{EINVAL, EIO}
+use Rattle.ids.specs.Refusals.{EINVAL, EIO, refusal_number}
+use Rattle.ids.specs.declared.Refusal.{Refusal}
 use Rattle.frames.specs.declared.Command.{Command}
 use Rattle.frames.specs.declared.Command.TheVariants.{Open, Disconnect, Create, Destroy, Release, Transfer, Send, Receive, Quota, Holders, ShowSeed}
-use Rattle.frames.specs.declared.Parsed.TheVariants.{Read, Refused}
 use Rattle.frames.specs.Frame.{parse}
 use Rattle.frames.specs.Legal.{Outcome as Read-as}
 use Rattle.frames.proofs.Legal.{legal}
@@ -61,7 +61,7 @@ changing-zero b f out (order.Quota p u) w e h = clash (sym h)
 changing-zero b f out (order.Holders s) w e h = clash (sym h)
 
 -- An order that is no refusal changes the bus or is a question's.
-pub resolved-changing : (v : Sight) (k : Command) → changing (resolved v k) ≡ pick (is_question (Read k)) false true
+pub resolved-changing : (v : Sight) (k : Command) → changing (resolved v k) ≡ pick (is_question (Ok k)) false true
 unfolding changing
 resolved-changing v (Open p u) = refl
 resolved-changing v (Disconnect p) = refl
@@ -76,7 +76,7 @@ resolved-changing v (Quota p u) = refl
 resolved-changing v (Holders p i) = refl
 
 -- A question that is not refused is answered 0.
-pub question-zero : (b : Bus) (f out : List ℕ) (v : Sight) (k : Command) (w : Places) → ltb (length out) answer_size ≡ false → is_question (Read k) ≡ true →
+pub question-zero : (b : Bus) (f out : List ℕ) (v : Sight) (k : Command) (w : Places) → ltb (length out) answer_size ≡ false → is_question (Ok k) ≡ true →
     (carried b f out (resolved v k) w).outcome.number ≡ 0
 question-zero b f out v (Open p u) w e h = clash (sym h)
 question-zero b f out v (Disconnect p) w e h = clash (sym h)
@@ -96,15 +96,15 @@ pick-false false = refl
 
 -- What is ruled is counted where it changes the bus.
 ruled : (b : Bus) (f out : List ℕ) (v : Sight) (k : Command) → ltb (length out) answer_size ≡ false →
-    pick (is_question (Read k)) false (eqb (carried_out b f out (ruling_of v f k)).outcome.number 0) ≡ changing (ruling_of v f k).order
+    pick (is_question (Ok k)) false (eqb (carried_out b f out (ruling_of v f k)).outcome.number 0) ≡ changing (ruling_of v f k).order
 unfolding carried_out ruling_of
-ruled b f out v k e = go (look (eqb (refusal_by v.find v.free v.state f k) 0)) (look (is_question (Read k)))
+ruled b f out v k e = go (look (eqb (refusal_by v.find v.free v.state f k) 0)) (look (is_question (Ok k)))
   where
     n : ℕ
     n = refusal_by v.find v.free v.state f k
 
-    go : Seen (eqb n 0) → Seen (is_question (Read k)) →
-        pick (is_question (Read k)) false (eqb (carried b f out (unless_at n (resolved v k) (places_in v f k)).order (unless_at n (resolved v k) (places_in v f k)).places).outcome.number 0)
+    go : Seen (eqb n 0) → Seen (is_question (Ok k)) →
+        pick (is_question (Ok k)) false (eqb (carried b f out (unless_at n (resolved v k) (places_in v f k)).order (unless_at n (resolved v k) (places_in v f k)).places).outcome.number 0)
         ≡ changing (unless_at n (resolved v k) (places_in v f k)).order
     go (is_true z) (is_true a) = rw (z, a, resolved-changing v k, a) refl
     go (is_true z) (is_false a) =
@@ -119,25 +119,28 @@ module _ (b : Bus) (f out : List ℕ) (e : ltb (length out) answer_size ≡ fals
   unfolding counted command_of
   unsound-uncounted s = rw (e, s, refused-number EIO b out e) (pick-false (is_question (parse f)))
 
-  pub refused-uncounted : {n : ℕ} → parse f ≡ Refused n → counted b f out ≡ false
+  pub refused-uncounted : {r : Refusal} → parse f ≡ Err r → counted b f out ≡ false
   unfolding counted command_of
-  refused-uncounted {n = n} p = go (look (sound_ok b)) (rw p at (legal f))
+  refused-uncounted {r = r} p = go (look (sound_ok b)) (rw p at (legal f))
     where
+      n : ℕ
+      n = refusal_number r
+
       other : (m : ℕ) → (m ≡ 0 → ⊥) → sound_ok b ≡ true → n ≡ m → pick (is_question (parse f)) false (eqb (command_of b f out).outcome.number 0) ≡ false
       other m h s q = rw (e, s, p, refused-number n b out e) (ne_eqb n 0 (λ z. h (sym q ∙ z)))
 
-      go : Seen (sound_ok b) → Read-as f (Refused n) → pick (is_question (parse f)) false (eqb (command_of b f out).outcome.number 0) ≡ false
+      go : Seen (sound_ok b) → Read-as f (Err r) → pick (is_question (parse f)) false (eqb (command_of b f out).outcome.number 0) ≡ false
       go (is_false s) l = rw (e, s, refused-number EIO b out e) (pick-false (is_question (parse f)))
-      go (is_true s) (inl q) = other EINVAL (λ z. omega arith) s q
-      go (is_true s) (inr (inl q)) = other 25 (λ z. omega arith) s q
-      go (is_true s) (inr (inr q)) = other 90 (λ z. omega arith) s q
+      go (is_true s) (inl q) = other EINVAL (λ z. omega arith) s (ap refusal_number q)
+      go (is_true s) (inr (inl q)) = other 25 (λ z. omega arith) s (ap refusal_number q)
+      go (is_true s) (inr (inr q)) = other 90 (λ z. omega arith) s (ap refusal_number q)
 
-  pub read-counted : {k : Command} → sound_ok b ≡ true → parse f ≡ Read k →
+  pub read-counted : {k : Command} → sound_ok b ≡ true → parse f ≡ Ok k →
       counted b f out ≡ changing (ruling_of (sight b.peers b.nodes b.handles b.charges b.rings b.seeds) f k).order
   unfolding counted command_of
   read-counted {k = k} s p = rw (e, s, p) (ruled b f out (sight b.peers b.nodes b.handles b.charges b.rings b.seeds) k e)
 
-  pub command-read : {k : Command} → sound_ok b ≡ true → parse f ≡ Read k →
+  pub command-read : {k : Command} → sound_ok b ≡ true → parse f ≡ Ok k →
       command_of b f out ≡ carried_out b f out (ruling_of (sight b.peers b.nodes b.handles b.charges b.rings b.seeds) f k)
   unfolding command_of
   command-read s p = rw (e, s, p) refl

@@ -1,6 +1,6 @@
 -- Runs with a journal, and what recovery finds in a journal that was cut off anywhere: the bus after as many commands as LFs were kept, to the last byte.
 -- Assumes nothing.
-use Rattle.std.specs.Prelude.{ℕ, zero, suc, ◌+◌, ◌*◌, ◌≤◌, ◌≡◌, Bool, true, false, ◌⊎◌, drop, replicate, eqb, ltb}
+use Rattle.std.specs.Prelude.{ℕ, zero, suc, ◌+◌, ◌*◌, ◌≤◌, ◌≡◌, Bool, true, false, ◌⊎◌, drop, replicate, eqb, ltb, Ok, Err}
 use Rattle.std.proofs.Math.Path.{refl, ap}
 use Rattle.std.proofs.Common.{sym, ap₂, ◌∙◌, arith, length-append, take_at, length-take-le, ne_eqb}
 use Rattle.std.proofs.Math.Logic.◌⊎◌.{inl, inr}
@@ -14,9 +14,7 @@ use Rattle.laws.specs.Tests.{pick, Seen, Seen.is_true, Seen.is_false, look, clas
 use Rattle.laws.specs.Weights.{All}
 use Rattle.ids.specs.Refusals.{EIO, EFBIG}
 use Rattle.frames.specs.declared.Command.TheVariants.{Open, Disconnect, Create, Destroy, Release, Transfer, Send, Receive, Quota, Holders, ShowSeed}
-use Rattle.frames.specs.declared.Parsed.{Parsed}
-use Rattle.frames.specs.declared.Parsed.TheVariants.{Read, Refused}
-use Rattle.frames.specs.Frame.{parse, opcode}
+use Rattle.frames.specs.Frame.{parse, opcode, Parsed}
 use Rattle.lines.specs.Line.{room_for, lines_after, answer_line, digits_of}
 use Rattle.lines.specs.LineLaws.{digits-length}
 use Rattle.lines.specs.Chunks.{NoLf}
@@ -36,18 +34,18 @@ use Rattle.journal_model.specs.Counted.{refused-number}
 
 -- A question leaves the bus alone, on any bus.
 asked : (f : List ℕ) (x : Parsed) → parse f ≡ x → is_question x ≡ true → (opcode f ≡ 9) ⊎ (opcode f ≡ 10)
-asked f (Refused n) p e = clash (sym e)
-asked f (Read (Open q u)) p e = clash (sym e)
-asked f (Read (Disconnect q)) p e = clash (sym e)
-asked f (Read (Create q i)) p e = clash (sym e)
-asked f (Read (Destroy q i)) p e = clash (sym e)
-asked f (Read (Release q i)) p e = clash (sym e)
-asked f (Read (Transfer q i r)) p e = clash (sym e)
-asked f (Read (Send q z)) p e = clash (sym e)
-asked f (Read (Receive q room)) p e = clash (sym e)
-asked f (Read (ShowSeed q room)) p e = clash (sym e)
-asked f (Read (Quota q u)) p e = inl (coded f (Quota q u) p).byte
-asked f (Read (Holders q i)) p e = inr (coded f (Holders q i) p).byte
+asked f (Err r) p e = clash (sym e)
+asked f (Ok (Open q u)) p e = clash (sym e)
+asked f (Ok (Disconnect q)) p e = clash (sym e)
+asked f (Ok (Create q i)) p e = clash (sym e)
+asked f (Ok (Destroy q i)) p e = clash (sym e)
+asked f (Ok (Release q i)) p e = clash (sym e)
+asked f (Ok (Transfer q i r)) p e = clash (sym e)
+asked f (Ok (Send q z)) p e = clash (sym e)
+asked f (Ok (Receive q room)) p e = clash (sym e)
+asked f (Ok (ShowSeed q room)) p e = clash (sym e)
+asked f (Ok (Quota q u)) p e = inl (coded f (Quota q u) p).byte
+asked f (Ok (Holders q i)) p e = inr (coded f (Holders q i) p).byte
 
 question-leaves : (b : Bus) (f out : List ℕ) → is_question (parse f) ≡ true → (command_of b f out).bus ≡ b
 question-leaves b f out e = code-questions b (record { frame = f; buffer = out }) (asked f (parse f) refl e)

@@ -1,12 +1,10 @@
 -- Document 02, No. 4: a command with a journal, and recovery from the bytes that were kept of one, for any contents of the buffers.
 -- Assumes nothing.
-use Rattle.std.specs.Prelude.{ℕ, suc, ◌+◌, ◌*◌, ◌-◌, Bool, true, false, List, [], ◌∷◌, map, length, replicate, eqb, ltb}
+use Rattle.std.specs.Prelude.{ℕ, suc, ◌+◌, ◌*◌, ◌-◌, Bool, true, false, List, [], ◌∷◌, map, length, replicate, eqb, ltb, Ok, Err}
 use Rattle.laws.specs.Tests.{pick}
 use Rattle.ids.specs.Refusals.{EIO, EFBIG}
 use Rattle.frames.specs.declared.Command.TheVariants.{Open, Disconnect, Create, Destroy, Release, Transfer, Send, Receive, Quota, Holders, ShowSeed}
-use Rattle.frames.specs.declared.Parsed.{Parsed}
-use Rattle.frames.specs.declared.Parsed.TheVariants.{Read, Refused}
-use Rattle.frames.specs.Frame.{parse}
+use Rattle.frames.specs.Frame.{parse, Parsed}
 use Rattle.lines.specs.Line.{room_for, lines_after}
 use Rattle.lines.specs.Chunks.{split, Found, Found.frame, Found.bad, found as line_found}
 use Rattle.answers.specs.Answer.{answer_size}
@@ -19,18 +17,18 @@ use Rattle.journal_model.specs.declared.Recovered.TheVariants as found
 
 -- "questions left out".
 abbrev pub is_question : Parsed → Bool
-is_question (Refused n) = false
-is_question (Read (Open p u)) = false
-is_question (Read (Disconnect p)) = false
-is_question (Read (Create p i)) = false
-is_question (Read (Destroy p i)) = false
-is_question (Read (Release p i)) = false
-is_question (Read (Transfer p i q)) = false
-is_question (Read (Send p z)) = false
-is_question (Read (Receive p room)) = false
-is_question (Read (ShowSeed p room)) = false
-is_question (Read (Quota p u)) = true
-is_question (Read (Holders p i)) = true
+is_question (Err r) = false
+is_question (Ok (Open p u)) = false
+is_question (Ok (Disconnect p)) = false
+is_question (Ok (Create p i)) = false
+is_question (Ok (Destroy p i)) = false
+is_question (Ok (Release p i)) = false
+is_question (Ok (Transfer p i q)) = false
+is_question (Ok (Send p z)) = false
+is_question (Ok (Receive p room)) = false
+is_question (Ok (ShowSeed p room)) = false
+is_question (Ok (Quota p u)) = true
+is_question (Ok (Holders p i)) = true
 
 -- "every accepted command, questions left out": the command that f is on the bus b, with the answer buffer out.
 unfoldable pub counted : Bus → List ℕ → List ℕ → Bool

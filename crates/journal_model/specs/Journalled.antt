@@ -1,7 +1,7 @@
 -- Document 02, No. 4, of every run with a journal, also one that goes on after recoveries: the statements stand first, under capital letters; each is proved below under the
 -- same name in small letters.
 -- Assumes nothing.
-use Rattle.std.specs.Prelude.{ℕ, suc, ◌+◌, ◌*◌, ◌-◌, ◌≤◌, ◌<◌, ◌≡◌, refl, Bool, false, not, drop, eqb, ltb}
+use Rattle.std.specs.Prelude.{ℕ, suc, ◌+◌, ◌*◌, ◌-◌, ◌≤◌, ◌<◌, ◌≡◌, refl, Bool, false, not, drop, eqb, ltb, Ok, Err}
 use Rattle.std.proofs.Common.{sym, ap₂, ◌∙◌, arith, length-append, take-append-drop, take_at, take-take, drop_at, drop-drop, length-take-le, eqb-true, ltb-true, ltb-false, le-ltb, le-leb}
 use Rattle.std.proofs.Math.Path.{ap}
 use Rattle.std.proofs.Math.Bool.{true}
@@ -13,9 +13,7 @@ use Rattle.std.proofs.lemmas.Bool.{lt-leb}
 use Rattle.laws.specs.Tests.{Seen, Seen.is_true, Seen.is_false, look, clash}
 use Rattle.laws.specs.Weights.{All}
 use Rattle.ids.specs.Refusals.{EIO, EFBIG}
-use Rattle.frames.specs.declared.Parsed.{Parsed}
-use Rattle.frames.specs.declared.Parsed.TheVariants.{Read, Refused}
-use Rattle.frames.specs.Frame.{parse}
+use Rattle.frames.specs.Frame.{parse, Parsed}
 use Rattle.frames.specs.Lengths.{longest_frame, longest-is}
 use Rattle.frames.proofs.Lengths.{read_short}
 use Rattle.lines.specs.Line.{lf, most_digits, digits_of, answer_line, room_for, lines_after}
@@ -196,8 +194,8 @@ pub counted-short : (f : List ℕ) (b : Bus) (out : List ℕ) → ltb (length ou
 counted-short f b out e k = go (parse f) refl
   where
     go : (x : Parsed) → parse f ≡ x → 2 * length f ≤ most_digits
-    go (Read c) p = let l : length f ≤ longest_frame = read_short f c p in omega (arith, l, longest-is)
-    go (Refused m) p = clash (sym k ∙ refused-uncounted b f out e p)
+    go (Ok c) p = let l : length f ≤ longest_frame = read_short f c p in omega (arith, l, longest-is)
+    go (Err r) p = clash (sym k ∙ refused-uncounted b f out e p)
 
 pub used-at : (fs : List (List ℕ)) (k : ℕ) (t : List ℕ) → All OneLineLong fs → NoLf t → (x : List ℕ) → x ≡ take k (text_of fs) → used_of (x ++ t) ≡ length (text_of (take (lfs x) fs))
 unfolding used_of

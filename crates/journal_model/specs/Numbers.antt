@@ -1,15 +1,14 @@
 -- Every number that a command gives, on any bus and with any answer buffer, is one of document 01's table; so it is never 27.
 -- Assumes nothing.
-use Rattle.std.specs.Prelude.{ℕ, ◌+◌, ◌*◌, ◌≡◌, refl, Bool, true, false, List, [], ◌∷◌, ◌++◌, map, length, eqb, ltb, leb}
+use Rattle.std.specs.Prelude.{ℕ, ◌+◌, ◌*◌, ◌≡◌, refl, Bool, true, false, List, [], ◌∷◌, ◌++◌, map, length, eqb, ltb, leb, Ok, Err}
 use Rattle.std.proofs.Common.{sym, ap, subst, ◌∙◌}
 use Rattle.std.proofs.Math.Logic.◌⊎◌.{inl, inr}
-use Rattle.ids.specs.Refusals.{EINVAL, EIO, EPERM, ENXIO, EBADF, EAGAIN, EEXIST, ENOTTY, EFBIG, ENOSPC, ERANGE, EOVERFLOW, EMSGSIZE, ESHUTDOWN, EHOSTUNREACH, EDQUOT}
+use Rattle.ids.specs.Refusals.{EINVAL, EIO, EPERM, ENXIO, EBADF, EAGAIN, EEXIST, ENOTTY, EFBIG, ENOSPC, ERANGE, EOVERFLOW, EMSGSIZE, ESHUTDOWN, EHOSTUNREACH, EDQUOT, refusal_number}
 use Rattle.laws.specs.Tests.{pick, pick_all, Seen, Seen.is_true, Seen.is_false, look, clash}
+use Rattle.ids.specs.declared.Refusal.{Refusal}
 use Rattle.frames.specs.declared.Command.{Command}
 use Rattle.frames.specs.declared.Command.TheVariants.{Open, Disconnect, Create, Destroy, Release, Transfer, Send, Receive, Quota, Holders, ShowSeed}
-use Rattle.frames.specs.declared.Parsed.{Parsed}
-use Rattle.frames.specs.declared.Parsed.TheVariants.{Read, Refused}
-use Rattle.frames.specs.Frame.{parse, payload_of}
+use Rattle.frames.specs.Frame.{parse, payload_of, Parsed}
 use Rattle.frames.specs.Legal.{Outcome as Read-as}
 use Rattle.frames.proofs.Legal.{legal}
 use Rattle.answers.specs.Answer.{answer_size, outcome_of}
@@ -104,12 +103,12 @@ of-refused n b out h = go (look (ltb (length out) answer_size))
 
 of-ruling : (b : Bus) (f out : List ℕ) (v : Sight) (k : Command) → ltb (length out) answer_size ≡ false → OfTable (carried_out b f out (ruling_of v f k)).outcome.number
 unfolding carried_out ruling_of
-of-ruling b f out v k e = go (look (eqb n 0)) (look (is_question (Read k)))
+of-ruling b f out v k e = go (look (eqb n 0)) (look (is_question (Ok k)))
   where
     n : ℕ
     n = refusal_by v.find v.free v.state f k
 
-    go : Seen (eqb n 0) → Seen (is_question (Read k)) →
+    go : Seen (eqb n 0) → Seen (is_question (Ok k)) →
         OfTable (carried b f out (unless_at n (resolved v k) (places_in v f k)).order (unless_at n (resolved v k) (places_in v f k)).places).outcome.number
     go (is_false z) a = rw z (of-refused n b out (of-refusal v.find v.free v.state f k))
     go (is_true z) (is_true a) = rw (z, question-zero b f out v k (places_in v f k) e a) refl
@@ -124,16 +123,16 @@ of-table b f out = go (look (ltb (length out) answer_size)) (look (sound_ok b)) 
     sight-of : Sight
     sight-of = sight b.peers b.nodes b.handles b.charges b.rings b.seeds
 
-    refused : (n m : ℕ) → ltb (length out) answer_size ≡ false → sound_ok b ≡ true → parse f ≡ Refused n → OfTable m → n ≡ m → OfTable (command_of b f out).outcome.number
-    refused n m e s p h q = rw (e, s, p) (of-refused n b out (subst (λ (x : ℕ). OfTable x) (sym q) h))
+    refused : (r : Refusal) (m : ℕ) → ltb (length out) answer_size ≡ false → sound_ok b ≡ true → parse f ≡ Err r → OfTable m → refusal_number r ≡ m → OfTable (command_of b f out).outcome.number
+    refused r m e s p h q = rw (e, s, p) (of-refused (refusal_number r) b out (subst (λ (x : ℕ). OfTable x) (sym q) h))
 
     go : Seen (ltb (length out) answer_size) → Seen (sound_ok b) → (x : Parsed) → parse f ≡ x → Read-as f x → OfTable (command_of b f out).outcome.number
     go (is_true e) s x p l = rw e refl
     go (is_false e) (is_false s) x p l = rw (e, s) (of-refused EIO b out refl)
-    go (is_false e) (is_true s) (Refused n) p (inl q) = refused n EINVAL e s p refl q
-    go (is_false e) (is_true s) (Refused n) p (inr (inl q)) = refused n ENOTTY e s p refl q
-    go (is_false e) (is_true s) (Refused n) p (inr (inr q)) = refused n EMSGSIZE e s p refl q
-    go (is_false e) (is_true s) (Read k) p l = rw (e, s, p) (of-ruling b f out sight-of k e)
+    go (is_false e) (is_true s) (Err r) p (inl q) = refused r EINVAL e s p refl (ap refusal_number q)
+    go (is_false e) (is_true s) (Err r) p (inr (inl q)) = refused r ENOTTY e s p refl (ap refusal_number q)
+    go (is_false e) (is_true s) (Err r) p (inr (inr q)) = refused r EMSGSIZE e s p refl (ap refusal_number q)
+    go (is_false e) (is_true s) (Ok k) p l = rw (e, s, p) (of-ruling b f out sight-of k e)
 
 -- 27 is none of them.
 pub never-full : (b : Bus) (f out : List ℕ) → (command_of b f out).outcome.number ≡ EFBIG → ⊥

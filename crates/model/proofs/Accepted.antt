@@ -1,18 +1,17 @@
 -- The theorems that go with specs/Accepted.antt and stand on others: each goes by the definitions and the theorems there.
 -- Assumes nothing.
-use Rattle.std.specs.Prelude.{◌≡◌, refl, false, List, [], ◌∷◌, length, eqb, ltb}
+use Rattle.std.specs.Prelude.{◌≡◌, refl, false, List, [], ◌∷◌, length, eqb, ltb, Ok, Err}
 use Rattle.std.proofs.Common.{ap, ◌∙◌, arith, ltb-false, eqb-true}
 use Rattle.std.proofs.Math.Logic.◌⊎◌.{inl, inr}
 use Rattle.std.proofs.lemmas.Bool.{eqb-false}
 use Rattle.laws.specs.Tests.{Seen, Seen.is_true, Seen.is_false, look}
 use Rattle.frames.specs.declared.Command.{Command}
-use Rattle.frames.specs.declared.Parsed.{Parsed}
-use Rattle.frames.specs.declared.Parsed.TheVariants.{Read, Refused}
-use Rattle.frames.specs.Frame.{parse}
+use Rattle.frames.specs.Frame.{parse, Parsed}
 use Rattle.frames.specs.Legal.{Legal, Outcome}
 use Rattle.frames.proofs.Legal.{legal}
 use Rattle.answers.specs.Answer.{answer_size}
 use Rattle.model.specs.State.{State, start}
+use Rattle.ids.specs.Refusals.{refusal_number}
 use Rattle.model.specs.Refusals.{refusal}
 use Rattle.model.specs.Effects.{effect}
 use Rattle.model.specs.Replies.{reply}
@@ -21,7 +20,7 @@ use Rattle.model.specs.Step.{Verdict, carry_out, judge, Call, Result, finish, st
 use Rattle.model.specs.Accepted.{Accepted, Came, Came.left, Came.done, finish-short, finish-long, came_refused, Kept}
 
 -- A frame that was read.
-came-read : (b : State) (c : Call) (k : Command) → parse c.frame ≡ Read k → Legal c.frame k → ltb (length c.buffer) answer_size ≡ false →
+came-read : (b : State) (c : Call) (k : Command) → parse c.frame ≡ Ok k → Legal c.frame k → ltb (length c.buffer) answer_size ≡ false →
     Seen (eqb (refusal b c.frame k) 0) → step b c ≡ finish b c.buffer (carry_out b c.frame k (refusal b c.frame k)) → Came b c
 unfolding carry_out
 came-read b c k read lawful e (is_false z) f = came_refused b c (refusal b c.frame k) (eqb-false (refusal b c.frame k) 0 z) e (rw z at f)
@@ -42,13 +41,13 @@ came-read b c k read lawful e (is_true z) f =
 
 came-frame : (b : State) (c : Call) (x : Parsed) → parse c.frame ≡ x → Outcome c.frame x → ltb (length c.buffer) answer_size ≡ false →
     step b c ≡ finish b c.buffer (judge b c.frame x) → Came b c
-came-frame b c (Read k) read o e f = came-read b c k read o e (look (eqb (refusal b c.frame k) 0)) f
-came-frame b c (Refused n) read o e f = came_refused b c n (over o) e f
+came-frame b c (Ok k) read o e f = came-read b c k read o e (look (eqb (refusal b c.frame k) 0)) f
+came-frame b c (Err r) read o e f = came_refused b c (refusal_number r) (over o) e f
   where
-    over : Outcome c.frame (Refused n) → n ≡ 0 → ⊥
-    over (inl h) z = omega arith
-    over (inr (inl h)) z = omega arith
-    over (inr (inr h)) z = omega arith
+    over : Outcome c.frame (Err r) → refusal_number r ≡ 0 → ⊥
+    over (inl h) z = omega (arith, ap refusal_number h)
+    over (inr (inl h)) z = omega (arith, ap refusal_number h)
+    over (inr (inr h)) z = omega (arith, ap refusal_number h)
 
 pub came : (b : State) (c : Call) → Came b c
 unfolding step

@@ -1,6 +1,6 @@
 -- The theorems that go with specs/ByOrderTold.antt and stand on others: each goes by the definitions and the theorems there.
 -- Assumes nothing.
-use Rattle.std.specs.Prelude.{ℕ, suc, ◌+◌, ◌≤◌, ◌<◌, ◌≡◌, Bool, false, ◌⊎◌, get_or, eqb, ltb}
+use Rattle.std.specs.Prelude.{ℕ, suc, ◌+◌, ◌≤◌, ◌<◌, ◌≡◌, Bool, false, ◌⊎◌, get_or, eqb, ltb, Ok}
 use Rattle.std.proofs.Math.Path.{refl, ap, subst}
 use Rattle.std.proofs.Common.{sym, ap₂, ◌∙◌, arith, eqb-true, eq-eqb, ltb-true, ltb-false}
 use Rattle.std.proofs.Math.Bool.{true}
@@ -12,7 +12,6 @@ use Rattle.laws.specs.Weights.{load, load-append, keep, All, all-imp}
 use Rattle.ids.specs.declared.Peer.{Peer}
 use Rattle.frames.specs.declared.Command.{Command}
 use Rattle.frames.specs.declared.Command.TheVariants.{Open, Disconnect, Create, Destroy, Release, Transfer, Send, Receive, Quota, Holders, ShowSeed}
-use Rattle.frames.specs.declared.Parsed.TheVariants.{Read}
 use Rattle.frames.specs.Frame.{opcode, parse}
 use Rattle.frames.specs.Legal.{Legal}
 use Rattle.model.specs.Numbers.{peers}
@@ -81,12 +80,12 @@ new-lives l f (Quota p u) N less old = absurd (old less)
 new-lives l f (Holders p i) N less old = absurd (old less)
 new-lives l f (ShowSeed p room) N less old = absurd (old less)
 
-feed-noted : (k : Book) (x : Fed) (d : Command) → x.number ≡ 0 → parse x.frame ≡ Read d → feed k x ≡ note k x.frame x.answer d
+feed-noted : (k : Book) (x : Fed) (d : Command) → x.number ≡ 0 → parse x.frame ≡ Ok d → feed k x ≡ note k x.frame x.answer d
 unfolding feed
 feed-noted k x d e f = rw (e, f) refl
 
 -- One more exchange, accepted: the ledger before it and what the command makes of it.
-module _ (xs : List Fed) (x : Fed) (hap : Happened (xs ++ (x ∷ []))) (d : Command) (zero : x.number ≡ 0) (read : parse x.frame ≡ Read d) (legal : Legal x.frame d)
+module _ (xs : List Fed) (x : Fed) (hap : Happened (xs ++ (x ∷ []))) (d : Command) (zero : x.number ≡ 0) (read : parse x.frame ≡ Ok d) (legal : Legal x.frame d)
     (passed : Passed (ledger_of xs) x.frame d) (p N : ℕ) where
   abbrev l : Ledger
   l = ledger_of xs
@@ -230,7 +229,7 @@ disconnect-tells l k number q p N d m lived dead told = go (same? (l.maker N) q)
     go (same z) (other y) = elsewhere z y (d.at_others p m y) (look (is_told (l.handle p) (l.queue p) number N))
 
 -- A notice that a receive of p takes out is shown.
-first-shown : (xs : List Fed) (x : Fed) (hap : Happened (xs ++ (x ∷ []))) (q : Peer) (room p N : ℕ) → x.number ≡ 0 → parse x.frame ≡ Read (Receive q room) → q.0 ≡ p →
+first-shown : (xs : List Fed) (x : Fed) (hap : Happened (xs ++ (x ∷ []))) (q : Peer) (room p N : ℕ) → x.number ≡ 0 → parse x.frame ≡ Ok (Receive q room) → q.0 ≡ p →
     (ledger_of xs).lives N ≡ false → (es : List Item) → (ledger_of xs).queue p ≡ es → All (StandsIn (ledger_of xs) p) es → 1 ≤ notices_of N (front es) → BeenTold (xs ++ (x ∷ [])) p N
 first-shown xs x hap q room p N zero read own dead [] e s one = absurd (omega (arith, one))
 first-shown xs x hap q room p N zero read own dead (message j m ∷ es) e s one = absurd (omega (arith, one))
@@ -259,7 +258,7 @@ first-shown xs x hap q room p N zero read own dead (destroyed j n ∷ es) e s on
           number = eqb-true n.number N z;
         }
 
-taken-shown : (xs : List Fed) (x : Fed) (hap : Happened (xs ++ (x ∷ []))) (d : Command) (p N : ℕ) → x.number ≡ 0 → parse x.frame ≡ Read d → (ledger_of xs).lives N ≡ false →
+taken-shown : (xs : List Fed) (x : Fed) (hap : Happened (xs ++ (x ∷ []))) (d : Command) (p N : ℕ) → x.number ≡ 0 → parse x.frame ≡ Ok d → (ledger_of xs).lives N ≡ false →
     1 ≤ notices_of N (taken_of (ledger_of xs) p d) → BeenTold (xs ++ (x ∷ [])) p N
 taken-shown xs x hap (Receive q room) p N zero read dead one = go (look (eqb q.0 p))
   where
@@ -286,7 +285,7 @@ Untold p N xs =
 
 module _ (p N : ℕ) (m : p < peers) (xs : List Fed) (x : Fed) (hap : Happened (xs ++ (x ∷ []))) (u : Untold p N xs) where
   -- the destruction
-  ends_now : (d : Command) → EndsNode N d → x.number ≡ 0 → parse x.frame ≡ Read d → (ledger_of xs).lives N ≡ true → (ledger_of (xs ++ (x ∷ []))).lives N ≡ false →
+  ends_now : (d : Command) → EndsNode N d → x.number ≡ 0 → parse x.frame ≡ Ok d → (ledger_of xs).lives N ≡ true → (ledger_of (xs ++ (x ∷ []))).lives N ≡ false →
       is_told ((ledger_of (xs ++ (x ∷ []))).handle p) ((ledger_of (xs ++ (x ∷ []))).queue p) ((ledger_of (xs ++ (x ∷ []))).died N) N ≡ true → 1 ≤ notices_of N ((ledger_of (xs ++ (x ∷ []))).queue p)
   ends_now (Destroy q i) t zero read lived dead told =
       let c = coded x.frame (Destroy q i) read in
@@ -307,7 +306,7 @@ module _ (p N : ℕ) (m : p < peers) (xs : List Fed) (x : Fed) (hap : Happened (
   ends_now (ShowSeed q room) t zero read lived dead told = absurd t
 
   -- a notice that waited before
-  waited : (d : Command) → x.number ≡ 0 → parse x.frame ≡ Read d → Legal x.frame d → Passed (ledger_of xs) x.frame d → (ledger_of xs).lives N ≡ false →
+  waited : (d : Command) → x.number ≡ 0 → parse x.frame ≡ Ok d → Legal x.frame d → Passed (ledger_of xs) x.frame d → (ledger_of xs).lives N ≡ false →
       is_told ((enter (ledger_of xs) x.frame d).handle p) ((enter (ledger_of xs) x.frame d).queue p) ((enter (ledger_of xs) x.frame d).died N) N ≡ true →
       1 ≤ notices_of N ((ledger_of xs).queue p) → (1 ≤ notices_of N ((enter (ledger_of xs) x.frame d).queue p)) ⊎ BeenTold (xs ++ (x ∷ [])) p N
   waited d zero read legal passed dead told one = go (look (ltb 0 (notices_of N (k.queue p))))
@@ -406,7 +405,7 @@ Died n xs =
     n.number < (book_of xs).entered → (ledger_of xs).maker n.number ≡ n.owner → (ledger_of xs).lives n.number ≡ false → Destruction xs ((ledger_of xs).died n.number) n
 
 module _ (n : Node) (xs : List Fed) (x : Fed) (hap : Happened (xs ++ (x ∷ []))) (u : Died n xs) where
-  by-this : (d : Command) → EndsNode n.number d → x.number ≡ 0 → parse x.frame ≡ Read d → (ledger_of xs).maker n.number ≡ n.owner → (ledger_of xs).lives n.number ≡ true →
+  by-this : (d : Command) → EndsNode n.number d → x.number ≡ 0 → parse x.frame ≡ Ok d → (ledger_of xs).maker n.number ≡ n.owner → (ledger_of xs).lives n.number ≡ true →
       (ledger_of (xs ++ (x ∷ []))).lives n.number ≡ false → ends xs x n.owner n.number ≡ true
   by-this (Destroy q i) t zero read made lived dead =
       let c = coded x.frame (Destroy q i) read in

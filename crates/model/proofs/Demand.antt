@@ -1,6 +1,6 @@
 -- The theorems that go with specs/Demand.antt and stand on others: each goes by the definitions and the theorems there.
 -- Assumes nothing.
-use Rattle.std.specs.Prelude.{true, ℕ, ◌+◌, ◌*◌, ◌≤◌, ◌<◌, ◌≡◌, refl, List, map, length, get_or, eqb, ltb}
+use Rattle.std.specs.Prelude.{true, ℕ, ◌+◌, ◌*◌, ◌≤◌, ◌<◌, ◌≡◌, refl, List, map, length, get_or, eqb, ltb, Ok, Err}
 use Rattle.model.specs.Lists.{either}
 use Rattle.std.proofs.Common.{sym, ◌∙◌, arith, eqb-true, lt-ltb}
 use Rattle.laws.specs.Tests.{pick, pick_all}
@@ -8,9 +8,7 @@ use Rattle.laws.specs.Weights.{keep}
 use Rattle.laws.specs.Build.{build-length}
 use Rattle.frames.specs.declared.Command.{Command}
 use Rattle.frames.specs.declared.Command.TheVariants.{Open, Disconnect, Create, Destroy, Release, Transfer, Send, Receive, Quota, Holders, ShowSeed}
-use Rattle.frames.specs.declared.Parsed.{Parsed}
-use Rattle.frames.specs.declared.Parsed.TheVariants.{Read, Refused}
-use Rattle.frames.specs.Frame.{opcode, parse, send_id, payload_of}
+use Rattle.frames.specs.Frame.{opcode, parse, send_id, payload_of, Parsed}
 use Rattle.frames.specs.Legal.{payload-length}
 use Rattle.frames.proofs.Legal.{legal-command}
 use Rattle.frames.specs.Fields.{Fields}
@@ -88,8 +86,8 @@ seeds-left k x e q u r =
     pick_all (λ (y : Book). queued y q u r ≡ queued k q u r) (eqb x.number 0) _ k (go (parse x.frame) refl) refl
   where
     go : (y : Parsed) → parse x.frame ≡ y → queued (note_parsed k x.frame x.answer y) q u r ≡ queued k q u r
-    go (Refused n) h = refl
-    go (Read c) h = seeds-command k x.frame x.answer c (legal-command x.frame c h) (fields-command x.frame c h) e q u r
+    go (Err r) h = refl
+    go (Ok c) h = seeds-command k x.frame x.answer c (legal-command x.frame c h) (fields-command x.frame c h) e q u r
 
 -- The third demand.
 pub third-demand : ThirdDemand

@@ -1,7 +1,7 @@
 -- The theorems that go with specs/Due.antt and stand on others: each goes by the definitions and the theorems there.
 -- Assumes nothing.
 use Prim.Native.Nat.{ℕ, suc, ◌^◌, ◌≤◌, ◌<◌}
-use Rattle.std.specs.Prelude.{◌≡◌}
+use Rattle.std.specs.Prelude.{◌≡◌, Ok}
 use Rattle.std.proofs.Math.Path.{refl, ap}
 use Rattle.std.proofs.Common.{sym, ◌∙◌, arith}
 use mathlib.Core.List.{List, [], ◌∷◌, ◌++◌, map}
@@ -13,9 +13,7 @@ use Rattle.laws.specs.Weights.{All}
 use Rattle.ids.specs.declared.User.{User}
 use Rattle.frames.specs.declared.Command.{Command}
 use Rattle.frames.specs.declared.Command.TheVariants.{Open, Disconnect, Create, Destroy, Release, Transfer, Send, Receive, Quota, Holders, ShowSeed}
-use Rattle.frames.specs.declared.Parsed.{Parsed}
-use Rattle.frames.specs.declared.Parsed.TheVariants.{Read}
-use Rattle.frames.specs.Frame.{parse}
+use Rattle.frames.specs.Frame.{parse, Parsed}
 use Rattle.frames.specs.Legal.{Legal}
 use Rattle.quota.specs.Charges.{users, balance_of}
 use Rattle.answers.specs.Answer.{notice_bytes, received_bytes, charge_bytes, balance_bytes, holder_bytes, contents_of, answer_bytes}
@@ -128,10 +126,10 @@ module _ {N : ℕ} (name : ℕ → ℕ) {E : ℕ} (b : State) (l : Ledger) (w : 
       rw s (seed-due p.0 room (b.seed p.0) t.next (known-open b p.0 h t.acting.is_open) (carries p.0) (rw s at (small p.0)))
 
 -- "An answer begins with 00 or a refusal number": of a call that is not refused, whatever the calls before it, the answer is the one due.
-pub answers-due : (cs : List Call) (c : Call) (k : Command) → parse c.frame ≡ Read k → (step (run cs) c).outcome.number ≡ 0 → DueTo (ledger_after cs) k (answer_of (step (run cs) c))
+pub answers-due : (cs : List Call) (c : Call) (k : Command) → parse c.frame ≡ Ok k → (step (run cs) c).outcome.number ≡ 0 → DueTo (ledger_after cs) k (answer_of (step (run cs) c))
 answers-due cs c k e z =
     let x = accepted-call (run cs) c z in
-    let y : ◌≡◌ {A = Parsed} (Read x.0) (Read k) = sym x.1.read ∙ e in
+    let y : ◌≡◌ {A = Parsed} (Ok x.0) (Ok k) = sym x.1.read ∙ e in
     let f : x.0 ≡ k = cc y in
     go x.0 x.1 f
   where

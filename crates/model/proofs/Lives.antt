@@ -1,6 +1,6 @@
 -- The theorems that go with specs/Lives.antt and stand on others: each goes by the definitions and the theorems there.
 -- Assumes nothing.
-use Rattle.std.specs.Prelude.{ℕ, suc, ◌<◌, ◌≡◌, Bool, not, length, get_or, drop, eqb}
+use Rattle.std.specs.Prelude.{ℕ, suc, ◌<◌, ◌≡◌, Bool, not, length, get_or, drop, eqb, Ok}
 use Rattle.std.proofs.Math.Path.{refl, ap, ap₂}
 use Rattle.std.proofs.Common.{sym, ◌∙◌, arith}
 use Rattle.std.proofs.Math.Bool.{true, false}
@@ -10,7 +10,6 @@ use Rattle.laws.specs.Tests.{pick_all, Same, Same.same, Same.other, same?}
 use Rattle.laws.specs.Tables.{upd, upd_same, upd_other}
 use Rattle.frames.specs.declared.Command.{Command}
 use Rattle.frames.specs.declared.Command.TheVariants.{Open, Disconnect, Create, Destroy, Release, Transfer, Send, Receive, Quota, Holders, ShowSeed}
-use Rattle.frames.specs.declared.Parsed.TheVariants.{Read}
 use Rattle.frames.specs.Frame.{opcode, parse}
 use Rattle.frames.specs.Fields.{Fields}
 use Rattle.frames.proofs.Fields.{fields-command}
@@ -136,7 +135,7 @@ module _ (n : ℕ) where
   lasts-command l f (ShowSeed q room) p less e = let y = gives_same (ledger_counted l) q.0 (suc l.accepted) (seed_nodes (l.seed q.0)) in lasts-same l _ y.0 y.1
 
 -- The frame says what the command is.
-ends-frame : (l : Ledger) (xs : List Fed) (x : Fed) (d : Command) (p n : ℕ) → l.book ≡ book_of xs → x.number ≡ 0 → parse x.frame ≡ Read d → ends xs x p n ≡ ends_by n l d p
+ends-frame : (l : Ledger) (xs : List Fed) (x : Fed) (d : Command) (p n : ℕ) → l.book ≡ book_of xs → x.number ≡ 0 → parse x.frame ≡ Ok d → ends xs x p n ≡ ends_by n l d p
 ends-frame l xs x d p n e z r = let y = coded x.frame d r in go d y.byte y.peer (fields-command x.frame d r)
   where
     go : (d : Command) → opcode x.frame ≡ code d → acting_peer x.frame ≡ actor d → Fields x.frame d → ends xs x p n ≡ ends_by n l d p

@@ -1,20 +1,19 @@
 -- The theorems that go with specs/RowsRun.antt and stand on others: each goes by the definitions and the theorems there.
 -- Assumes nothing.
-use Rattle.std.specs.Prelude.{ℕ, ◌≤◌, ◌<◌, ◌≡◌, refl, true, ◌⊎◌, length, eqb, ltb}
+use Rattle.std.specs.Prelude.{ℕ, ◌≤◌, ◌<◌, ◌≡◌, refl, true, ◌⊎◌, length, eqb, ltb, Ok, Err}
 use Rattle.std.proofs.Common.{sym, ap, subst, ◌∙◌, arith, eqb-true}
 use Rattle.std.proofs.Math.Logic.◌⊎◌.{inl, inr}
 use mathlib.Core.List.{List, [], ◌∷◌, ◌++◌, map, append_assoc, append-nil}
 use Rattle.laws.specs.Tests.{Seen, Seen.is_true, Seen.is_false, look, clash}
 use Rattle.laws.specs.Weights.{All, all_append, all-imp}
 use Rattle.frames.specs.declared.Command.{Command}
-use Rattle.frames.specs.declared.Parsed.{Parsed}
-use Rattle.frames.specs.declared.Parsed.TheVariants.{Read, Refused}
-use Rattle.frames.specs.Frame.{parse}
+use Rattle.frames.specs.Frame.{parse, Parsed}
 use Rattle.frames.specs.Legal.{Legal, Outcome}
 use Rattle.frames.proofs.Legal.{legal}
 use Rattle.answers.specs.Answer.{answer_size, number_of, outcome_of}
 use Rattle.model.specs.Lists.{any}
 use Rattle.model.specs.State.{Message, Entry, Entry.message, Entry.destroyed, Entry.released, messages_in, names, start, seed_carries}
+use Rattle.ids.specs.Refusals.{refusal_number}
 use Rattle.model.specs.Refusals.{refusal}
 use Rattle.model.specs.Step.{Call, judge, finish, step, run, answer_of}
 use Rattle.model.specs.Book.{Node, Noted, Noted.blank, Noted.noted, Book, node_in, nodes_of}
@@ -122,7 +121,7 @@ seeds-entered cs = ledger-kept (λ l. (p : ℕ) → EnteredAll l.book.entered (l
         (rw (ledger-book cs) (nodes-entered cs q.0 (attached c.frame z)))) p)
 
 -- The command's rows, of a bus of a run.
-run-rows : (cs : List Call) (c : Call) (k : Command) → parse c.frame ≡ Read k → Legal c.frame k → refusal (run cs) c.frame k ≡ first_number command_rows (history_from start cs) c
+run-rows : (cs : List Call) (c : Call) (k : Command) → parse c.frame ≡ Ok k → Legal c.frame k → refusal (run cs) c.frame k ≡ first_number command_rows (history_from start cs) c
 run-rows cs c k e l =
     let w = story (length cs) cs (omega arith) in
     let same = ledger-book cs in
@@ -138,20 +137,20 @@ run-rows cs c k e l =
 
 judged : (cs : List Call) (c : Call) (x : Parsed) → parse c.frame ≡ x → Outcome c.frame x →
     number_of (judge (run cs) c.frame x).reply.answer ≡ first_number (frame_rows ++ command_rows) (history_from start cs) c
-judged cs c (Read k) e l =
+judged cs c (Ok k) e l =
     let xs = history_from start cs in
     let n : first_number frame_rows xs c ≡ 0 = sym (frame-exactly xs c) ∙ ap number_in e in
     carried-number (run cs) c k (look (eqb (refusal (run cs) c.frame k) 0)) ∙ run-rows cs c k e l
     ∙ sym (first-append frame_rows command_rows xs c frames-over ∙ unseen (first_number frame_rows xs c) (first_number command_rows xs c) n)
-judged cs c (Refused n) e l =
+judged cs c (Err r) e l =
     let xs = history_from start cs in
-    let m : first_number frame_rows xs c ≡ n = sym (frame-exactly xs c) ∙ ap number_in e in
-    sym (first-append frame_rows command_rows xs c frames-over ∙ seen (first_number frame_rows xs c) (first_number command_rows xs c) n m (over l))
+    let m : first_number frame_rows xs c ≡ refusal_number r = sym (frame-exactly xs c) ∙ ap number_in e in
+    sym (first-append frame_rows command_rows xs c frames-over ∙ seen (first_number frame_rows xs c) (first_number command_rows xs c) (refusal_number r) m (over l))
   where
-    over : Outcome c.frame (Refused n) → n ≡ 0 → ⊥
-    over (inl h) z = omega arith
-    over (inr (inl h)) z = omega arith
-    over (inr (inr h)) z = omega arith
+    over : Outcome c.frame (Err r) → refusal_number r ≡ 0 → ⊥
+    over (inl h) z = omega (arith, ap refusal_number h)
+    over (inr (inl h)) z = omega (arith, ap refusal_number h)
+    over (inr (inr h)) z = omega (arith, ap refusal_number h)
 
 -- The number of a call is that of the first row that applies.
 ruled : (cs : List Call) (c : Call) → (step (run cs) c).outcome.number ≡ first_number rows (history_from start cs) c

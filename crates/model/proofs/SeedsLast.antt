@@ -1,6 +1,6 @@
 -- The theorems that go with specs/SeedsLast.antt and stand on others: each goes by the definitions and the theorems there.
 -- Assumes nothing.
-use Rattle.std.specs.Prelude.{ℕ, ◌-◌, ◌^◌, ◌≤◌, ◌<◌, ◌≡◌, refl, Bool, true, false, not, ◌⊎◌, List, [], ◌∷◌, ◌++◌, length, eqb, ltb, leb}
+use Rattle.std.specs.Prelude.{ℕ, ◌-◌, ◌^◌, ◌≤◌, ◌<◌, ◌≡◌, refl, Bool, true, false, not, ◌⊎◌, List, [], ◌∷◌, ◌++◌, length, eqb, ltb, leb, Ok}
 use Rattle.std.proofs.Common.{sym, ap, ap₂, subst, ◌∙◌, append_assoc, append-nil, arith, ne_eqb, ltb-true, ltb-false, lt-ltb, le-ltb}
 use Rattle.std.proofs.Math.Logic.◌⊎◌.{inl, inr}
 use Rattle.std.proofs.lemmas.Bool.{lt-leb}
@@ -11,7 +11,6 @@ use Rattle.ids.specs.Refusals.{EINVAL, EOVERFLOW, EBADF, ESHUTDOWN, ENXIO, EAGAI
 use Rattle.ids.specs.declared.Peer.{Peer}
 use Rattle.frames.specs.declared.Command.{Command}
 use Rattle.frames.specs.declared.Command.TheVariants.{Send, ShowSeed}
-use Rattle.frames.specs.declared.Parsed.TheVariants.{Read}
 use Rattle.frames.specs.Frame.{parse}
 use Rattle.model.specs.Lists.{every}
 use Rattle.model.specs.State.{Status.opened, start}
@@ -113,7 +112,7 @@ unset-without-last xs h p n = go (last-or-unset xs h p)
     go (inr e) = e
 
 -- A frame that is read, and an answer buffer that is long enough: the number is that of the command's rows.
-read_number : (cs : List Call) (c : Call) (k : Command) → parse c.frame ≡ Read k → 591 ≤ length c.buffer →
+read_number : (cs : List Call) (c : Call) (k : Command) → parse c.frame ≡ Ok k → 591 ≤ length c.buffer →
     (step (run cs) c).outcome.number ≡ first_number command_rows (history_from start cs) c
 read_number cs c k e long =
     let xs = history_from start cs in
@@ -139,7 +138,7 @@ long-buffer cs c h = go (look (ltb (length c.buffer) 591))
 pub show-numbers : ShowNumbers
 show-numbers xs ys x h p room =
     of-next
-    (λ us y vs. parse y.frame ≡ Read (ShowSeed p room) → (y.number ≡ EINVAL → ⊥) →
+    (λ us y vs. parse y.frame ≡ Ok (ShowSeed p room) → (y.number ≡ EINVAL → ⊥) →
     y.number
     ≡ pick (leb (2 ^ 40 - 1) (tally us)) EOVERFLOW
     (pick (is_unopened (stands_in us p.0)) EBADF
@@ -150,14 +149,14 @@ pub set-numbers : SetNumbers
 unfolding build
 set-numbers xs ys x h p z e none n =
     of-next
-    (λ us y vs. parse y.frame ≡ Read (Send p z) → (y.number ≡ EINVAL → ⊥) →
+    (λ us y vs. parse y.frame ≡ Ok (Send p z) → (y.number ≡ EINVAL → ⊥) →
     y.number
     ≡ pick (leb (2 ^ 40 - 1) (tally us)) EOVERFLOW
     (pick (is_unopened (stands_in us p.0)) EBADF
     (pick (is_gone (stands_in us p.0)) ESHUTDOWN (pick (not (every (λ i. is_noted ((book_of us).handle p.0 i)) (attached y.frame z))) ENXIO 0))))
     (λ cs c e n. read_number cs c (Send p z) e (long-buffer cs c n) ∙ rw (e, none) refl) xs ys x h e n
 
-module _ (cs : List Call) (c : Call) (p : Peer) (room : ℕ) (e : parse c.frame ≡ Read (ShowSeed p room)) where
+module _ (cs : List Call) (c : Call) (p : Peer) (room : ℕ) (e : parse c.frame ≡ Ok (ShowSeed p room)) where
   abbrev hs : List Fed
   hs = history_from start cs
 
@@ -182,6 +181,6 @@ module _ (cs : List Call) (c : Call) (p : Peer) (room : ℕ) (e : parse c.frame 
 pub none-gives-eleven : NoneGivesEleven
 none-gives-eleven xs ys x h p room =
     of-next
-    (λ us y vs. parse y.frame ≡ Read (ShowSeed p room) →
+    (λ us y vs. parse y.frame ≡ Ok (ShowSeed p room) →
     (y.number ≡ EAGAIN → LastSeed us p.0 → ⊥) × ((LastSeed us p.0 → ⊥) → (y.number ≡ EINVAL → ⊥) → tally us < 2 ^ 40 - 1 → stands_in us p.0 ≡ opened → y.number ≡ EAGAIN))
     (λ cs c e. (eleven-none cs c p room e, none-eleven cs c p room e)) xs ys x h

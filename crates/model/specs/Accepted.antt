@@ -1,10 +1,9 @@
 -- What a call comes to, and induction over runs: what a fresh bus has, and every accepted command keeps, every run leaves.
 -- A command that is refused, a short answer buffer and a malformed frame leave the state as it was, so no later answer shows them.
 -- Assumes nothing.
-use Rattle.std.specs.Prelude.{ℕ, ◌≤◌, ◌≡◌, refl, true, false, List, [], ◌∷◌, ◌++◌, length, ltb}
+use Rattle.std.specs.Prelude.{ℕ, ◌≤◌, ◌≡◌, refl, true, false, List, [], ◌∷◌, ◌++◌, length, ltb, Ok}
 use Rattle.std.proofs.Common.{sym, ap, ◌∙◌}
 use Rattle.frames.specs.declared.Command.{Command}
-use Rattle.frames.specs.declared.Parsed.TheVariants.{Read}
 use Rattle.frames.specs.Frame.{parse}
 use Rattle.frames.specs.Legal.{Legal}
 use Rattle.answers.specs.Answer.{answer_size, number_of, outcome_of}
@@ -16,7 +15,7 @@ use Rattle.model.specs.Step.{Verdict, refused, Call, Result, finish, step, run_f
 
 -- An accepted call: its frame gives the command k, nothing refuses it, and what comes back is k's reply and k's effect.
 pub record Accepted (b : State) (c : Call) (k : Command) : Type 0 where
-  pub read : parse c.frame ≡ Read k
+  pub read : parse c.frame ≡ Ok k
   pub legal : Legal c.frame k
   pub unrefused : refusal b c.frame k ≡ 0
   pub large : answer_size ≤ length c.buffer

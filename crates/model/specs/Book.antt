@@ -1,6 +1,6 @@
 -- Document 01, "How the third demand counts": the book. It is fed the bytes of each frame, the number that came back and the bytes of the answer, and nothing else.
 -- Assumes nothing.
-use Rattle.std.specs.Prelude.{ℕ, zero, suc, ◌+◌, ◌-◌, ◌*◌, Bool, not, List, [], ◌∷◌, ◌++◌, map, length, get_or, eqb, ltb}
+use Rattle.std.specs.Prelude.{ℕ, zero, suc, ◌+◌, ◌-◌, ◌*◌, Bool, not, List, [], ◌∷◌, ◌++◌, map, length, get_or, eqb, ltb, Ok, Err}
 use Rattle.laws.specs.Tests.{pick}
 use Rattle.laws.specs.Tables.{upd}
 use Rattle.laws.specs.Sums.{sum_to}
@@ -10,9 +10,7 @@ use Rattle.laws.specs.Bytes.{num_at}
 use Rattle.frames.specs.declared.Sizes.{Sizes}
 use Rattle.frames.specs.declared.Command.{Command}
 use Rattle.frames.specs.declared.Command.TheVariants.{Open, Disconnect, Create, Destroy, Release, Transfer, Send, Receive, Quota, Holders, ShowSeed}
-use Rattle.frames.specs.declared.Parsed.{Parsed}
-use Rattle.frames.specs.declared.Parsed.TheVariants.{Read, Refused}
-use Rattle.frames.specs.Frame.{parse, opcode, short_at}
+use Rattle.frames.specs.Frame.{parse, opcode, short_at, Parsed}
 use Rattle.quota.specs.Charges.{users}
 use Rattle.model.specs.Numbers.{invalid}
 use Rattle.model.specs.Lists.{both}
@@ -272,8 +270,8 @@ note k f a (Holders p i) = k
 note k f a (ShowSeed p room) = learn k p.0 (shown_ids a) (k.seed p.0)
 
 abbrev pub note_parsed : Book → List ℕ → List ℕ → Parsed → Book
-note_parsed k f a (Refused n) = k
-note_parsed k f a (Read c) = note k f a c
+note_parsed k f a (Err r) = k
+note_parsed k f a (Ok c) = note k f a c
 
 -- What the book is fed of a command.
 pub record Fed : Type 0 where

@@ -1,11 +1,11 @@
 -- The third demand, proved. Book and bus go alike (SimRun), so what the book has queued is what the bus has; the bus's charges are the sums over its queues
 -- and within the share theorem (Charged), whatever the run.
 -- Assumes nothing.
-use Rattle.std.specs.Prelude.{Bool, true, false, ℕ, ◌≡◌, refl, List, [], ◌∷◌, length, get_or, eqb, ltb}
+use Rattle.std.specs.Prelude.{Bool, true, false, ℕ, ◌≡◌, refl, List, [], ◌∷◌, length, get_or, eqb, ltb, Ok, Err}
 use Rattle.model.specs.Lists.{either}
-use Rattle.std.proofs.Common.{sym, ◌∙◌, arith, eqb-true, eq-eqb}
+use Rattle.std.proofs.Common.{sym, ap, ◌∙◌, arith, eqb-true, eq-eqb}
 use Rattle.std.proofs.Math.Logic.◌⊎◌.{inl, inr}
-use Rattle.ids.specs.Refusals.{EDQUOT}
+use Rattle.ids.specs.Refusals.{EDQUOT, refusal_number}
 use Rattle.laws.specs.Tests.{Seen, Seen.is_true, Seen.is_false, look, pick_all, clash}
 use Rattle.laws.specs.Weights.{load}
 use Rattle.laws.specs.Build.{build}
@@ -13,9 +13,7 @@ use Rattle.ids.specs.declared.Peer.{Peer}
 use Rattle.frames.specs.declared.Sizes.{Sizes}
 use Rattle.frames.specs.declared.Command.{Command}
 use Rattle.frames.specs.declared.Command.TheVariants.{Open, Disconnect, Create, Destroy, Release, Transfer, Send, Receive, Quota, Holders, ShowSeed}
-use Rattle.frames.specs.declared.Parsed.{Parsed}
-use Rattle.frames.specs.declared.Parsed.TheVariants.{Read, Refused}
-use Rattle.frames.specs.Frame.{opcode, parse, payload_of}
+use Rattle.frames.specs.Frame.{opcode, parse, payload_of, Parsed}
 use Rattle.frames.specs.Legal.{Legal, Outcome}
 use Rattle.frames.proofs.Legal.{legal}
 use Rattle.frames.specs.Fields.{Fields}
@@ -43,11 +41,11 @@ queued-is name b k s q u r =
 pub record RefusedSend (b : State) (f : List ℕ) : Type 0 where
   pub peer : Peer
   pub sizes : Sizes
-  pub read : parse f ≡ Read (Send peer sizes)
+  pub read : parse f ≡ Ok (Send peer sizes)
   pub lawful : Legal f (Send peer sizes)
   pub refused : refuses_send b peer.0 (destinations f sizes) (attached f sizes) (length (payload_of f)) ≡ EDQUOT
 
-only-send : (b : State) (f : List ℕ) (c : Command) → opcode f ≡ 7 → parse f ≡ Read c → Legal f c → Fields f c → refusal b f c ≡ EDQUOT → RefusedSend b f
+only-send : (b : State) (f : List ℕ) (c : Command) → opcode f ≡ 7 → parse f ≡ Ok c → Legal f c → Fields f c → refusal b f c ≡ EDQUOT → RefusedSend b f
 unfolding refusal
 only-send b f (Open p u) o e l x r = absurd (omega (arith, x.0.command))
 only-send b f (Disconnect p) o e l x r = absurd (omega (arith, x.command))
@@ -65,17 +63,17 @@ pub refused-send : (b : State) (c : Call) → opcode c.frame ≡ 7 → (step b c
 unfolding step finish outcome_of carry_out
 refused-send b c o e = go (look (ltb (length c.buffer) answer_size)) (parse c.frame) refl (legal c.frame)
   where
-    on : (d : Command) → parse c.frame ≡ Read d → Legal c.frame d → number_of (carry_out b c.frame d (refusal b c.frame d)).reply.answer ≡ EDQUOT →
+    on : (d : Command) → parse c.frame ≡ Ok d → Legal c.frame d → number_of (carry_out b c.frame d (refusal b c.frame d)).reply.answer ≡ EDQUOT →
         Seen (eqb (refusal b c.frame d) 0) → RefusedSend b c.frame
     on d p l n (is_true z) = absurd (omega (arith, rw z at n, reply-number b c.frame d))
     on d p l n (is_false z) = only-send b c.frame d o p l (fields-command c.frame d p) (rw z at n)
 
     go : Seen (ltb (length c.buffer) answer_size) → (x : Parsed) → parse c.frame ≡ x → Outcome c.frame x → RefusedSend b c.frame
     go (is_true s) x p l = absurd (omega (arith, rw s at e))
-    go (is_false s) (Refused n) p (inl h) = absurd (omega (arith, rw (s, p) at e))
-    go (is_false s) (Refused n) p (inr (inl h)) = absurd (omega (arith, rw (s, p) at e))
-    go (is_false s) (Refused n) p (inr (inr h)) = absurd (omega (arith, rw (s, p) at e))
-    go (is_false s) (Read d) p l = on d p l (rw (s, p) at e) (look (eqb (refusal b c.frame d) 0))
+    go (is_false s) (Err r) p (inl h) = absurd (omega (arith, ap refusal_number h, rw (s, p) at e))
+    go (is_false s) (Err r) p (inr (inl h)) = absurd (omega (arith, ap refusal_number h, rw (s, p) at e))
+    go (is_false s) (Err r) p (inr (inr h)) = absurd (omega (arith, ap refusal_number h, rw (s, p) at e))
+    go (is_false s) (Ok d) p l = on d p l (rw (s, p) at e) (look (eqb (refusal b c.frame d) 0))
 
 -- A seed that is set, and one that is shown, change no total.
 learn-sums : (k : Book) (p : ℕ) (is : List ℕ) (ns : List Node) → ((learn k p is ns).sent ≡ k.sent) × ((learn k p is ns).received ≡ k.received) × ((learn k p is ns).dropped ≡ k.dropped)

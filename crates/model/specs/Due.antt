@@ -1,14 +1,13 @@
 -- Every answer of every run, to the byte, is the one that is due by the ledger: "The promises use that definition."
 -- Assumes nothing.
 use Prim.Native.Nat.{ℕ, ◌%◌, ◌≤◌, ◌<◌}
-use Rattle.std.specs.Prelude.{◌≡◌, Bool, false}
+use Rattle.std.specs.Prelude.{◌≡◌, Bool, false, Ok}
 use Rattle.std.proofs.Math.Path.{refl}
 use Rattle.std.proofs.Common.{arith, take_all}
 use mathlib.Core.List.{List, [], ◌∷◌, ◌++◌, map, append_assoc}
 use Rattle.std.proofs.Math.ListN.{length}
 use Rattle.laws.specs.Bytes.{be}
 use Rattle.frames.specs.declared.Command.{Command}
-use Rattle.frames.specs.declared.Parsed.TheVariants.{Read}
 use Rattle.frames.specs.Frame.{parse}
 use Rattle.answers.specs.declared.Received.TheVariants.{Message as a_message, Seed as a_seed}
 use Rattle.answers.specs.declared.Answer.TheVariants.{Received as is_received}
@@ -51,4 +50,4 @@ same-send name k (released n s ∷ es) = same-send name k es
 
 -- The same of histories: after the history xs, x came back with 0.
 abbrev pub DueOfHistory : Type 0
-DueOfHistory = (xs ys : List Fed) (x : Fed) (k : Command) → Happened (xs ++ (x ∷ ys)) → x.number ≡ 0 → parse x.frame ≡ Read k → DueTo (ledger_of xs) k x.answer
+DueOfHistory = (xs ys : List Fed) (x : Fed) (k : Command) → Happened (xs ++ (x ∷ ys)) → x.number ≡ 0 → parse x.frame ≡ Ok k → DueTo (ledger_of xs) k x.answer

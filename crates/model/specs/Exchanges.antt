@@ -1,6 +1,6 @@
 -- One exchange of a history, and what the ledger makes of it.
 -- Assumes nothing.
-use Rattle.std.specs.Prelude.{ℕ, suc, ◌+◌, ◌<◌, ◌≡◌, Bool, true, false, List, [], ◌∷◌, ◌++◌, map, length}
+use Rattle.std.specs.Prelude.{ℕ, suc, ◌+◌, ◌<◌, ◌≡◌, Bool, true, false, List, [], ◌∷◌, ◌++◌, map, length, Ok}
 use Rattle.std.proofs.Math.Path.{refl}
 use Rattle.std.proofs.Common.{ap, ◌∙◌, arith}
 use Rattle.std.proofs.lemmas.List.{length-map}
@@ -11,7 +11,6 @@ use Rattle.ids.specs.declared.Peer.{Peer}
 use Rattle.frames.specs.declared.Sizes.{Sizes}
 use Rattle.frames.specs.declared.Command.{Command}
 use Rattle.frames.specs.declared.Command.TheVariants.{Open, Disconnect, Create, Destroy, Release, Transfer, Send, Receive, Quota, Holders, ShowSeed}
-use Rattle.frames.specs.declared.Parsed.TheVariants.{Read}
 use Rattle.frames.specs.Frame.{parse}
 use Rattle.frames.specs.Legal.{Legal}
 use Rattle.model.specs.Numbers.{nodes}
@@ -47,7 +46,7 @@ as_many name b k w p is h = ap length (nodes-of-slots name b k w p is h) ∙ len
 -- After the history xs: a refused command, or an accepted one.
 pub data Exchange (xs : List Fed) (x : Fed) : Type 0 where
   refused : (x.number ≡ 0 → ⊥) → Exchange xs x
-  accepted : (c : Command) → x.number ≡ 0 → parse x.frame ≡ Read c → Legal x.frame c → Passed (ledger_of xs) x.frame c → AllNamed (book_of xs) x.frame c →
+  accepted : (c : Command) → x.number ≡ 0 → parse x.frame ≡ Ok c → Legal x.frame c → Passed (ledger_of xs) x.frame c → AllNamed (book_of xs) x.frame c →
       Exchange xs x
 
 -- Book and ledger after one more exchange; the ledger's book is the book.
@@ -68,7 +67,7 @@ tally-append (x ∷ xs) ys = go (is_counted x) (tally-append xs ys)
 
 -- An accepted command: what the ledger has then.
 pub record Entered (xs : List Fed) (x : Fed) (c : Command) : Type 0 where
-  pub read : parse x.frame ≡ Read c
+  pub read : parse x.frame ≡ Ok c
   pub legal : Legal x.frame c
   pub passes : Passed (ledger_of xs) x.frame c
   pub named : AllNamed (book_of xs) x.frame c

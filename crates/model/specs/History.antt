@@ -1,11 +1,10 @@
 -- Book and ledger after one more call of a run.
 -- Assumes nothing.
-use Rattle.std.specs.Prelude.{◌≡◌, List, [], ◌∷◌, ◌++◌, eqb}
+use Rattle.std.specs.Prelude.{◌≡◌, List, [], ◌∷◌, ◌++◌, eqb, Ok}
 use Rattle.std.proofs.Math.Path.{refl}
 use Rattle.std.proofs.Common.{sym, ap, ◌∙◌, ne_eqb}
 use Rattle.laws.specs.Tests.{pick}
 use Rattle.frames.specs.declared.Command.{Command}
-use Rattle.frames.specs.declared.Parsed.TheVariants.{Read}
 use Rattle.frames.specs.Frame.{parse}
 use Rattle.model.specs.State.{State, start}
 use Rattle.model.specs.Step.{Call, step, run_from, run, answer_of}
@@ -67,7 +66,7 @@ pub ledger-left : (l : Ledger) (x : Fed) → (x.number ≡ 0 → ⊥) → feed_l
 unfolding feed_ledger with_book
 ledger-left l x n = rw (book-left l.book x n, ne_eqb x.number 0 n) refl
 
-pub fed-enters : (l : Ledger) (x : Fed) (d : Command) → x.number ≡ 0 → parse x.frame ≡ Read d → feed_ledger l x ≡ with_book (enter l x.frame d) (feed l.book x)
+pub fed-enters : (l : Ledger) (x : Fed) (d : Command) → x.number ≡ 0 → parse x.frame ≡ Ok d → feed_ledger l x ≡ with_book (enter l x.frame d) (feed l.book x)
 unfolding feed_ledger
 fed-enters l x d e f =
     let g : pick (eqb x.number 0) (enter_parsed l x.frame (parse x.frame)) l ≡ enter l x.frame d = rw (e, f) refl in

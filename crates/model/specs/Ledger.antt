@@ -2,7 +2,7 @@
 -- and the bytes of the answer, and nothing else; nodes have the book's names. It has what the book leaves out: which nodes live, whose they are, how many IDs each peer was given,
 -- each queue with its notices, payloads and the numbers of the commands that queued them, and each seed with its payload.
 -- Assumes nothing.
-use Rattle.std.specs.Prelude.{ℕ, suc, ◌-◌, ◌^◌, ◌≡◌, Bool, true, false, not, List, [], ◌∷◌, ◌++◌, map, length, eqb, ltb}
+use Rattle.std.specs.Prelude.{ℕ, suc, ◌-◌, ◌^◌, ◌≡◌, Bool, true, false, not, List, [], ◌∷◌, ◌++◌, map, length, eqb, ltb, Ok, Err}
 use Rattle.std.specs.Int.Count.{ones}
 use Rattle.laws.specs.Tests.{pick}
 use Rattle.laws.specs.Tables.{upd}
@@ -11,9 +11,7 @@ use Rattle.laws.specs.Weights.{keep}
 use Rattle.laws.specs.Bytes.{be}
 use Rattle.frames.specs.declared.Command.{Command}
 use Rattle.frames.specs.declared.Command.TheVariants.{Open, Disconnect, Create, Destroy, Release, Transfer, Send, Receive, Quota, Holders, ShowSeed}
-use Rattle.frames.specs.declared.Parsed.{Parsed}
-use Rattle.frames.specs.declared.Parsed.TheVariants.{Read, Refused}
-use Rattle.frames.specs.Frame.{parse, payload_of}
+use Rattle.frames.specs.Frame.{parse, payload_of, Parsed}
 use Rattle.quota.specs.Rule.{left}
 use Rattle.answers.specs.Answer.{bit, id_bytes}
 use Rattle.model.specs.Numbers.{peers, invalid, next_id}
@@ -313,8 +311,8 @@ enter l f (Holders p i) = l
 enter l f (ShowSeed p room) = ledger_give_all (ledger_counted l) p.0 (suc l.accepted) (seed_nodes (l.seed p.0))
 
 abbrev pub enter_parsed : Ledger → List ℕ → Parsed → Ledger
-enter_parsed l f (Refused n) = l
-enter_parsed l f (Read c) = enter l f c
+enter_parsed l f (Err r) = l
+enter_parsed l f (Ok c) = enter l f c
 
 -- The book goes on beside it.
 unfoldable pub with_book : Ledger → Book → Ledger

@@ -1,16 +1,14 @@
 -- Document 01, "When the bus says no": the table and the paragraph Order, each row a test in the row's own words over the history of a bus, which is the frames, numbers and answers
 -- of the calls before. Nothing else of the bus is asked. 5 has no row: no run gives it.
 -- Assumes nothing.
-use Rattle.std.specs.Prelude.{ℕ, ◌+◌, ◌-◌, ◌*◌, ◌/◌, ◌%◌, ◌^◌, ◌≡◌, Bool, true, false, not, List, [], ◌∷◌, ◌++◌, length, get_or, eqb, ltb, leb}
+use Rattle.std.specs.Prelude.{ℕ, ◌+◌, ◌-◌, ◌*◌, ◌/◌, ◌%◌, ◌^◌, ◌≡◌, Bool, true, false, not, List, [], ◌∷◌, ◌++◌, length, get_or, eqb, ltb, leb, Ok, Err}
 use Rattle.laws.specs.Tests.{pick}
 use Rattle.laws.specs.Sums.{sum_to}
 use Rattle.laws.specs.Weights.{keep, All}
 use Rattle.ids.specs.Refusals.{EINVAL, ENOTTY, EMSGSIZE, EOVERFLOW, EBADF, ESHUTDOWN, EEXIST, ENXIO, EPERM, EHOSTUNREACH, ENOSPC, EDQUOT, EAGAIN, ERANGE}
 use Rattle.frames.specs.declared.Command.{Command}
 use Rattle.frames.specs.declared.Command.TheVariants.{Open, Disconnect, Create, Destroy, Release, Transfer, Send, Receive, Quota, Holders, ShowSeed}
-use Rattle.frames.specs.declared.Parsed.{Parsed}
-use Rattle.frames.specs.declared.Parsed.TheVariants.{Read, Refused}
-use Rattle.frames.specs.Frame.{opcode, id_at, short_at, frame_length, parse}
+use Rattle.frames.specs.Frame.{opcode, id_at, short_at, frame_length, parse, Parsed}
 use Rattle.model.specs.Numbers.{peers}
 use Rattle.model.specs.Lists.{both, either, any, every, any_below}
 use Rattle.model.specs.Resources.{Resource, limit, weigh, resources}
@@ -317,8 +315,8 @@ abbrev pub of_frame : ℕ → (List ℕ → Bool) → Row
 of_frame n t = record { number = n; applies = λ xs c. t c.frame }
 
 abbrev pub on_read : (Command → Bool) → Parsed → Bool
-on_read t (Read k) = t k
-on_read t (Refused n) = false
+on_read t (Ok k) = t k
+on_read t (Err r) = false
 
 abbrev pub of_command : ℕ → (List Fed → List ℕ → Command → Bool) → Row
 of_command n t = record { number = n; applies = λ xs c. on_read (t xs c.frame) (parse c.frame) }

@@ -1,14 +1,14 @@
 -- The frame's rows: the frame reader refuses with the number of the first that applies, and reads a command exactly where none does.
 -- Assumes nothing.
-use Rattle.std.specs.Prelude.{ℕ, ◌%◌, ◌≤◌, ◌≡◌, refl, Bool, true, false, not, List, length, get_or, eqb, ltb, leb}
+use Rattle.std.specs.Prelude.{ℕ, ◌%◌, ◌≤◌, ◌≡◌, refl, Bool, true, false, not, List, length, get_or, eqb, ltb, leb, Ok, Err}
 use Rattle.std.proofs.Common.{ap, ◌∙◌, arith, eqb-true, lt-ltb, le-ltb, leb-true, leb-false}
 use Rattle.std.proofs.lemmas.Bool.{eqb-false}
 use Rattle.laws.specs.Tests.{pick, Seen, Seen.is_true, Seen.is_false, look}
-use Rattle.ids.specs.Refusals.{EINVAL, ENOTTY, EMSGSIZE}
+use Rattle.ids.specs.Refusals.{EINVAL, ENOTTY, EMSGSIZE, refusal_number}
+use Rattle.ids.specs.declared.Refusal.{Refusal}
+use Rattle.ids.specs.declared.Refusal.TheVariants as refusal
 use Rattle.ids.specs.declared.Peer.{Peer}
-use Rattle.frames.specs.declared.Parsed.{Parsed}
-use Rattle.frames.specs.declared.Parsed.TheVariants.{Read, Refused}
-use Rattle.frames.specs.Frame.{last_peer, last_user, opcode, peer_at, id_at, short_at, oversized, send_length, parse_sizes, parse_send, frame_length, parse_open, parse_create, parse_transfer, parse_quota, parse_rest, parse_other, known, parse}
+use Rattle.frames.specs.Frame.{last_peer, last_user, opcode, peer_at, id_at, short_at, oversized, send_length, parse_sizes, parse_send, frame_length, parse_open, parse_create, parse_transfer, parse_quota, parse_rest, parse_other, known, parse, Parsed}
 use Rattle.model.specs.Lists.{both, either}
 use Rattle.model.specs.Step.{Call}
 use Rattle.model.specs.Book.{Fed}
@@ -16,15 +16,15 @@ use Rattle.model.specs.Rows.{short_send, send_peer, too_large, wrong_length, pee
 
 -- What the frame reader refuses with; 0 where it reads a command.
 abbrev pub number_in : Parsed → ℕ
-number_in (Read k) = 0
-number_in (Refused n) = n
+number_in (Ok k) = 0
+number_in (Err r) = refusal_number r
 
 -- A test that refuses with 22, and one that refuses with 22 where it fails.
-bad-number : (t : Bool) (x : Parsed) (r : ℕ) → number_in x ≡ r → number_in (pick t (Refused EINVAL) x) ≡ pick t EINVAL r
+bad-number : (t : Bool) (x : Parsed) (r : ℕ) → number_in x ≡ r → number_in (pick t (Err refusal.EINVAL) x) ≡ pick t EINVAL r
 bad-number true x r e = refl
 bad-number false x r e = e
 
-good-number : (t : Bool) (x : Parsed) (n r : ℕ) → number_in x ≡ r → number_in (pick t x (Refused n)) ≡ pick (not t) n r
+good-number : (t : Bool) (x : Parsed) (n : Refusal) (r : ℕ) → number_in x ≡ r → number_in (pick t x (Err n)) ≡ pick (not t) (refusal_number n) r
 good-number true x n r e = e
 good-number false x n r e = refl
 
@@ -44,7 +44,7 @@ rest-number op p f =
         number_in (parse_rest op p f) ≡ rest_rules op f
     one (is_true e) b c d g h i j k = rw (eqb-true op 1 e) (bad-number (ltb last_user (get_or f 2 0)) _ _ refl)
     one (is_false a) (is_true e) c d g h i j k = rw (eqb-true op 2 e) refl
-    one (is_false a) (is_false b) (is_true e) d g h i j k = rw (eqb-true op 3 e) (good-number (eqb ((id_at f 2).0 % 4) 0) _ EINVAL _ refl)
+    one (is_false a) (is_false b) (is_true e) d g h i j k = rw (eqb-true op 3 e) (good-number (eqb ((id_at f 2).0 % 4) 0) _ refusal.EINVAL _ refl)
     one (is_false a) (is_false b) (is_false c) (is_true e) g h i j k = rw (eqb-true op 4 e) refl
     one (is_false a) (is_false b) (is_false c) (is_false d) (is_true e) h i j k = rw (eqb-true op 5 e) refl
     one (is_false a) (is_false b) (is_false c) (is_false d) (is_false g) (is_true e) i j k = rw (eqb-true op 6 e) (bad-number (ltb last_peer (get_or f 10 0)) _ _ refl)
@@ -58,7 +58,7 @@ twice : (t : Bool) (r : Bool → ℕ) → pick t EINVAL (r false) ≡ pick t EIN
 twice true r = refl
 twice false r = refl
 
-large-number : (t : Bool) (x : Parsed) (r : ℕ) → number_in x ≡ r → number_in (pick t (Refused EMSGSIZE) x) ≡ pick t EMSGSIZE r
+large-number : (t : Bool) (x : Parsed) (r : ℕ) → number_in x ≡ r → number_in (pick t (Err refusal.EMSGSIZE) x) ≡ pick t EMSGSIZE r
 large-number true x r e = refl
 large-number false x r e = e
 
@@ -74,7 +74,7 @@ send-number f e =
     rw e
     (bad-number (ltb (length f) 6) _ _
     (bad-number (ltb last_peer (get_or f 1 0)) _ _
-    (large-number (oversized nd nh nb) _ _ (good-number (eqb (length f) (send_length nd nh nb)) _ EINVAL 0 refl))
+    (large-number (oversized nd nh nb) _ _ (good-number (eqb (length f) (send_length nd nh nb)) _ refusal.EINVAL 0 refl))
     ∙ twice (ltb last_peer (get_or f 1 0))
     (λ t. pick (oversized nd nh nb) EMSGSIZE (pick (not (eqb (length f) (send_length nd nh nb))) EINVAL (pick t EINVAL 0)))))
 
@@ -85,7 +85,7 @@ other-number : (f : List ℕ) → eqb (opcode f) 7 ≡ false →
 unfolding parse_other
 other-number f e =
     rw e
-    (good-number (eqb (length f) (frame_length (opcode f))) _ EINVAL _
+    (good-number (eqb (length f) (frame_length (opcode f))) _ refusal.EINVAL _
     (bad-number (ltb last_peer (get_or f 1 0)) _ _ (rest-number (opcode f) (peer_at f 1) f)))
 
 over : (n : ℕ) → (n ≡ 0 → ⊥) → 1 ≤ n
@@ -105,7 +105,7 @@ pub frame-exactly : (xs : List Fed) (c : Call) → number_in (parse c.frame) ≡
 unfolding parse
 frame-exactly xs c =
     bad-number (eqb (length f) 0) _ _
-    (good-number (known (opcode f)) _ ENOTTY _ (go (look (eqb (opcode f) 7))) ∙ ap (λ (t : Bool). pick t ENOTTY after) (unknown-is (opcode f)))
+    (good-number (known (opcode f)) _ refusal.ENOTTY _ (go (look (eqb (opcode f) 7))) ∙ ap (λ (t : Bool). pick t ENOTTY after) (unknown-is (opcode f)))
   where
     f : List ℕ
     f = c.frame

@@ -1,7 +1,7 @@
 -- 02 No. 1, the seed message, of histories alone: frames, numbers and answers, with their book and ledger, and no word of the state. What 0c shows is the last accepted 07 with nd 0 of its
 -- peer: sizes and payload to the byte, and of each attached ID the node that it named then. 0c is refused with 11 exactly where there is no such 07.
 -- Assumes nothing.
-use Rattle.std.specs.Prelude.{ℕ, suc, ◌+◌, ◌-◌, ◌*◌, ◌^◌, ◌<◌, ◌≡◌, Bool, true, false, not, ◌⊎◌, List, [], ◌∷◌, ◌++◌, get_or, drop, eqb, leb}
+use Rattle.std.specs.Prelude.{ℕ, suc, ◌+◌, ◌-◌, ◌*◌, ◌^◌, ◌<◌, ◌≡◌, Bool, true, false, not, ◌⊎◌, List, [], ◌∷◌, ◌++◌, get_or, drop, eqb, leb, Ok}
 use Rattle.laws.specs.Bytes.{num_at}
 use Rattle.laws.specs.Weights.{All}
 use Rattle.laws.specs.Tests.{pick}
@@ -9,7 +9,6 @@ use Rattle.ids.specs.Refusals.{EINVAL, EOVERFLOW, EBADF, ESHUTDOWN, ENXIO, EAGAI
 use Rattle.ids.specs.declared.Peer.{Peer}
 use Rattle.frames.specs.declared.Sizes.{Sizes}
 use Rattle.frames.specs.declared.Command.TheVariants.{Send, ShowSeed}
-use Rattle.frames.specs.declared.Parsed.TheVariants.{Read}
 use Rattle.frames.specs.Frame.{opcode, short_at, payload_of, parse}
 use Rattle.model.specs.Numbers.{invalid}
 use Rattle.model.specs.Lists.{both, either, every}
@@ -94,7 +93,7 @@ ShowsLastSeed =
 -- "reading with none set gives 11": an 0c of 4 bytes and a peer up to 7 is 11 exactly where there is none and no row before it in the order applies. 22 is then the answer buffer's.
 abbrev pub NoneGivesEleven : Type 0
 NoneGivesEleven =
-    (xs ys : List Fed) (x : Fed) → Happened (xs ++ (x ∷ ys)) → (p : Peer) (room : ℕ) → parse x.frame ≡ Read (ShowSeed p room) →
+    (xs ys : List Fed) (x : Fed) → Happened (xs ++ (x ∷ ys)) → (p : Peer) (room : ℕ) → parse x.frame ≡ Ok (ShowSeed p room) →
     (x.number ≡ EAGAIN → LastSeed xs p.0 → ⊥)
     × ((LastSeed xs p.0 → ⊥) → (x.number ≡ EINVAL → ⊥) → tally xs < 2 ^ 40 - 1 → stands_in xs p.0 ≡ opened → x.number ≡ EAGAIN)
 
@@ -102,7 +101,7 @@ NoneGivesEleven =
 -- destination for 113 and 122.
 abbrev pub SetNumbers : Type 0
 SetNumbers =
-    (xs ys : List Fed) (x : Fed) → Happened (xs ++ (x ∷ ys)) → (p : Peer) (z : Sizes) → parse x.frame ≡ Read (Send p z) → z.nd ≡ 0 → (x.number ≡ EINVAL → ⊥) →
+    (xs ys : List Fed) (x : Fed) → Happened (xs ++ (x ∷ ys)) → (p : Peer) (z : Sizes) → parse x.frame ≡ Ok (Send p z) → z.nd ≡ 0 → (x.number ≡ EINVAL → ⊥) →
     x.number
     ≡ pick (leb (2 ^ 40 - 1) (tally xs)) EOVERFLOW
     (pick (is_unopened (stands_in xs p.0)) EBADF
@@ -111,7 +110,7 @@ SetNumbers =
 -- Of 0c: 75, 9, 108, 11, and 34 "with its room test".
 abbrev pub ShowNumbers : Type 0
 ShowNumbers =
-    (xs ys : List Fed) (x : Fed) → Happened (xs ++ (x ∷ ys)) → (p : Peer) (room : ℕ) → parse x.frame ≡ Read (ShowSeed p room) → (x.number ≡ EINVAL → ⊥) →
+    (xs ys : List Fed) (x : Fed) → Happened (xs ++ (x ∷ ys)) → (p : Peer) (room : ℕ) → parse x.frame ≡ Ok (ShowSeed p room) → (x.number ≡ EINVAL → ⊥) →
     x.number
     ≡ pick (leb (2 ^ 40 - 1) (tally xs)) EOVERFLOW
     (pick (is_unopened (stands_in xs p.0)) EBADF

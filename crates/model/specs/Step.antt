@@ -1,11 +1,10 @@
 -- One command from the bytes of its frame and its answer buffer, and a run of commands from a fresh bus.
 -- Assumes nothing.
-use Rattle.std.specs.Prelude.{ℕ, List, [], ◌∷◌, length, take, eqb, ltb}
+use Rattle.std.specs.Prelude.{ℕ, List, [], ◌∷◌, length, take, eqb, ltb, Ok, Err}
 use Rattle.laws.specs.Tests.{pick}
+use Rattle.ids.specs.Refusals.{refusal_number}
 use Rattle.frames.specs.declared.Command.{Command}
-use Rattle.frames.specs.declared.Parsed.{Parsed}
-use Rattle.frames.specs.declared.Parsed.TheVariants.{Read, Refused}
-use Rattle.frames.specs.Frame.{parse}
+use Rattle.frames.specs.Frame.{parse, Parsed}
 use Rattle.answers.specs.declared.Answer.TheVariants.{Refused as is_refused}
 use Rattle.answers.specs.declared.Outcome.{Outcome}
 use Rattle.answers.specs.Answer.{answer_size, answer_after, outcome_of}
@@ -27,8 +26,8 @@ unfoldable pub carry_out : State → List ℕ → Command → ℕ → Verdict
 carry_out b f c n = pick (eqb n 0) (record { reply = reply b f c; state = effect b f c }) (refused b n)
 
 abbrev pub judge : State → List ℕ → Parsed → Verdict
-judge b f (Refused n) = refused b n
-judge b f (Read c) = carry_out b f c (refusal b f c)
+judge b f (Err r) = refused b (refusal_number r)
+judge b f (Ok c) = carry_out b f c (refusal b f c)
 
 -- One call: a frame and an answer buffer.
 pub record Call : Type 0 where

@@ -1,12 +1,10 @@
 -- Document 01: "A refusal writes its one byte, nothing after it". That it leaves the bus alone is in Accepted.antt.
 -- Assumes nothing.
-use Rattle.std.specs.Prelude.{ℕ, ◌≡◌, refl, false, List, [], ◌∷◌, length, eqb, ltb}
+use Rattle.std.specs.Prelude.{ℕ, ◌≡◌, refl, false, List, [], ◌∷◌, length, eqb, ltb, Ok, Err}
 use Rattle.laws.specs.Tests.{Seen, Seen.is_true, Seen.is_false, look}
 use Rattle.frames.specs.declared.Command.{Command}
 use Rattle.frames.specs.declared.Command.TheVariants.{Open, Disconnect, Create, Destroy, Release, Transfer, Send, Receive, Quota, Holders, ShowSeed}
-use Rattle.frames.specs.declared.Parsed.{Parsed}
-use Rattle.frames.specs.declared.Parsed.TheVariants.{Read, Refused}
-use Rattle.frames.specs.Frame.{parse}
+use Rattle.frames.specs.Frame.{parse, Parsed}
 use Rattle.answers.specs.Answer.{answer_size, number_of, contents_of, answer_bytes, answer_after, outcome_of}
 use Rattle.model.specs.State.{Seed, Seed.unset, Seed.kept, State, Entry, Entry.message, Entry.destroyed, Entry.released}
 use Rattle.model.specs.Refusals.{refusal}
@@ -48,10 +46,10 @@ refused-byte b c e h = go (parse c.frame) h
   where
     go : (r : Parsed) → ((finish b c.buffer (judge b c.frame r)).outcome.number ≡ 0 → ⊥) →
         answer_of (finish b c.buffer (judge b c.frame r)) ≡ (finish b c.buffer (judge b c.frame r)).outcome.number ∷ []
-    go (Refused n) k = rw e
-    go (Read d) k = on (look (eqb (refusal b c.frame d) 0))
+    go (Err r) k = rw e
+    go (Ok d) k = on (look (eqb (refusal b c.frame d) 0))
       where
-        on : Seen (eqb (refusal b c.frame d) 0) → answer_of (finish b c.buffer (judge b c.frame (Read d)))
-            ≡ (finish b c.buffer (judge b c.frame (Read d))).outcome.number ∷ []
+        on : Seen (eqb (refusal b c.frame d) 0) → answer_of (finish b c.buffer (judge b c.frame (Ok d)))
+            ≡ (finish b c.buffer (judge b c.frame (Ok d))).outcome.number ∷ []
         on (is_true z) = absurd (k (rw (e, z) (reply-number b c.frame d)))
         on (is_false z) = rw (e, z)

@@ -1,11 +1,10 @@
 -- An item with k ahead of it comes out at or before receive k + 1, or is lost: the proof, of histories.
 -- Assumes nothing.
-use Rattle.std.specs.Prelude.{ℕ, ◌≡◌, refl, Bool, true, false, List, [], ◌∷◌, map, length, get_or, eqb}
+use Rattle.std.specs.Prelude.{ℕ, ◌≡◌, refl, Bool, true, false, List, [], ◌∷◌, map, length, get_or, eqb, Ok}
 use Rattle.std.proofs.Common.{ne_eqb}
 use Rattle.laws.specs.Tests.{pick}
 use Rattle.frames.specs.declared.Command.{Command}
 use Rattle.frames.specs.declared.Command.TheVariants.{Open, Disconnect, Create, Destroy, Release, Transfer, Send, Receive, Quota, Holders, ShowSeed}
-use Rattle.frames.specs.declared.Parsed.TheVariants.{Read}
 use Rattle.frames.specs.Frame.{opcode, parse}
 use Rattle.model.specs.Lists.{both}
 use Rattle.model.specs.State.{Entry}
@@ -39,7 +38,7 @@ taken-coded l p f (ShowSeed q room) e g = rw e refl
 abbrev pub taken_by : Ledger → ℕ → Fed → List Item
 taken_by l p x = pick (receives_at p x) (front (l.queue p)) []
 
-taken-accepted : (l : Ledger) (p : ℕ) (x : Fed) (c : Command) → x.number ≡ 0 → parse x.frame ≡ Read c → taken_by l p x ≡ taken_of l p c
+taken-accepted : (l : Ledger) (p : ℕ) (x : Fed) (c : Command) → x.number ≡ 0 → parse x.frame ≡ Ok c → taken_by l p x ≡ taken_of l p c
 taken-accepted l p x c e g = let h = coded x.frame c g in rw e (taken-coded l p x.frame c h.byte h.peer)
 
 -- Beside the ledger the book goes on.

@@ -10,7 +10,7 @@ ghost use Rattle.view.specs.View.{bus_of};
 ghost use Rattle.journal_model.specs.Journal.{is_question, wholly, recovery_from, recovered};
 ghost use Rattle.recovery.specs.Steps.{tried_of, tried, stepped_of, read_step, line_step, halted_at, replay_from};
 
-use frames::{Command, Parsed};
+use frames::Command;
 use ids::{ANSWER_SIZE, FRAME_SIZE};
 use journal_model::Recovered;
 use lines::LineRead;
@@ -21,7 +21,7 @@ fn is_question(f: &[u8]) -> bool
 {
     matches!(
         frames::parse(f),
-        Parsed::Read(Command::Quota(_, _)) | Parsed::Read(Command::Holders(_, _))
+        Ok(Command::Quota(_, _)) | Ok(Command::Holders(_, _))
     )
 }
 
@@ -238,6 +238,7 @@ pub fn recover(
         ends.new es.new carried.new numbers.new pool.new seeds.new in
         recovery_from result after ≡ recovered before kept.now }
 {
+    // A number, as the contract of `fresh` says (`fresh_number`), which C reads too.
     if bus::fresh(ps, ns, hs, cs, ends, es, carried, numbers, pool, seeds) != 0 {
         return Recovered::WrongLength;
     }

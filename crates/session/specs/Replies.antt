@@ -1,14 +1,12 @@
 -- A command's answer does not depend on what the answer buffer held: for every bus and every frame there are a number, a bus and bytes, at most 591 of them,
 -- such that the command writes these bytes at the front of any buffer that is long enough.
 -- Assumes nothing.
-use Rattle.std.specs.Prelude.{ℕ, ◌≤◌, ◌≡◌, refl, List, [], ◌++◌, length, take, drop, replicate}
+use Rattle.std.specs.Prelude.{ℕ, ◌≤◌, ◌≡◌, refl, List, [], ◌++◌, length, take, drop, replicate, Ok, Err}
 use Rattle.std.proofs.Common.{sym, ap, ◌∙◌, arith, take_at, le-ltb}
 use Rattle.std.proofs.lemmas.List.{length-replicate}
 use Rattle.laws.specs.Tests.{pick, Seen, Seen.is_true, Seen.is_false, look}
 use Rattle.ids.specs.Refusals.{EIO}
-use Rattle.frames.specs.declared.Parsed.{Parsed}
-use Rattle.frames.specs.declared.Parsed.TheVariants.{Read, Refused}
-use Rattle.frames.specs.Frame.{parse}
+use Rattle.frames.specs.Frame.{parse, Parsed}
 use Rattle.answers.specs.declared.Answer.{Answer}
 use Rattle.answers.specs.Answer.{answer_size, number_of, answer_bytes, answer_after, outcome_of}
 use Rattle.answers.specs.AnswerLaws.{contents-size}
@@ -62,8 +60,8 @@ writes-carried b f (order.Holders s) w = writes-answer _ [] [] b
 
 writes-obeyed : (b : Bus) (f : List ℕ) (x : Parsed) → Writes (λ out. obeyed b f out x)
 unfolding carried_out
-writes-obeyed b f (Refused n) = writes-answer _ [] [] b
-writes-obeyed b f (Read c) =
+writes-obeyed b f (Err r) = writes-answer _ [] [] b
+writes-obeyed b f (Ok c) =
     let r = ruling_of (sight b.peers b.nodes b.handles b.charges b.rings b.seeds) f c in
     writes-carried b f r.order r.places
 

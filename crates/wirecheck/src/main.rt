@@ -17,7 +17,7 @@
 ghost use Rattle.std.specs.Prelude.{◌≡◌, ◌+◌, ◌<◌, ◌≤◌, length, IfSome};
 
 use answers::{Answer, Header, Received};
-use frames::{Command, Parsed};
+use frames::Command;
 use ids::{ANSWER_SIZE, EDQUOT, EINVAL, FRAME_SIZE, HandleId, INVALID, MOST_IDS, Peer, User};
 use lines::LineRead;
 use quota::{Charge, Charges};
@@ -147,8 +147,8 @@ fn say_fault(rt: &impl Print, place: usize) {
 
 fn judge(frame: &[u8], charges: Charges) -> (Answer, Charges) {
     match frames::parse(frame) {
-        Parsed::Refused(n) => (Answer::Refused(n), charges),
-        Parsed::Read(c) => carry_out(c, frame, charges),
+        Err(refusal) => (Answer::Refused(u8::from(refusal)), charges),
+        Ok(c) => carry_out(c, frame, charges),
     }
 }
 

@@ -8,10 +8,10 @@ pub returns-then-not-is_sound : goal.returns-then-not-is_sound
 returns-then-not-is_sound c = not_sound _ _ _ c.requires c.is_sound.ensures c.if-not-is_sound.true c.write_refusal.ensures
 
 pub execute-requires : goal.execute-requires
-execute-requires c = let z = sound-then _ c.is_sound.ensures c.if-not-is_sound.false in (z.0, z.1, legal-command _ _ (sym c.parse.ensures ∙ c.in-Read.is))
+execute-requires c = let z = sound-then _ c.is_sound.ensures c.if-not-is_sound.false in (z.0, z.1, legal-command _ _ (sym c.parse.ensures ∙ c.in-Ok.is))
 
-pub returns-in-Refused : goal.returns-in-Refused
-returns-in-Refused c = not-read _ _ _ c.requires c.is_sound.ensures c.if-not-is_sound.false c.parse.ensures c.in-Refused.is c.write_refusal-in-Refused.ensures
+pub returns-in-Err : goal.returns-in-Err
+returns-in-Err c = not-read _ _ _ c.requires c.is_sound.ensures c.if-not-is_sound.false c.parse.ensures c.in-Err.is c.from.ensures c.write_refusal-in-Err.ensures
 
-pub returns-in-Read : goal.returns-in-Read
-returns-in-Read c = was_read _ _ _ c.requires c.is_sound.ensures c.if-not-is_sound.false c.parse.ensures c.in-Read.is c.execute.ensures
+pub returns-in-Ok : goal.returns-in-Ok
+returns-in-Ok c = was_read _ _ _ c.requires c.is_sound.ensures c.if-not-is_sound.false c.parse.ensures c.in-Ok.is c.execute.ensures

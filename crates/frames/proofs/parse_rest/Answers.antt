@@ -1,7 +1,8 @@
 -- `frames::parse_rest` meets its contract: each arm of the match is the definition at that command byte, and the frame's length makes its reads lie within. Assumes nothing.
+use lib.ListN.{length}
 use native.Mathlib.Omega.{arith}
 use Rattle.frames.specs.Frame.{frame_length, parse_rest}
-use Rattle.frames.proofs.Laws.{sized, sized-else, rest-else}
+use Rattle.frames.proofs.Laws.{passed, sized, sized-else, rest-open, rest-open-user, rest-transfer, rest-transfer-peer, rest-quota, rest-quota-user, rest-else}
 use Rattle.frames.proofs.parse_rest.Goals as goal
 
 pub bounds-f-2 : goal.bounds-f-2
@@ -42,11 +43,25 @@ short_at-requires-in-12 c = omega (arith, sized _ _ 12 c.requires c.in-12.is)
 
 pub id_at-requires-in_default : goal.id_at-requires-in_default
 unfolding frame_length
-id_at-requires-in_default c = let r = c.in_default.in_default-own.rest in omega (arith, sized-else _ _ c.requires r.0.0.0.0.0.0.0.0.1 r.0.0.0.0.0.0.0.1 r.0.0.0.1 r.0.0.1 r.0.1 r.1)
+id_at-requires-in_default c = omega (arith, sized-else (length c.args.f.now) c.args.op c.requires (omega arith) (omega arith) (omega arith) (omega arith) (omega arith) (omega arith))
 
-pub returns-in-1 : goal.returns-in-1
-unfolding parse_rest
-returns-in-1 c = rw c.in-1.is c.parse_open.ensures
+pub returns-in_err-try_from-in-1 : goal.returns-in_err-try_from-in-1
+returns-in_err-try_from-in-1 c = let e = c.in_err-try_from-in-1.ensures in rest-open-user c.args.p c.args.f.now c.in-1.is e.1 (passed _ _ c.from_residual.ensures.1 e.0)
+
+pub returns-in_err-try_from-in-6 : goal.returns-in_err-try_from-in-6
+returns-in_err-try_from-in-6 c = let e = c.in_err-try_from-in-6.ensures in rest-transfer-peer c.args.p c.args.f.now c.in-6.is e.1 (passed _ _ c.from_residual-in_err-try_from-in-6.ensures.1 e.0)
+
+pub returns-in_err-try_from-in-9 : goal.returns-in_err-try_from-in-9
+returns-in_err-try_from-in-9 c = let e = c.in_err-try_from-in-9.ensures in rest-quota-user c.args.p c.args.f.now c.in-9.is e.1 (passed _ _ c.from_residual-in_err-try_from-in-9.ensures.1 e.0)
+
+pub returns-in_ok-try_from-in-1 : goal.returns-in_ok-try_from-in-1
+returns-in_ok-try_from-in-1 c = rest-open c.args.p c.args.f.now c.in-1.is _ c.in_ok-try_from-in-1.ensures
+
+pub returns-in_ok-try_from-in-6 : goal.returns-in_ok-try_from-in-6
+returns-in_ok-try_from-in-6 c = rest-transfer c.args.p c.args.f.now c.in-6.is _ _ c.id_at-in-6.ensures c.in_ok-try_from-in-6.ensures
+
+pub returns-in_ok-try_from-in-9 : goal.returns-in_ok-try_from-in-9
+returns-in_ok-try_from-in-9 c = rest-quota c.args.p c.args.f.now c.in-9.is _ c.in_ok-try_from-in-9.ensures
 
 pub returns-in-2 : goal.returns-in-2
 unfolding parse_rest
@@ -64,21 +79,13 @@ pub returns-in-5 : goal.returns-in-5
 unfolding parse_rest
 returns-in-5 c = rw (c.in-5.is, ← c.id_at-in-5.ensures)
 
-pub returns-in-6 : goal.returns-in-6
-unfolding parse_rest
-returns-in-6 c = rw (c.in-6.is, ← c.id_at-in-6.ensures) c.parse_transfer.ensures
-
 pub returns-in-8 : goal.returns-in-8
 unfolding parse_rest
 returns-in-8 c = rw (c.in-8.is, ← c.short_at.ensures.0)
-
-pub returns-in-9 : goal.returns-in-9
-unfolding parse_rest
-returns-in-9 c = rw c.in-9.is c.parse_quota.ensures
 
 pub returns-in-12 : goal.returns-in-12
 unfolding parse_rest
 returns-in-12 c = rw (c.in-12.is, ← c.short_at-in-12.ensures.0)
 
 pub returns-in_default : goal.returns-in_default
-returns-in_default c = let r = c.in_default.in_default-own.rest in rest-else c.args.op c.args.p c.args.f.now r.0.0.0.0.0.0.0.0.1 r.0.0.0.0.0.0.0.1 r.0.0.0.0.0.0.1 r.0.0.0.0.0.1 r.0.0.0.0.1 r.0.0.0.1 r.0.0.1 r.0.1 r.1 _ c.id_at-in_default.ensures
+returns-in_default c = rest-else c.args.op c.args.p c.args.f.now (omega arith) (omega arith) (omega arith) (omega arith) (omega arith) (omega arith) (omega arith) (omega arith) (omega arith) _ c.id_at-in_default.ensures

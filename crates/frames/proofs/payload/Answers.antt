@@ -6,8 +6,5 @@ use Rattle.frames.proofs.payload.Goals as goal
 pub returns-then-n-lt6 : goal.returns-then-n-lt6
 returns-then-n-lt6 c = payload-none c.args.frame.now (omega arith)
 
-pub returns-then-n-at : goal.returns-then-n-at
-returns-then-n-at c = payload-none c.args.frame.now (omega arith)
-
 pub returns : goal.returns
-returns c = payload-part c.args.frame.now _ _ c.index.ensures.0 c.index-2.ensures.0
+returns c = payload-part c.args.frame.now _ _ _ c.from.ensures c.from-2.ensures c.min.ensures

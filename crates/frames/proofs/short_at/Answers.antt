@@ -6,4 +6,4 @@ use Rattle.frames.proofs.short_at.Goals as goal
 
 pub returns : goal.returns
 unfolding short_at
-returns c = omega (arith, num-two c.args.f.now c.args.at)
+returns c = omega (arith, num-two c.args.f.now c.args.at, c.from_be_bytes.ensures, c.from_be_bytes.type_inv, c.from.ensures)

@@ -13,10 +13,10 @@ returns-then-journal-used c = elim c.then-journal-used.branch [
 ]
 
 pub execute-requires : goal.execute-requires
-execute-requires c = let z = sound-then _ c.is_sound.ensures c.if-not-is_sound.false in (z.0, z.1, legal-command _ _ (sym c.parse.ensures ∙ c.in-Read.is), c.requires)
+execute-requires c = let z = sound-then _ c.is_sound.ensures c.if-not-is_sound.false in (z.0, z.1, legal-command _ _ (sym c.parse.ensures ∙ c.in-Ok.is), c.requires)
 
-pub returns-in-Refused : goal.returns-in-Refused
-returns-in-Refused c = kept-unread _ _ _ _ _ c.requires c.if-journal-used.false c.is_sound.ensures c.if-not-is_sound.false c.parse.ensures c.in-Refused.is c.write_refusal-in-Refused.ensures c.with_used-in-Refused.ensures
+pub returns-in-Err : goal.returns-in-Err
+returns-in-Err c = kept-unread _ _ _ _ _ c.requires c.if-journal-used.false c.is_sound.ensures c.if-not-is_sound.false c.parse.ensures c.in-Err.is c.from.ensures c.write_refusal-in-Err.ensures c.with_used-in-Err.ensures
 
-pub returns-in-Read : goal.returns-in-Read
-returns-in-Read c = kept_read _ _ _ _ _ c.requires c.if-journal-used.false c.is_sound.ensures c.if-not-is_sound.false c.parse.ensures c.in-Read.is c.execute.ensures
+pub returns-in-Ok : goal.returns-in-Ok
+returns-in-Ok c = kept_read _ _ _ _ _ c.requires c.if-journal-used.false c.is_sound.ensures c.if-not-is_sound.false c.parse.ensures c.in-Ok.is c.execute.ensures
