@@ -238,6 +238,7 @@ pub fn recover(
         ends.new es.new carried.new numbers.new pool.new seeds.new in
         recovery_from result after ≡ recovered before kept.now }
 {
+    // A number, as the contract of `fresh` says (`fresh_number`), which C reads too.
     if bus::fresh(ps, ns, hs, cs, ends, es, carried, numbers, pool, seeds) != 0 {
         return Recovered::WrongLength;
     }

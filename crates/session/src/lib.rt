@@ -167,7 +167,7 @@ fn answer_line(
 }
 
 // How far the answering came: where the next line starts, where the text ends, and whether there is more to answer, for
-// which the text has to be written out first.
+// which the text has to be written out first. `more` is a flag, since both places hold in either case.
 #[derive(Clone, Copy)]
 pub struct Progress {
     pub from: usize,
