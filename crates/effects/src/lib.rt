@@ -81,9 +81,7 @@ pub fn destroy(
         ≡ destroys peers.old nodes.old handles.now charges.now before p.0 s }
 {
     let n = next_number(peers);
-    notices::destroy_one(
-        nodes, handles, charges, rings, p, s, n,
-    );
+    notices::destroy_one(nodes, handles, charges, rings, p, s, n);
 }
 
 // The peer's handle to its own node is gone: the messages for the node go, and the destroy notices that nothing keeps then. In
@@ -132,14 +130,10 @@ fn forget(
         after ≡ forgotten nodes.now handles.now before p.0 s }
 {
     if s / SLOTS == p.0 {
-        forget_own(
-            nodes, handles, charges, rings, pool, p, s,
-        );
+        forget_own(nodes, handles, charges, rings, pool, p, s);
         return;
     }
-    notices::expire(
-        nodes, handles, charges, rings, p, s,
-    );
+    notices::expire(nodes, handles, charges, rings, p, s);
 }
 
 // One reference of the peer to the slot's node less: how many are left.
@@ -151,13 +145,7 @@ fn drop_reference(handles: &mut [u64], p: Peer, s: usize) -> u64
 }
 
 // The release notice at the owner, where the slot's node lives and the sum of counts is 1.
-fn notify(
-    nodes: &[u64],
-    handles: &[u64],
-    rings: &mut RingTables<'_>,
-    s: usize,
-    n: u64,
-)
+fn notify(nodes: &[u64], handles: &[u64], rings: &mut RingTables<'_>, s: usize, n: u64)
     requires { (length nodes.now ≡ nodes_size) × (length handles.now ≡ handles_size) × (s < node_count) }
     ensures same { SameTables rings.old rings.new }
     ensures done { let before = lent rings.old in
@@ -194,9 +182,7 @@ pub fn release(
     let n = next_number(peers);
     let left = drop_reference(handles, p, s);
     if left == 0 {
-        forget(
-            nodes, handles, charges, rings, pool, p, s,
-        );
+        forget(nodes, handles, charges, rings, pool, p, s);
     }
     notify(nodes, handles, rings, s, n);
 }
@@ -218,9 +204,7 @@ pub fn transfer(
         ≡ transfers peers.old nodes.now handles.old before q.0 s }
 {
     let n = next_number(peers);
-    HandleId(grants::give(
-        peers, nodes, handles, rings, q, n, s,
-    ))
+    HandleId(grants::give(peers, nodes, handles, rings, q, n, s))
 }
 
 // The message of a send to a slot. The remainders cut its numbers to their widths, as the definition does.
@@ -260,14 +244,7 @@ fn deliver(
     for to in &w.to[..z.nd] {
         let s = usize::from(*to) % NODES;
         let e = message_to(s, u, payload.len(), z.nh, slots, n);
-        queues::enqueue(
-            charges,
-            rings,
-            pool,
-            Peer(s / SLOTS),
-            e,
-            payload,
-        );
+        queues::enqueue(charges, rings, pool, Peer(s / SLOTS), e, payload);
     }
 }
 
@@ -289,9 +266,7 @@ pub fn send(
 {
     let n = next_number(peers);
     let u = tables::user_of(peers, p);
-    deliver(
-        charges, rings, pool, u, z, w, payload, n,
-    );
+    deliver(charges, rings, pool, u, z, w, payload, n);
 }
 
 // A send with no destinations replaces the peer's own seed.
@@ -322,9 +297,7 @@ pub fn disconnect(
 {
     let n = next_number(peers);
     let set = notices::set_of(nodes, handles, p, Asked::Living);
-    notices::destroy_set(
-        nodes, handles, charges, rings, p, set, n,
-    );
+    notices::destroy_set(nodes, handles, charges, rings, p, set, n);
     queues::empty(charges, rings.ends, p);
     notices::tell_owners(nodes, handles, rings, p, n);
     tables::clear_peer(handles, p);
@@ -393,14 +366,10 @@ fn receive_message(
     rings::pop(rings.ends, p);
     let slots = e.carried;
     let nh = usize::from(e.nh).min(MOST_IDS);
-    let ids = grants::give_all(
-        peers, nodes, handles, rings, p, e.number, slots, nh,
-    );
+    let ids = grants::give_all(peers, nodes, handles, rings, p, e.number, slots, nh);
     let o = write_message(out, charges, pool, p, to, flag, e, ids);
     queues::settle(charges, pool, p, e);
-    notices::expire_shown(
-        nodes, handles, charges, rings, p, slots, ids, nh,
-    );
+    notices::expire_shown(nodes, handles, charges, rings, p, slots, ids, nh);
     o
 }
 
@@ -443,9 +412,7 @@ pub fn receive(
     if !queues::is_message(e) {
         return receive_notice(handles, rings.ends, p, e, out);
     }
-    receive_message(
-        peers, nodes, handles, charges, rings, pool, p, e, out,
-    )
+    receive_message(peers, nodes, handles, charges, rings, pool, p, e, out)
 }
 
 // The answer of a seed: no destination, the peer's own user, no flag.
@@ -497,8 +464,6 @@ pub fn show_seed(
     let user = tables::user_of(peers, p);
     let slots = seeds::slots_of(seeds, p);
     let nh = seeds::nh_of(seeds, p);
-    let ids = grants::give_all(
-        peers, nodes, handles, rings, p, n, slots, nh,
-    );
+    let ids = grants::give_all(peers, nodes, handles, rings, p, n, slots, nh);
     write_seed(out, seeds, p, user, nh, ids)
 }

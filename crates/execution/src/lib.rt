@@ -54,12 +54,8 @@ fn alter(
             seeds::drop_seed(seeds, p);
         }
         Order::Create(p, i, s) => effects::create(ps, ns, hs, p, i, s),
-        Order::Destroy(p, s) => {
-            effects::destroy(ps, ns, hs, cs, rings, p, s)
-        }
-        Order::Release(p, s) => {
-            effects::release(ps, ns, hs, cs, rings, pool, p, s)
-        }
+        Order::Destroy(p, s) => { effects::destroy(ps, ns, hs, cs, rings, p, s) }
+        Order::Release(p, s) => { effects::release(ps, ns, hs, cs, rings, pool, p, s) }
         _ => {}
     }
 }
@@ -84,11 +80,7 @@ fn change(
         changed_of result after ≡ changed before f.now r.order r.places }
 {
     match r.order {
-        Order::Transfer(q, s) => {
-            Answer::Transferred(effects::transfer(
-                ps, ns, hs, rings, q, s,
-            ))
-        }
+        Order::Transfer(q, s) => { Answer::Transferred(effects::transfer(ps, ns, hs, rings, q, s)) }
         Order::Send(p, z) => {
             let w = r.places;
             let data = frames::payload(f);
@@ -98,9 +90,7 @@ fn change(
         }
         order => {
             let a = reply(hs, cs, order);
-            alter(
-                ps, ns, hs, cs, rings, pool, seeds, order,
-            );
+            alter(ps, ns, hs, cs, rings, pool, seeds, order);
             a
         }
     }
@@ -127,18 +117,10 @@ pub fn carry_out(
         done_of result after out.new ≡ carried_out before f.now out.old r }
 {
     match r.order {
-        Order::Receive(p) => {
-            effects::receive(
-                ps, ns, hs, cs, rings, pool, p, out,
-            )
-        }
-        Order::ShowSeed(p) => {
-            effects::show_seed(ps, ns, hs, rings, seeds, p, out)
-        }
+        Order::Receive(p) => { effects::receive(ps, ns, hs, cs, rings, pool, p, out) }
+        Order::ShowSeed(p) => { effects::show_seed(ps, ns, hs, rings, seeds, p, out) }
         _ => {
-            let a = change(
-                ps, ns, hs, cs, rings, pool, seeds, f, r,
-            );
+            let a = change(ps, ns, hs, cs, rings, pool, seeds, f, r);
             answers::write_plain(out, a)
         }
     }

@@ -118,9 +118,7 @@ pub fn give_all(
     let mut ids = [0u64; 8];
     for k in 0..nh {
         let s = usize::from(slots[k]) % NODES;
-        ids[k] = give(
-            peers, nodes, handles, rings, p, n, s,
-        );
+        ids[k] = give(peers, nodes, handles, rings, p, n, s);
     }
     ids
 }

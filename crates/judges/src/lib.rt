@@ -153,9 +153,7 @@ fn free_slot(
 {
     for k in 0..SLOTS {
         let s = p.0 * SLOTS + k;
-        if !counts(
-            nodes, handles, charges, rings, seeds, s,
-        ) {
+        if !counts(nodes, handles, charges, rings, seeds, s) {
             return Some(s);
         }
     }
@@ -184,9 +182,7 @@ fn judge_create(
     if tables::find(handles, p, i).is_some() {
         return Err(Refusal::EEXIST);
     }
-    let free = free_slot(
-        nodes, handles, charges, rings, seeds, p,
-    );
+    let free = free_slot(nodes, handles, charges, rings, seeds, p);
     Ok(Order::Create(p, i, free.ok_or(Refusal::ENOSPC)?))
 }
 
@@ -446,9 +442,7 @@ pub fn judge(
     match c {
         Command::Open(p, u) => plain(judge_open(ps, p, u)),
         Command::Disconnect(p) => plain(judge_disconnect(ps, p)),
-        Command::Create(p, i) => {
-            plain(judge_create(ps, ns, hs, cs, rings, seeds, p, i))
-        }
+        Command::Create(p, i) => { plain(judge_create(ps, ns, hs, cs, rings, seeds, p, i)) }
         Command::Destroy(p, i) => plain(judge_destroy(ps, ns, hs, p, i)),
         Command::Release(p, i) => plain(judge_release(ps, ns, hs, p, i)),
         Command::Transfer(p, i, q) => plain(judge_transfer(ps, ns, hs, p, i, q)),
@@ -459,9 +453,7 @@ pub fn judge(
             },
             Err(refusal) => plain(Err(refusal)),
         },
-        Command::Receive(p, room) => {
-            plain(judge_receive(ps, rings, p, room))
-        }
+        Command::Receive(p, room) => { plain(judge_receive(ps, rings, p, room)) }
         Command::Quota(p, u) => plain(judge_quota(ps, p, u)),
         Command::Holders(p, i) => plain(judge_holders(ps, hs, p, i)),
         Command::ShowSeed(p, room) => plain(judge_seed(ps, seeds, p, room)),

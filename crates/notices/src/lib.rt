@@ -138,11 +138,7 @@ fn least_id(handles: &[u64], q: Peer, set: u16) -> Option<usize>
 }
 
 // The entry queued at each peer of a set, in ascending order.
-fn post(
-    rings: &mut RingTables<'_>,
-    set: u8,
-    e: Entry,
-)
+fn post(rings: &mut RingTables<'_>, set: u8, e: Entry)
     ensures same { SameTables rings.old rings.new }
     ensures done { let before = lent rings.old in
         let after = lent rings.new in
@@ -180,26 +176,13 @@ fn concerns(
 }
 
 // Who is told of the destruction: one bit for each peer.
-fn addressees(
-    handles: &[u64],
-    charges: &[u16],
-    rings: &RingTables<'_>,
-    s: usize,
-    n: u64,
-) -> u8
+fn addressees(handles: &[u64], charges: &[u16], rings: &RingTables<'_>, s: usize, n: u64) -> u8
     requires { (length handles.now ≡ handles_size) × (length charges.now ≡ charges_size) × (s < node_count) }
     ensures { let queues = lent rings.now in
         result ≡ addressees_bits handles.now charges.now queues s n }
 {
     set_where(PEERS, |o| {
-        concerns(
-            handles,
-            charges,
-            rings,
-            Peer(o),
-            s,
-            n,
-        )
+        concerns(handles, charges, rings, Peer(o), s, n)
     }) as u8
 }
 
@@ -239,9 +222,7 @@ fn addressees_of(
 {
     let mut to = [0u8; 16];
     for k in 0..SLOTS {
-        to[k] = addressees_at(
-            handles, charges, rings, p, set, n, k,
-        );
+        to[k] = addressees_at(handles, charges, rings, p, set, n, k);
     }
     to
 }
@@ -314,9 +295,7 @@ pub fn destroy_set(
     };
     queues::withdraw(rings, p, m);
     bury(nodes, p, set, n);
-    tell(
-        nodes, handles, rings, p, set, to, DESTROYED, n,
-    );
+    tell(nodes, handles, rings, p, set, to, DESTROYED, n);
 }
 
 // Of the peer's own nodes the one at the slot's place is destroyed: the set of that one bit.
@@ -347,13 +326,7 @@ pub fn destroy_one(
 }
 
 // The release notices at every owner, when all handles of the peer go.
-pub fn tell_owners(
-    nodes: &[u64],
-    handles: &[u64],
-    rings: &mut RingTables<'_>,
-    p: Peer,
-    n: u64,
-)
+pub fn tell_owners(nodes: &[u64], handles: &[u64], rings: &mut RingTables<'_>, p: Peer, n: u64)
     requires { (length nodes.now ≡ nodes_size) × (length handles.now ≡ handles_size) × (p.0 < peer_count) }
     ensures same { SameTables rings.old rings.new }
     ensures done { let before = lent rings.old in
@@ -425,9 +398,7 @@ pub fn expire_shown(
         if ids[k] == INVALID {
             let s = usize::from(slots[k]) % NODES;
             if s / SLOTS == p.0 {
-                expire(
-                    nodes, handles, charges, rings, p, s,
-                );
+                expire(nodes, handles, charges, rings, p, s);
             }
         }
     }
@@ -456,9 +427,7 @@ fn expire_at(
         return;
     }
     let s = usize::from(e.slot) % NODES;
-    expire(
-        nodes, handles, charges, rings, p, s,
-    );
+    expire(nodes, handles, charges, rings, p, s);
 }
 
 // The same of every destroy notice in the peer's queue, the last first, so that none is passed over where entries
@@ -482,8 +451,6 @@ pub fn expire_all(
         return;
     }
     for i in (0..len).rev() {
-        expire_at(
-            nodes, handles, charges, rings, p, i,
-        );
+        expire_at(nodes, handles, charges, rings, p, i);
     }
 }

@@ -67,12 +67,7 @@ fn keep_piece(pool: &mut [u8], p: Peer, read: usize, at: usize, e: Entry, m: Mat
 }
 
 // The payloads of the entries that a removal takes out of a queue are taken out; the others move down, in order. How many bytes stay.
-pub fn remove(
-    pool: &mut [u8],
-    rings: &RingTables<'_>,
-    p: Peer,
-    m: Match,
-) -> usize
+pub fn remove(pool: &mut [u8], rings: &RingTables<'_>, p: Peer, m: Match) -> usize
     requires { (p.0 < peers) × (length_of rings.now.ends.now p.0 ≤ ring_size) }
     ensures { let queues = lent rings.now in
         kept result pool.new ≡ kept_pieces pool.old p.0 0 0 m (queue_of queues p.0) }

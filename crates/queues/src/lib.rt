@@ -66,11 +66,7 @@ fn charge_of(e: Entry) -> Charge
 }
 
 // An entry appended to a queue; to a full one, nothing.
-pub fn enter(
-    rings: &mut RingTables<'_>,
-    p: Peer,
-    e: Entry,
-)
+pub fn enter(rings: &mut RingTables<'_>, p: Peer, e: Entry)
     requires { (p.0 < peers) }
     ensures same { SameTables rings.old rings.new }
     ensures done { let before = lent rings.old in
@@ -138,12 +134,7 @@ fn lessen(c: Charges, e: Entry, m: Match) -> Charges
 }
 
 // The charges after all messages of a queue that a removal takes out.
-fn lessen_all(
-    c: Charges,
-    rings: &RingTables<'_>,
-    p: Peer,
-    m: Match,
-) -> Charges
+fn lessen_all(c: Charges, rings: &RingTables<'_>, p: Peer, m: Match) -> Charges
     requires { (p.0 < peers) × (length_of rings.now.ends.now p.0 ≤ ring_size) }
     ensures { let queues = lent rings.now in
         result ≡ lessened_all c m (queue_of queues p.0) }
@@ -159,11 +150,7 @@ fn lessen_all(
 }
 
 // Every entry that matches taken out of a queue, no payload and no charge with it: notices alone.
-pub fn withdraw(
-    rings: &mut RingTables<'_>,
-    p: Peer,
-    m: Match,
-)
+pub fn withdraw(rings: &mut RingTables<'_>, p: Peer, m: Match)
     requires { (p.0 < peers) }
     ensures same { SameTables rings.old rings.new }
     ensures done { let before = lent rings.old in
@@ -177,13 +164,7 @@ pub fn withdraw(
 
 // The charges and the payloads of the messages that a removal takes out of a queue, taken off; where it takes out no
 // message, both tables stay, and neither is read.
-fn remove_messages(
-    charges: &mut [u16],
-    rings: &RingTables<'_>,
-    pool: &mut [u8],
-    p: Peer,
-    m: Match,
-)
+fn remove_messages(charges: &mut [u16], rings: &RingTables<'_>, pool: &mut [u8], p: Peer, m: Match)
     requires { (length charges.old ≡ charges_size) × (p.0 < peers) × (length_of rings.now.ends.now p.0 ≤ ring_size) }
     ensures { let queues = lent rings.now in
         (charges.new ≡ lessened_charges charges.old p.0 m (queue_of queues p.0))
@@ -209,13 +190,7 @@ fn remove_messages(
 }
 
 // Every entry that matches taken out of a queue, with its payload and its charge.
-pub fn remove(
-    charges: &mut [u16],
-    rings: &mut RingTables<'_>,
-    pool: &mut [u8],
-    p: Peer,
-    m: Match,
-)
+pub fn remove(charges: &mut [u16], rings: &mut RingTables<'_>, pool: &mut [u8], p: Peer, m: Match)
     requires { (length charges.old ≡ charges_size) × (p.0 < peers) }
     ensures same { SameTables rings.old rings.new }
     ensures done { let before = queued charges.old rings.old pool.old in
@@ -241,11 +216,7 @@ pub fn empty(charges: &mut [u16], ends: &mut [u16], p: Peer)
 
 // Behind the oldest entry, is there another message that the command of the number n queued? A queue is in the order of
 // these numbers.
-pub fn follows(
-    rings: &RingTables<'_>,
-    p: Peer,
-    n: u64,
-) -> bool
+pub fn follows(rings: &RingTables<'_>, p: Peer, n: u64) -> bool
     requires { (p.0 < peers) × (length_of rings.now.ends.now p.0 ≤ ring_size) }
     ensures { let queues = lent rings.now in
         result ≡ follows_in queues p.0 n }
@@ -330,12 +301,7 @@ pub fn attached(c: Charges) -> usize
 }
 
 // Does a message in a queue with attached handles name the slot? Other queues are not looked through.
-fn carries(
-    charges: &[u16],
-    rings: &RingTables<'_>,
-    p: Peer,
-    s: usize,
-) -> bool
+fn carries(charges: &[u16], rings: &RingTables<'_>, p: Peer, s: usize) -> bool
     requires { (length charges.now ≡ charges_size) × (p.0 < peers) × (length_of rings.now.ends.now p.0 ≤ ring_size) }
     ensures { let queues = lent rings.now in
         result ≡ carries_in charges.now queues s p.0 }
@@ -346,15 +312,18 @@ fn carries(
     if attached(tables::load(charges, p)) == 0 {
         return false;
     }
-    named_at(rings.ends, rings.entries, rings.carried, rings.numbers, p, s)
+    named_at(
+        rings.ends,
+        rings.entries,
+        rings.carried,
+        rings.numbers,
+        p,
+        s,
+    )
 }
 
 // Does a queued message name a slot that nobody holds? No message is for such a slot, so it is named where it is attached.
-pub fn named(
-    charges: &[u16],
-    rings: &RingTables<'_>,
-    s: usize,
-) -> bool
+pub fn named(charges: &[u16], rings: &RingTables<'_>, s: usize) -> bool
     requires { (length charges.now ≡ charges_size) × Short rings.now.ends.now }
     ensures { let queues = lent rings.now in
         result ≡ named_in charges.now queues s }
@@ -412,13 +381,7 @@ fn carried_at(
 }
 
 // The same question; a queue that is empty or without attached handles is not looked through.
-pub fn carried_before(
-    charges: &[u16],
-    rings: &RingTables<'_>,
-    p: Peer,
-    s: usize,
-    n: u64,
-) -> bool
+pub fn carried_before(charges: &[u16], rings: &RingTables<'_>, p: Peer, s: usize, n: u64) -> bool
     requires { (length charges.now ≡ charges_size) × (p.0 < peers) }
     ensures { let queues = lent rings.now in
         result ≡ carried_before charges.now queues s n p.0 }
@@ -433,5 +396,13 @@ pub fn carried_before(
     if attached(tables::load(charges, p)) == 0 {
         return false;
     }
-    carried_at(rings.ends, rings.entries, rings.carried, rings.numbers, p, s, n)
+    carried_at(
+        rings.ends,
+        rings.entries,
+        rings.carried,
+        rings.numbers,
+        p,
+        s,
+        n,
+    )
 }

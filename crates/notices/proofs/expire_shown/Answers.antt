@@ -13,7 +13,6 @@ use Rattle.notices.proofs.expire_shown.Goals.{then-ids-k+then-s-p, then-ids-k+el
 pub loop-k-init : goal.loop-k-init
 loop-k-init c = record { same = same-self; done = expiring-start c.args.nodes.now c.args.handles.now c.args.charges.now c.args.p.0 (own_invalid c.args.p.0 c.args.slots c.args.ids) (λ k. get_or c.args.slots k 0 % node_count) (lent c.args.rings.now) c.args.nh c.args.rings.now.sized.ends c.args.rings.now.sized.rows }
 
-
 pub loop-k-preserved : goal.loop-k-preserved
 loop-k-preserved c =
     let a = c.args in
@@ -27,23 +26,23 @@ loop-k-preserved c =
           record {
             same = same-again v.same (subst (SameTables c.loop-k.rings) (sym w.rings-is) w.expire.ensures.same);
             done = expiring-in a.nodes.now a.handles.now a.charges.now a.p.0 here slot_at before a.nh v.done l
-              (shown-own a.p.0 a.slots a.ids c.loop-k.k w.if-ids-k.true w.from-s.ensures w.if-s-p.true)
-              (ap (λ (x : ℕ). x % node_count) w.from-s.ensures)
-              (ap lent w.rings-is ∙ w.expire.ensures.done);
+                (shown-own a.p.0 a.slots a.ids c.loop-k.k w.if-ids-k.true w.from-s.ensures w.if-s-p.true)
+                (ap (λ (x : ℕ). x % node_count) w.from-s.ensures)
+                (ap lent w.rings-is ∙ w.expire.ensures.done);
           }
       | then-ids-k+else-s-p w ↦
           record {
             same = subst (SameTables a.rings.now) (sym w.rings-is) v.same;
             done = expiring-out a.nodes.now a.handles.now a.charges.now a.p.0 here slot_at before a.nh v.done l
-              (shown-other a.p.0 a.slots a.ids c.loop-k.k w.if-ids-k.true w.from-s.ensures w.if-s-p.false)
-              (ap lent w.rings-is);
+                (shown-other a.p.0 a.slots a.ids c.loop-k.k w.if-ids-k.true w.from-s.ensures w.if-s-p.false)
+                (ap lent w.rings-is);
           }
       | else-ids-k w ↦
           record {
             same = subst (SameTables a.rings.now) (sym w.rings-is) v.same;
             done = expiring-out a.nodes.now a.handles.now a.charges.now a.p.0 here slot_at before a.nh v.done l
-              (shown-valid a.p.0 a.slots a.ids c.loop-k.k w.if-ids-k.false)
-              (ap lent w.rings-is);
+                (shown-valid a.p.0 a.slots a.ids c.loop-k.k w.if-ids-k.false)
+                (ap lent w.rings-is);
           }
     ]
 
