@@ -1,17 +1,10 @@
-// Bytes copied into a buffer, bytes moved down within one, and the smaller of two numbers. What lies past the buffer's end is left out.
+// Bytes copied into a buffer, and bytes moved down within one. What lies past the buffer's end is left out.
 
 #![tactic(auto)]
 
-ghost use Rattle.std.specs.Prelude.{◌≡◌, min, take, drop, leb};
+ghost use Rattle.std.specs.Prelude.{◌≡◌, take, drop, leb};
 ghost use Rattle.std.proofs.lemmas.List.Edits.{sets};
 ghost use Rattle.laws.specs.Tests.{pick};
-
-// The smaller of two numbers.
-pub fn least(a: usize, b: usize) -> usize
-    ensures { result ≡ min a b }
-{
-    a.min(b)
-}
 
 // Copies the bytes into the buffer from `at` on.
 pub fn put(out: &mut [u8], at: usize, bytes: &[u8])

@@ -49,7 +49,7 @@ impl TryFrom<u8> for User {
 #[derive(Clone, Copy, Debug, PartialEq, Eq, PartialOrd, Ord)]
 pub struct HandleId(pub u64);
 
-// A refusal of the table: its number is the answer's first byte.
+// A refusal of document 01's table, and 27 of document 02: its number is the answer's first byte. specs/Refusals.antt has the row of each.
 #[derive(Clone, Copy, Debug, PartialEq, Eq)]
 pub enum Refusal {
     EPERM = 1,
@@ -78,38 +78,12 @@ impl From<Refusal> for u8 {
     }
 }
 
-// The refusal numbers of document 01's table, and 27 of document 02; specs/Refusals.antt has the row of each.
-pub const EPERM: u8 = 1;
+// The numbers of three refusals that are written with no command at hand, or handed back to C: a number is what these answers are.
+pub const EIO: u8 = Refusal::EIO as u8;
 
-pub const EIO: u8 = 5;
+pub const EINVAL: u8 = Refusal::EINVAL as u8;
 
-pub const ENXIO: u8 = 6;
-
-pub const EBADF: u8 = 9;
-
-pub const EAGAIN: u8 = 11;
-
-pub const EEXIST: u8 = 17;
-
-pub const EINVAL: u8 = 22;
-
-pub const ENOTTY: u8 = 25;
-
-pub const EFBIG: u8 = 27;
-
-pub const ENOSPC: u8 = 28;
-
-pub const ERANGE: u8 = 34;
-
-pub const EOVERFLOW: u8 = 75;
-
-pub const EMSGSIZE: u8 = 90;
-
-pub const ESHUTDOWN: u8 = 108;
-
-pub const EHOSTUNREACH: u8 = 113;
-
-pub const EDQUOT: u8 = 122;
+pub const EFBIG: u8 = Refusal::EFBIG as u8;
 
 // The invalid ID, all ones.
 pub const INVALID: u64 = 18446744073709551615;

@@ -60,13 +60,6 @@ pub struct Match {
     pub mask: u16,
 }
 
-// A number of a table as an index.
-pub fn wide(x: u16) -> usize
-    ensures { (result ≡ x) × (result < 65536) }
-{
-    usize::from(x)
-}
-
 // The row of the i-th entry of a queue whose head is given.
 pub fn row_of(p: Peer, head: usize, i: usize) -> usize
     requires { (p.0 < peers) × (head < 65536) × (i ≤ ring_size) }
@@ -191,13 +184,6 @@ fn has_slot(first: usize, mask: usize, slot: usize) -> bool
 {
     // Two tests: by `checked_sub` the search of a removal takes 6 instructions more for each entry.
     first <= slot && slot - first < SLOTS && bit(mask, slot - first)
-}
-
-// A byte of a table as an index.
-pub fn byte_wide(x: u8) -> usize
-    ensures { result ≡ x }
-{
-    usize::from(x)
 }
 
 impl Match {

@@ -18,7 +18,7 @@ ghost use Rattle.std.specs.Prelude.{◌≡◌, ◌+◌, ◌<◌, ◌≤◌, leng
 
 use answers::{Answer, Header, Received};
 use frames::Command;
-use ids::{ANSWER_SIZE, EDQUOT, EINVAL, FRAME_SIZE, HandleId, INVALID, MOST_IDS, Peer, User};
+use ids::{ANSWER_SIZE, EINVAL, FRAME_SIZE, HandleId, INVALID, MOST_IDS, Peer, Refusal, User};
 use lines::LineRead;
 use quota::{Charge, Charges};
 use std::io::Read;
@@ -50,7 +50,7 @@ fn send(
     let u = user_of(p);
     let a = message(nb, nh);
     if !charges.allows(u, a) {
-        return (Answer::Refused(EDQUOT), charges);
+        return (Answer::Refused(u8::from(Refusal::EDQUOT)), charges);
     }
     let h = Header {
         to: frames::send_id(frame, 0),
