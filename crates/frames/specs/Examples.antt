@@ -1,9 +1,9 @@
 -- Frames with two faults each, which show the order of the refusals, and frames at the bounds: one table, computed.
 -- Assumes nothing.
-use Rattle.std.specs.Prelude.{ℕ, ◌≡◌, refl, List, [], ◌∷◌, map}
+use Rattle.std.specs.Prelude.{ℕ, ◌≡◌, refl, List, [], ◌∷◌, map, Ok, Err}
 use Rattle.laws.specs.Bytes.{num_at}
-use Rattle.ids.specs.Refusals.{refused}
-use Rattle.frames.specs.Frame.{parse, parse_send, parse_sizes, parse_other, parse_rest, parse_open, parse_create, parse_transfer, parse_quota, frame_length, short_at, id_at}
+use Rattle.ids.specs.Refusals.{refusal_number}
+use Rattle.frames.specs.Frame.{Parsed, parse, parse_send, parse_sizes, parse_other, parse_rest, parse_open, parse_create, parse_transfer, parse_quota, frame_length, short_at, id_at}
 
 pub record Example : Type 0 where
   pub frame : List ℕ
@@ -11,6 +11,11 @@ pub record Example : Type 0 where
 
 abbrev answers : List ℕ → ℕ → Example
 answers f n = record { frame = f; number = n }
+
+-- 0 for a frame that is read.
+unfoldable pub number_of : Parsed → ℕ
+number_of (Ok c) = 0
+number_of (Err r) = refusal_number r
 
 abbrev pub examples : List Example
 examples =
@@ -55,6 +60,6 @@ examples =
     ∷ answers (6 ∷ 0 ∷ 0 ∷ 0 ∷ 0 ∷ 0 ∷ 0 ∷ 0 ∷ 0 ∷ 7 ∷ 8 ∷ []) 22
     ∷ []
 
-pub examples-hold : map (λ e. refused (parse e.frame)) examples ≡ map (λ e. e.number) examples
-unfolding parse parse_send parse_sizes parse_other parse_rest parse_open parse_create parse_transfer parse_quota frame_length short_at id_at num_at
+pub examples-hold : map (λ e. number_of (parse e.frame)) examples ≡ map (λ e. e.number) examples
+unfolding number_of parse parse_send parse_sizes parse_other parse_rest parse_open parse_create parse_transfer parse_quota frame_length short_at id_at num_at
 examples-hold = refl

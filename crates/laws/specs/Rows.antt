@@ -102,10 +102,17 @@ array_stored l v i w {ws} e size fit =
     let whole : length v ≡ w = ap length (sym e) ∙ size ∙ part ∙ omega arith in
     run_stored l (row_in w v 0) i w (e ∙ sym (row-self w v whole)) (row-length w v 0) fit
 
--- what straight-line code reads and stores: a row of 5
+-- what straight-line code reads and stores: rows of 5 and of 8
 pub row5 : (l : List ℕ) (r : ℕ) → row_in 5 l r ≡ get_or l (5 * r) 0 ∷ get_or l (5 * r + 1) 0 ∷ get_or l (5 * r + 2) 0 ∷ get_or l (5 * r + 3) 0 ∷ get_or l (5 * r + 4) 0 ∷ []
 unfolding row_in build
 row5 l r = let e : 5 * r + 0 ≡ 5 * r = omega arith in rw e
+
+pub row8 : (l : List ℕ) (r : ℕ) →
+    row_in 8 l r
+    ≡ get_or l (8 * r) 0 ∷ get_or l (8 * r + 1) 0 ∷ get_or l (8 * r + 2) 0 ∷ get_or l (8 * r + 3) 0 ∷ get_or l (8 * r + 4) 0 ∷ get_or l (8 * r + 5) 0 ∷ get_or l (8 * r + 6) 0
+    ∷ get_or l (8 * r + 7) 0 ∷ []
+unfolding row_in build
+row8 l r = let e : 8 * r + 0 ≡ 8 * r = omega arith in rw e
 
 pub stores5 : (b : List ℕ) (t x0 x1 x2 x3 x4 : ℕ) →
     set (set (set (set (set b t x0) (t + 1) x1) (t + 2) x2) (t + 3) x3) (t + 4) x4 ≡ sets b t (x0 ∷ x1 ∷ x2 ∷ x3 ∷ x4 ∷ [])
@@ -115,3 +122,26 @@ stores5 b t x0 x1 x2 x3 x4 =
     let e3 : t + 3 ≡ suc (suc (suc t)) = omega arith in
     let e4 : t + 4 ≡ suc (suc (suc (suc t))) = omega arith in
     rw (e1, e2, e3, e4)
+
+pub stores8 : (b : List ℕ) (t : ℕ) (v : List ℕ) →
+    set
+    (set
+    (set
+    (set (set (set (set (set b t (get_or v 0 0)) (t + 1) (get_or v 1 0)) (t + 2) (get_or v 2 0)) (t + 3) (get_or v 3 0)) (t + 4) (get_or v 4 0))
+    (t + 5)
+    (get_or v 5 0))
+    (t + 6)
+    (get_or v 6 0))
+    (t + 7)
+    (get_or v 7 0)
+    ≡ sets b t (row_in 8 v 0)
+unfolding row_in build
+stores8 b t v =
+    let e1 : t + 1 ≡ suc t = omega arith in
+    let e2 : t + 2 ≡ suc (suc t) = omega arith in
+    let e3 : t + 3 ≡ suc (suc (suc t)) = omega arith in
+    let e4 : t + 4 ≡ suc (suc (suc (suc t))) = omega arith in
+    let e5 : t + 5 ≡ suc (suc (suc (suc (suc t)))) = omega arith in
+    let e6 : t + 6 ≡ suc (suc (suc (suc (suc (suc t))))) = omega arith in
+    let e7 : t + 7 ≡ suc (suc (suc (suc (suc (suc (suc t)))))) = omega arith in
+    rw (e1, e2, e3, e4, e5, e6, e7)

@@ -4,11 +4,12 @@ use Prim.Native.Nat.{ℕ, zero, suc, ◌+◌, ◌*◌, ◌-◌, ◌/◌, ◌%◌
 use Rattle.std.specs.Prelude.{◌≡◌, Bool, true, false, not, ◌&&◌, List, [], ◌∷◌, ◌++◌, get_or, set, take, drop, eqb, ltb, leb, Some, None}
 use Rattle.std.specs.Simd.{first_chunks}
 use Rattle.std.proofs.Math.Path.{refl, sym}
-use Rattle.std.proofs.Common.{ap, ◌∙◌, add-one, arith, length-append, length-drop, take-suc, length-take-le, get_or-take, get_or-drop, ext_get_or}
+use Rattle.std.proofs.Common.{ap, ◌∙◌, add-one, arith, length-append, length-drop, drop_of_length-le, take-suc, length-take-le, get_or-take, get_or-drop, ext_get_or}
 use Rattle.std.proofs.Math.ListN.{length, length-take}
 use Rattle.std.proofs.lemmas.List.Edits.{sets}
+use Rattle.std.proofs.Math.Seq.{take-length}
 use borrow.Author.Count.{below_more}
-use borrow.Author.Tests.{ltb-true, ltb-false, eqb-true, eq-eqb, ne_eqb, lt-ltb, le-ltb, leb-true, le-leb, not-false}
+use borrow.Author.Tests.{ltb-true, ltb-false, eqb-true, eq-eqb, ne_eqb, lt-ltb, le-ltb, leb-true, leb-false, le-leb, lt-leb, not-false}
 use Rattle.laws.specs.Tests.{pick, pick-cases, Seen, Seen.is_true, Seen.is_false, look, clash, pick-then}
 use Rattle.laws.specs.Search.{first, first-le, first_found, first-before, first-is, first-from}
 use Rattle.laws.specs.Build.{build, build-length, build-store}
@@ -55,12 +56,25 @@ module _ (l : List ℕ) (i : ℕ) where
   unfolding digits_from
   from_next k e f = rw (add-one, e, f)
 
+  pub from_all : (k : ℕ) {a : Bool} → a ≡ digits_from l i k → k ≡ 8 → a ≡ digits_from l i 8
+  from_all k e f = rw (← f) e
+
   from_at : (n : ℕ) → digits_from l i n ≡ true → (j : ℕ) → j < n → is_digit (get_or l (i + j) 0) ≡ true
   unfolding digits_from
   from_at zero e = λ j h. absurd (omega arith)
   from_at (suc n) e =
       let p = both_true (digits_from l i n) (is_digit (get_or l (i + n) 0)) e in
       λ j h. below_more (λ j. is_digit (get_or l (i + j) 0) ≡ true) n (from_at n p.0) p.1 j (omega arith)
+
+  pub ahead-next : ((j : ℕ) → j < i → is_digit (get_or l j 0) ≡ true) → digits_from l i 8 ≡ true → (j : ℕ) → j < i + 8 → is_digit (get_or l j 0) ≡ true
+  ahead-next before e j h = go (look (ltb j i))
+    where
+      go : Seen (ltb j i) → is_digit (get_or l j 0) ≡ true
+      go (is_true f) = before j (ltb-true j i f)
+      go (is_false f) =
+          let m : i ≤ j = ltb-false j i f in
+          let k : i + (j - i) ≡ j = omega arith in
+          rw k at (from_at 8 e (j - i) (omega arith))
 
 -- digits in eights are digits
 pub eights-digits : (q k : ℕ) (s : List ℕ) → q * 8 ≤ length s → k ≤ q → ((j : ℕ) → j < k → digits_from (get_or (first_chunks 8 q s) j []) 0 8 ≡ true) →
@@ -78,6 +92,16 @@ eights-digits (suc q) (suc k) s l h e j i = go (eights-digits q k (drop 8 s) (rw
         let m : 8 ≤ j = ltb-false j 8 f in
         let p : 8 + (j - 8) ≡ j = omega arith in
         ap is_digit (sym (get_or-drop 8 s (j - 8) 0 ∙ ap (λ (n : ℕ). get_or s n 0) p)) ∙ rest (omega arith)
+
+-- the search for an LF from a place on
+pub end_is : (s : List ℕ) (at i : ℕ) → at ≤ i → i ≤ length s → ((k : ℕ) → k < i → at ≤ k → lf_at s k ≡ false) → (i < length s → lf_at s i ≡ true) →
+    i ≡ at + first (λ j. lf_at s (at + j)) (length s - at)
+end_is s at i h l before here =
+    let e : at + (i - at) ≡ i = omega arith in
+    let q : i - at ≡ first (λ j. lf_at s (at + j)) (length s - at) =
+    first-is (λ j. lf_at s (at + j)) (length s - at) (i - at) (omega arith) (λ j m. before (at + j) (omega arith) (omega arith))
+    (λ m. ap (lf_at s) e ∙ here (omega arith)) in
+    sym e ∙ ap (◌+◌ at) q
 
 -- the part of s from a place on
 module _ (s : List ℕ) (at : ℕ) where
@@ -228,6 +252,9 @@ put_next o l a at k x y h e ex ey =
     let z : length (digits_of (take k a)) ≡ 2 * k = digits-length (take k a) ∙ rw length-take (omega arith) in
     rw (add-one k, take-suc a k 0, digits_append (take k a) (get_or a k 0 ∷ []), sets-append o at (digits_of (take k a)) (digits_of (get_or a k 0 ∷ [])), z, ← e, add-one (at + 2 * k), ex, ey)
 
+pub put_whole : (o l a : List ℕ) (at k : ℕ) → k ≡ length a → l ≡ sets o at (digits_of (take k a)) → l ≡ sets o at (digits_of a)
+put_whole o l a at k h e = e ∙ ap (λ (x : List ℕ). sets o at (digits_of x)) (rw h (take-length a))
+
 -- the LF behind them
 pub put-lf : (o l a : List ℕ) (at : ℕ) → l ≡ sets o at (digits_of a) → set l (at + 2 * length a) lf ≡ sets o at (answer_line a)
 put-lf o l a at e = rw (sets-append o at (digits_of a) (lf ∷ []), digits-length, ← e)
@@ -242,7 +269,13 @@ pub decode-next : (s b l : List ℕ) (k v w : ℕ) → k < length b → l ≡ bu
     set l k (16 * v + w) ≡ build (pair_at s) (k + 1) ++ drop (k + 1) b
 decode-next s b l k v w h e ev ew = rw (e, ev, ew, add-one k) (build-store (pair_at s) k b h)
 
--- what the test for a digit says of a character, by the side of it
+-- the test for a digit, by the side of it that is tested, and what it says of a character
+pub test_low : (c : ℕ) → c < 58 → leb 48 c ≡ is_digit c
+test_low c h = rw (lt-ltb c 58 h)
+
+pub test-high : (c : ℕ) → 58 ≤ c → c < 103 → leb 97 c ≡ is_digit c
+test-high c h k = rw (le-ltb c 58 h, lt-ltb c 103 k)
+
 pub digit_low : (c : ℕ) → is_digit c ≡ true → c < 58 → 48 ≤ c
 digit_low c d h = leb-true 48 c (rw (lt-ltb c 58 h) at d)
 
@@ -253,6 +286,14 @@ digit-high c d h =
 
 pub value_low : (c : ℕ) → is_digit c ≡ true → c < 58 → (c - 48 ≡ digit_value c) × (c - 48 < 16)
 value_low c d h = (rw (lt-ltb c 58 h), omega arith)
+
+-- room for a line, tested without a sum that may not fit
+pub room-same : (n at m : ℕ) → at < n → leb m ((n - at - 1) / 2) ≡ leb (at + (2 * m + 1)) n
+room-same n at m h = go (look (leb m ((n - at - 1) / 2)))
+  where
+    go : Seen (leb m ((n - at - 1) / 2)) → leb m ((n - at - 1) / 2) ≡ leb (at + (2 * m + 1)) n
+    go (is_true e) = let l = leb-true m ((n - at - 1) / 2) e in e ∙ sym (le-leb (at + (2 * m + 1)) n (omega arith))
+    go (is_false e) = let l = leb-false m ((n - at - 1) / 2) e in e ∙ sym (lt-leb (at + (2 * m + 1)) n (omega arith))
 
 -- a line written, or no room for it
 pub write-full : (o a : List ℕ) (at : ℕ) {r : Bool} → r ≡ room_for o at a → r ≡ false → (None ≡ line_written o at a) × (o ≡ lines_after o at a)
@@ -267,7 +308,40 @@ write-next o l a at e f h =
     let k : at + 2 * length a + 1 ≡ at + (2 * length a + 1) = omega arith in
     (rw (z, k), rw z (put-lf o l a at h))
 
+pub room-length : (o a : List ℕ) (at : ℕ) {r : Bool} → r ≡ room_for o at a → r ≡ true → at + (2 * length a + 1) ≤ length o
+room-length o a at e f = leb-true (at + (2 * length a + 1)) (length o) (sym e ∙ f)
+
 -- what is carried over
+pub carry-none : (b : List ℕ) (at end : ℕ) {e : ℕ} → e ≡ min end (length b) → e ≤ at →
+    (0 ≡ length (carried_of b at end)) × (b ≡ carried_of b at end ++ drop (length (carried_of b at end)) b)
+unfolding carried_of
+carry-none b at end q h =
+    let n : length (take end b) ≤ at = rw length-take (omega arith) in
+    let z : drop at (take end b) ≡ [] = drop_of_length-le (take end b) n in
+    (rw z, rw z)
+
+pub carry-some : (b l : List ℕ) (at end : ℕ) {e n : ℕ} → e ≡ min end (length b) → at < e → n ≡ min most_carried (e - at) → l ≡ pick (leb 0 at) (sets b 0 (take n (drop at b))) b →
+    (n ≡ length (carried_of b at end)) × (l ≡ carried_of b at end ++ drop (length (carried_of b at end)) b)
+unfolding carried_of
+carry-some b l at end {e} {n} q h m k = (sym size, rw (size, same) (k ∙ below ∙ moved_front b at n (omega arith)))
+  where
+    below : pick (leb 0 at) (sets b 0 (take n (drop at b))) b ≡ sets b 0 (take n (drop at b))
+    below = rw (le-leb 0 at (omega arith))
+
+    size : length (take most_carried (drop at (take end b))) ≡ n
+    size = simp (length-take, length-drop) (omega arith)
+
+    front : length (take n (drop at b)) ≡ n
+    front = simp (length-take, length-drop) (omega arith)
+
+    char : (i : ℕ) → i < n → get_or (take most_carried (drop at (take end b))) i 0 ≡ get_or (take n (drop at b)) i 0
+    char i j =
+        get_or-take most_carried (drop at (take end b)) i 0 (omega arith) ∙ get_or-drop at (take end b) i 0 ∙ get_or-take end b (at + i) 0 (omega arith)
+        ∙ sym (get_or-take n (drop at b) i 0 j ∙ get_or-drop at b i 0)
+
+    same : take most_carried (drop at (take end b)) ≡ take n (drop at b)
+    same = ext_get_or 0 (take most_carried (drop at (take end b))) (take n (drop at b)) (size ∙ sym front) (λ i j. char i (rw size at j))
+
 pub carry-all : (b l : List ℕ) (at end : ℕ) {n : ℕ} → n ≡ min (min end (length b) - at) most_carried → l ≡ pick (leb 0 at) (sets b 0 (take n (drop at b))) b →
     (n ≡ length (carried_of b at end)) × (l ≡ carried_of b at end ++ drop (length (carried_of b at end)) b)
 unfolding carried_of

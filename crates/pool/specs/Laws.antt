@@ -1,11 +1,11 @@
 -- Laws of the payload areas: what is stored in one area is seen there and nowhere else.
 -- Assumes nothing.
-use Rattle.std.specs.Prelude.{ℕ, ◌+◌, ◌*◌, ◌-◌, ◌≤◌, ◌<◌, ◌≡◌, List, ◌++◌, length, get_or, take, drop, ltb}
-use Rattle.std.proofs.Common.{sym, ap, ap₂, ◌∙◌, arith, length-append, length-take, length-drop, get_or-take, get_or-drop, get_or-append-add, ext_get_or, take-take, drop-drop, ltb-true, ltb-false}
+use Rattle.std.specs.Prelude.{ℕ, ◌+◌, ◌*◌, ◌-◌, ◌≤◌, ◌<◌, ◌≡◌, List, ◌++◌, length, get_or, take, drop, ltb, leb, Bool}
+use Rattle.std.proofs.Common.{sym, ap, ap₂, ◌∙◌, arith, length-append, length-take, length-drop, get_or-take, get_or-drop, get_or-append-add, ext_get_or, take-take, drop-drop, ltb-true, ltb-false, le-leb}
 use Rattle.std.proofs.Math.ListN.{get_or-append}
 use Rattle.std.proofs.lemmas.List.Edits.{sets}
 use Rattle.std.proofs.Math.Seq.{length-sets}
-use Rattle.laws.specs.Tests.{Seen, Seen.is_true, Seen.is_false, look}
+use Rattle.laws.specs.Tests.{pick, Seen, Seen.is_true, Seen.is_false, look}
 use Rattle.laws.specs.Rows.{above}
 use Rattle.laws.specs.Stores.{sets-before, sets-past, sets-in}
 use Rattle.rings.specs.Rings.{peers}
@@ -126,3 +126,16 @@ pub piece-of : (t : List ℕ) (p at n used : ℕ) → at + n ≤ used → piece_
 unfolding piece_of bytes_of
 piece-of t p at n used h =
     ap (take n) (sym (drop-drop at (p * area_size) t)) ∙ sym (take-take n (used - at) _ (omega arith)) ∙ ap (take n) (sym (part-of-front (drop (p * area_size) t) at used (omega arith)))
+
+-- What the functions give, in their own terms: a move down to a lower place, and a part of the table.
+pub close-is : (t l : List ℕ) (p at n used : ℕ) → at + n ≤ used →
+    l ≡ pick (leb (p * area_size + at) (p * area_size + at + n)) (sets t (p * area_size + at) (take (used - (at + n)) (drop (p * area_size + at + n) t))) t → l ≡ closed t p at n used
+unfolding closed piece_of
+close-is t l p at n used h e =
+    let same : p * area_size + at + n ≡ p * area_size + (at + n) = omega arith in
+    e ∙ ap (λ (s : Bool). pick s (sets t (p * area_size + at) (take (used - (at + n)) (drop (p * area_size + at + n) t))) t) (le-leb (p * area_size + at) (p * area_size + at + n) (omega arith))
+    ∙ ap (λ (x : ℕ). sets t (p * area_size + at) (take (used - (at + n)) (drop x t))) same
+
+pub piece_is : (t : List ℕ) (p at n : ℕ) → take (p * area_size + at + n - (p * area_size + at)) (drop (p * area_size + at) t) ≡ piece_of t p at n
+unfolding piece_of
+piece_is t p at n = let same : p * area_size + at + n - (p * area_size + at) ≡ n = omega arith in ap (λ (x : ℕ). take x (drop (p * area_size + at) t)) same

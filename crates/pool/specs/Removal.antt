@@ -1,13 +1,13 @@
 -- A removal over the payloads, entry by entry: what is left to do gives what the whole gives.
 -- Assumes nothing.
-use Rattle.std.specs.Prelude.{ℕ, suc, ◌+◌, ◌*◌, ◌≤◌, ◌<◌, ◌≡◌, refl, Bool, true, false, List, [], ◌∷◌, length, drop}
-use Rattle.std.proofs.Common.{sym, ap, ◌∙◌, arith, drop-cons}
+use Rattle.std.specs.Prelude.{ℕ, suc, ◌+◌, ◌*◌, ◌≤◌, ◌<◌, ◌≡◌, refl, Bool, true, false, List, [], ◌∷◌, length, take, drop, leb}
+use Rattle.std.proofs.Common.{sym, ap, ◌∙◌, arith, drop-cons, le-leb, eq-eqb, ne_eqb}
 use Rattle.std.proofs.lemmas.List.Edits.{sets}
 use Rattle.std.proofs.Math.Seq.{length-sets, drop-length}
 use Rattle.laws.specs.Tests.{pick}
 use Rattle.rings.specs.declared.Entry.{Entry}
 use Rattle.rings.specs.declared.Match.{Match}
-use Rattle.rings.specs.Rings.{Rings, queue_of, length_of, head_of, entry_at, row_of, matches}
+use Rattle.rings.specs.Rings.{kind_destroyed, kind_released, Rings, queue_of, length_of, head_of, entry_at, row_of, matches}
 use Rattle.rings.specs.Laws.{queue-length, queue-at}
 use Rattle.pool.specs.Pool.{area_size, piece_of, bytes_in, Kept, kept, kept_piece, kept_pieces}
 
@@ -72,3 +72,27 @@ pub moving-turn : {t₀ : List ℕ} {p : ℕ} {m : Match} (g : Rings) {t : List 
     Moving t₀ p m (queue_of g p) t' (r + x) w (i + 1)
 moving-turn {t₀} {p} g {i = i} s head len lt at same eq size small =
     moving-next g s (omega arith) (same ∙ ap (entry_at g.rows) (at ∙ ap (λ (y : ℕ). row_of p y i) head)) eq size small
+
+pub bytes-destroyed : (e : Entry) → e.kind ≡ kind_destroyed → 0 ≡ bytes_in e
+unfolding bytes_in
+bytes-destroyed e h = rw (eq-eqb e.kind kind_destroyed h) refl
+
+pub bytes-released : (e : Entry) → (e.kind ≡ kind_destroyed → ⊥) → e.kind ≡ kind_released → 0 ≡ bytes_in e
+unfolding bytes_in
+bytes-released e n h = rw (ne_eqb e.kind kind_destroyed n, eq-eqb e.kind kind_released h) refl
+
+pub bytes-message : (e : Entry) → (e.kind ≡ kind_destroyed → ⊥) → (e.kind ≡ kind_released → ⊥) → e.nb ≡ bytes_in e
+unfolding bytes_in
+bytes-message e n h = rw (ne_eqb e.kind kind_destroyed n, ne_eqb e.kind kind_released h) refl
+
+pub piece-out : (t : List ℕ) (p r k : ℕ) (m : Match) (e : Entry) → matches m e ≡ true → kept k t ≡ kept_piece t p r k m e
+unfolding kept_piece
+piece-out t p r k m e h = rw h refl
+
+pub piece-moved : (t l : List ℕ) (p r k n : ℕ) (m : Match) (e : Entry) → matches m e ≡ false → n ≡ bytes_in e → k ≤ r →
+    l ≡ pick (leb (p * area_size + k) (p * area_size + r)) (sets t (p * area_size + k) (take n (drop (p * area_size + r) t))) t → kept (k + n) l ≡ kept_piece t p r k m e
+unfolding kept_piece piece_of
+piece-moved t l p r k n m e h size low eq = rw (h, ← size) (ap (kept (k + n)) (eq ∙ down))
+  where
+    down : pick (leb (p * area_size + k) (p * area_size + r)) (sets t (p * area_size + k) (take n (drop (p * area_size + r) t))) t ≡ sets t (p * area_size + k) (take n (drop (p * area_size + r) t))
+    down = rw (le-leb (p * area_size + k) (p * area_size + r) (omega arith))

@@ -2,5 +2,6 @@ pub mod Rings
 pub mod Matches
 pub mod Laws
 pub mod Sweep
+pub mod Code
 pub mod Search
 pub mod Lent

@@ -1,19 +1,27 @@
 -- What the code's proofs cite: one law for each return and each turn of a loop, over plain variables.
 -- Assumes nothing.
-use Rattle.std.specs.Prelude.{ℕ, zero, suc, ◌+◌, ◌-◌, ◌%◌, ◌≤◌, ◌<◌, ◌≡◌, refl, Bool, true, false, List, [], ◌∷◌, length, get_or, set, take, drop, eqb}
+use Rattle.std.specs.Prelude.{ℕ, zero, suc, ◌+◌, ◌-◌, ◌/◌, ◌%◌, ◌≤◌, ◌<◌, min, ◌≡◌, refl, Bool, true, false, List, [], ◌∷◌, length, get_or, set, take, drop, eqb}
 use Rattle.std.proofs.Common.{sym, ap, ◌∙◌, arith, not-suc-le-zero, length-drop, ext_get_or, get_or-take, get_or-drop, length-take-le, eq-eqb, ne_eqb, below_more}
 use Rattle.std.proofs.lemmas.List.Edits.{sets}
 use Rattle.laws.specs.Tests.{Seen, Seen.is_true, Seen.is_false, look, clash}
 use Rattle.laws.specs.Guards.{upto-at}
 use Rattle.laws.specs.Build.{build, build-at, build-length}
+use Rattle.laws.specs.Rows.{row_in}
 use Rattle.ids.specs.Sizes.{most_ids, most_bytes, seeds_size}
 use Rattle.model.specs.Numbers.{peers, nodes}
 use Rattle.model.specs.Lists.{either, any, any_below}
 use Rattle.model.specs.Occurs.{any_below_lem}
 use Rattle.model.specs.State.{Seed.unset, seed_carries, seeded}
-use Rattle.seeds.specs.Seeds.{row_at, area_at, set_at, count_at, slots_at, piece_at, seed_at, seed_v}
+use Rattle.seeds.specs.Seeds.{row_at, area_at, set_at, count_at, slots_at, piece_at, head_of, stored, seed_at, seed_v}
 
--- slots_of: eight slots, each modulo the slots of all peers
+-- slots_of: eight reads, each modulo the slots of all peers
+pub slots-are : (t : List ℕ) (p : ℕ) →
+    get_or t (row_at p + 4) 0 % 128 ∷ get_or t (row_at p + 4 + 1) 0 % 128 ∷ get_or t (row_at p + 4 + 2) 0 % 128 ∷ get_or t (row_at p + 4 + 3) 0 % 128
+    ∷ get_or t (row_at p + 4 + 4) 0 % 128 ∷ get_or t (row_at p + 4 + 5) 0 % 128 ∷ get_or t (row_at p + 4 + 6) 0 % 128 ∷ get_or t (row_at p + 4 + 7) 0 % 128 ∷ []
+    ≡ slots_at t p
+unfolding slots_at build
+slots-are t p = let e : row_at p + 4 + 0 ≡ row_at p + 4 = omega arith in rw e
+
 pub slots_length : (t : List ℕ) (p : ℕ) → length (slots_at t p) ≡ most_ids
 unfolding slots_at
 slots_length t p = build-length (λ k. get_or t (row_at p + 4 + k) 0 % nodes) most_ids
@@ -48,6 +56,18 @@ stores4 b t x0 x1 x2 x3 =
     let e2 : t + 2 ≡ suc (suc t) = omega arith in
     let e3 : t + 3 ≡ suc (suc (suc t)) = omega arith in
     rw (e1, e2, e3)
+
+pub head-put : (b : List ℕ) (p nh nb : ℕ) {n h l : ℕ} → n ≡ min nh most_ids → h ≡ nb / 256 → l ≡ nb % 256 →
+    set (set (set (set b (row_at p) 1) (row_at p + 1) n) (row_at p + 2) h) (row_at p + 3) l ≡ sets b (row_at p) (head_of nh nb)
+head-put b p nh nb {n} {h} {l} e f g = rw (← e, ← f, ← g) (stores4 b (row_at p) 1 n h l)
+
+-- put: the row's head, its slots, the payload
+pub put_is : (t : List ℕ) (p nh : ℕ) (slots payload : List ℕ) {nb : ℕ} {a b c : List ℕ} → nb ≡ min (length payload) most_bytes → a ≡ sets t (row_at p) (head_of nh nb) →
+    b ≡ sets a (row_at p + 4) (row_in most_ids slots 0) → c ≡ sets b (area_at p) (take (nb - 0) (drop 0 payload)) → c ≡ stored t p nh slots payload
+unfolding stored
+put_is t p nh slots payload {nb} {b = b} en ea eb ec =
+    let whole : nb - 0 ≡ nb = omega arith in
+    rw (← en, ← ea, ← eb) (ec ∙ ap (λ (n : ℕ). sets b (area_at p) (take n payload)) whole)
 
 -- is_among: no slot before k is s
 module _ (f : ℕ → Bool) where
