@@ -76,8 +76,46 @@ module _ (ns hs : List ℕ) (q : ℕ) (a : Asked) (k : ℕ) {b : Bool} where
 pub fair-falling : (a : Asked) {p : Peer} → Fair a → a ≡ Falling p → p.0 < peers
 fair-falling a f e = rw e at f
 
+-- bit_asked, bit_told
+module _ (a : Bool) (bit : ℕ) {b : Bool} (eb : b ≡ a) where
+  pub bit-some : b ≡ true → (bit ≡ pick a bit 0) × (bit ≤ bit)
+  bit-some t = (rw (← eb, t), omega arith)
+
+  pub bit-none : b ≡ false → (0 ≡ pick a bit 0) × (0 ≤ bit)
+  bit-none f = (rw (← eb, f), omega arith)
+
 word-bit : (k : ℕ) → k ≤ slots → 2 ^ k ≤ 65536
 word-bit k l = let m : 2 ^ k ≤ 2 ^ slots = pow_mono l in omega arith
+
+-- set_of: the bit of the place k, and the bits of the places below it
+pub record Asking (ns hs : List ℕ) (q : ℕ) (a : Asked) (k bit set : ℕ) : Type 0 where
+  pub places : k ≤ slots
+  pub power : bit ≡ 2 ^ k
+  pub word : bit ≤ 65536
+  pub below : set < bit
+  pub sum : set ≡ bits (asks ns hs q a) k
+
+module _ (ns hs : List ℕ) (q : ℕ) (a : Asked) where
+  pub asking-none : Asking ns hs q a 0 1 0
+  unfolding bits sum_to
+  asking-none = record { places = omega arith; power = refl; word = omega arith; below = omega arith; sum = refl }
+
+  pub asking-more : (k bit set : ℕ) {b : ℕ} → Asking ns hs q a k bit set → k < slots → (b ≡ pick (asks ns hs q a k) bit 0) × (b ≤ bit) → Asking ns hs q a (k + 1) (2 * bit) (b + set)
+  unfolding bits sum_to
+  asking-more k bit set {b} g l e =
+      let x : 2 ^ (k + 1) ≡ 2 * 2 ^ k = rw add-one (omega arith) in
+      let y : 2 * bit ≡ 2 ^ (k + 1) = rw (x, g.power) in
+      record {
+        places = omega arith;
+        power = y;
+        word = rw y (word-bit (k + 1) (omega arith));
+        below = omega (arith, g.below, e.1);
+        sum = rw (add-one, e.0, g.power, g.sum);
+      }
+
+  pub asking-all : (k : ℕ) {bit set : ℕ} → Asking ns hs q a k bit set → k ≡ slots → set ≡ set_of ns hs q a
+  unfolding set_of
+  asking-all k g f = rw (← f) g.sum
 
 -- set_where: the bits of the places passed, of each test that the calls answered as
 pub record Setting (answers : ℕ → Bool → Type 0) (k set : ℕ) : Type 0 where
@@ -224,6 +262,40 @@ module _ (hs cs : List ℕ) (r : Rings) (s n o : ℕ) {c : ℕ} (ec : c ≡ coun
 
   pub concerns-carrier : c ≡ 0 → {b : Bool} → b ≡ carried_before cs r s n o → b ≡ tells_at hs cs r s n o
   concerns-carrier z eb = rw (← ec, z) eb
+
+byte-bit : (o : ℕ) → o ≤ peers → 2 ^ o ≤ 256
+byte-bit o l = let m : 2 ^ o ≤ 2 ^ peers = pow_mono l in omega arith
+
+-- addressees: the bit of the peer o, and the bits of the peers below it
+pub record Addressing (hs cs : List ℕ) (r : Rings) (s n o bit set : ℕ) : Type 0 where
+  pub passed : o ≤ peers
+  pub power : bit ≡ 2 ^ o
+  pub byte : bit ≤ 256
+  pub below : set < bit
+  pub sum : set ≡ bits (tells_at hs cs r s n) o
+
+module _ (hs cs : List ℕ) (r : Rings) (s n : ℕ) where
+  pub addressing-none : Addressing hs cs r s n 0 1 0
+  unfolding bits sum_to
+  addressing-none = record { passed = omega arith; power = refl; byte = omega arith; below = omega arith; sum = refl }
+
+  pub addressing-more : (o bit set : ℕ) {b : ℕ} → Addressing hs cs r s n o bit set → o < peers → (b ≡ pick (tells_at hs cs r s n o) bit 0) × (b ≤ bit) →
+      Addressing hs cs r s n (o + 1) (2 * bit) (b + set)
+  unfolding bits sum_to
+  addressing-more o bit set {b} v l e =
+      let x : 2 ^ (o + 1) ≡ 2 * 2 ^ o = rw add-one (omega arith) in
+      let y : 2 * bit ≡ 2 ^ (o + 1) = rw (x, v.power) in
+      record {
+        passed = omega arith;
+        power = y;
+        byte = rw y (byte-bit (o + 1) (omega arith));
+        below = omega (arith, v.below, e.1);
+        sum = rw (add-one, e.0, v.power, v.sum);
+      }
+
+  pub addressing-all : (o : ℕ) {bit set : ℕ} → Addressing hs cs r s n o bit set → o ≡ peers → set ≡ addressees hs cs r s n
+  unfolding addressees
+  addressing-all o v f = rw (← f) v.sum
 
 -- addressees_at
 module _ (hs cs : List ℕ) (r : Rings) (p set n k : ℕ) {w : ℕ} (ew : w ≡ set) {b : Bool} (eb : b ≡ bit_at w k) where

@@ -1,13 +1,12 @@
 -- The laws that the functions' proofs cite, one for each return or turn of a loop, over plain variables: each is shaped like what the callee ensures.
 -- Assumes nothing.
 use Prim.Native.Nat.{ℕ, zero, suc, ◌+◌, ◌-◌, ◌*◌, min, ◌≤◌, ◌<◌}
-use Rattle.std.specs.Prelude.{◌≡◌, Bool, List, [], ◌∷◌, length, get_or, take, drop, eqb}
+use Rattle.std.specs.Prelude.{◌≡◌, Bool, List, [], ◌∷◌, length, get_or, take, drop, eqb, ◌||◌, not}
 use Rattle.std.proofs.Math.Path.{refl, sym, ap}
 use Rattle.std.proofs.Common.{◌∙◌, arith, drop_of_length-le, drop-cons, get_or-take, length-take-le, length-drop, get_or-drop, ext_get_or}
 use Rattle.std.proofs.Math.Bool.{true, false}
 use borrow.Author.Tests.{eq-eqb, ne_eqb, lt-ltb, le-ltb, le-leb, lt-leb}
 use Rattle.std.specs.List.{list_any}
-use Rattle.std.specs.Prelude.{◌||◌}
 use Rattle.laws.specs.Tests.{pick, Same, Same.same, Same.other, same?}
 use Rattle.laws.specs.Stores.{take_min}
 use Rattle.laws.specs.Rows.{row_in, row-length, row5}
@@ -16,7 +15,7 @@ use Rattle.quota.specs.declared.Charges.{Charges}
 use Rattle.quota.specs.Charges.{fresh_charges, charged, discharged}
 use Rattle.rings.specs.declared.Entry.{Entry}
 use Rattle.rings.specs.declared.Match.{Match}
-use Rattle.rings.specs.Rings.{peers, ring_size, row_count, carried_size, Rings, rings_of, rows_of, head_of, length_of, row_of, entry_at, queue_of, matches, pushed, removed}
+use Rattle.rings.specs.Rings.{peers, ring_size, row_count, carried_size, Rings, rings_of, rows_of, head_of, length_of, row_of, entry_at, queue_of, matches, pushed, removed, kind_destroyed, kind_released}
 use Rattle.rings.specs.Laws.{row_at, queue-empty, queue-length, queue-at}
 use Rattle.pool.specs.Pool.{Kept, kept, appended, closed, kept_pieces}
 use Rattle.tables.specs.Charges.{charges_at, put_charges}
@@ -24,7 +23,14 @@ use Rattle.model.specs.Lists.{either, any, any_below}
 use Rattle.queues.specs.Queues.{Queues, used_of, message_kind, is_message, charge_in, entered, enqueued, settled_charges, settled_pool, lessened, lessened_all, lessened_charges, withdrawn, removed_from, emptied_charges, leads, follows_in, names_in, attached_of, carries_in, named_in, brings_in, carried_before}
 use Rattle.ids.specs.Sizes.{entry_fields, carried_fields}
 
--- is_message
+-- is_message_kind, is_message
+module _ (k : ℕ) where
+  pub message-destroyed : k ≡ kind_destroyed → false ≡ message_kind k
+  message-destroyed h = rw (eq-eqb k kind_destroyed h)
+
+  pub message-else : (k ≡ kind_destroyed → ⊥) → not (eqb k kind_released) ≡ message_kind k
+  message-else h = rw (ne_eqb k kind_destroyed h)
+
 pub message-entry : (e : Entry) {b : Bool} → b ≡ message_kind e.kind → b ≡ is_message e
 unfolding is_message
 message-entry e h = h
@@ -179,6 +185,35 @@ module _ {A : Type 0} (t : A → Bool) (x : A) (xs : List A) where
   any_next : t x ≡ false → any t (x ∷ xs) ≡ any t xs
   any_next h = rw h
 
+-- is_among, slot by slot
+pub record Among (c : List ℕ) (row n s k : ℕ) : Type 0 where
+  pub rest : any (eqb s) (drop k (take n (row_in carried_fields c row))) ≡ any (eqb s) (take n (row_in carried_fields c row))
+
+pub among-start : (c : List ℕ) (row n s : ℕ) → Among c row n s 0
+among-start c row n s = record { rest = refl }
+
+module _ {c : List ℕ} {row n s k : ℕ} (v : Among c row n s k) (fit : n ≤ 8) where
+  among-size : length (take n (row_in carried_fields c row)) ≡ n
+  among-size = length-take-le n (row_in carried_fields c row) (omega (arith, row-length 8 c row))
+
+  pub among-end : n ≤ k → false ≡ any (eqb s) (take n (row_in carried_fields c row))
+  among-end h = ap (any (eqb s)) (sym (drop_of_length-le (take n (row_in carried_fields c row)) {i = k} (omega (arith, among-size)))) ∙ v.rest
+
+  module _ (lt : k < n) {b : ℕ} (eb : b ≡ get_or c (carried_fields * row + k) 0) where
+    among-here : any (eqb s) (b ∷ drop (k + 1) (take n (row_in carried_fields c row))) ≡ any (eqb s) (take n (row_in carried_fields c row))
+    among-here =
+        let here : get_or (take n (row_in carried_fields c row)) k 0 ≡ b = get_or-take n (row_in carried_fields c row) k 0 lt ∙ row_at 8 c row k (omega arith) ∙ sym eb in
+        let step : suc k ≡ k + 1 = omega arith in
+        let next : drop k (take n (row_in carried_fields c row)) ≡ b ∷ drop (k + 1) (take n (row_in carried_fields c row)) = drop-cons (take n (row_in carried_fields c row)) k 0 (omega (arith, among-size)) ∙ ap (λ (x : ℕ). x ∷ drop (suc k) (take n (row_in carried_fields c row))) here
+        ∙ ap (λ (x : ℕ). b ∷ drop x (take n (row_in carried_fields c row))) step in
+        ap (any (eqb s)) (sym next) ∙ v.rest
+
+    pub among-found : b ≡ s → true ≡ any (eqb s) (take n (row_in carried_fields c row))
+    among-found e = sym (any_here (eqb s) b (drop (k + 1) (take n (row_in carried_fields c row))) (eq-eqb s b (sym e))) ∙ among-here
+
+    pub among_next : (b ≡ s → ⊥) → Among c row n s (k + 1)
+    among_next ne = record { rest = sym (any_next (eqb s) b (drop (k + 1) (take n (row_in carried_fields c row))) (ne_eqb s b (λ x. ne (sym x)))) ∙ among-here }
+
 -- is_among: the first n slots of a row stand side by side in the table.
 list-any : {A : Type 0} (t : A → Bool) (xs : List A) → list_any t xs ≡ any t xs
 list-any t [] = refl
@@ -221,6 +256,27 @@ module _ (s : ℕ) (e c : List ℕ) (row : ℕ) {b : Bool} (eb : b ≡ message_k
         let few : k ≡ min (length (row_in carried_fields c row)) (get_or e (entry_fields * row + 4) 0) = omega (arith, row-length 8 c row) in
         rw (row5, ← eb, t, ne_eqb s (get_or e (entry_fields * row + 1) 0) (λ h. ne (ew ∙ sym h)), ← take_min (get_or e (entry_fields * row + 4) 0) (row_in carried_fields c row))
         (er ∙ ap (λ (y : ℕ). any (eqb s) (take y (row_in carried_fields c row))) few)
+
+-- named_at
+pub record Naming (g : Rings) (p s i : ℕ) : Type 0 where
+  pub rest : any (names_in s) (drop i (queue_of g p)) ≡ any (names_in s) (queue_of g p)
+
+pub naming-start : (g : Rings) (p s : ℕ) → Naming g p s 0
+naming-start g p s = record { rest = refl }
+
+module _ {g : Rings} {p s i : ℕ} (v : Naming g p s i) {l : ℕ} (el : l ≡ length_of g.ends p) where
+  pub naming-end : l ≤ i → false ≡ any (names_in s) (queue_of g p)
+  naming-end h = ap (any (names_in s)) (sym (queue-end g p i el h)) ∙ v.rest
+
+  module _ (lt : i < l) {h : ℕ} (eh : h ≡ head_of g.ends p) {row : ℕ} (er : row ≡ row_of p h i) {b : Bool} (eb : b ≡ names_in s (entry_at g.rows row)) where
+    naming-here : any (names_in s) (entry_at g.rows row ∷ drop (i + 1) (queue_of g p)) ≡ any (names_in s) (queue_of g p)
+    naming-here = ap (any (names_in s)) (sym (queue-next g p i el lt eh er refl)) ∙ v.rest
+
+    pub naming-found : b ≡ true → true ≡ any (names_in s) (queue_of g p)
+    naming-found t = sym (any_here (names_in s) (entry_at g.rows row) (drop (i + 1) (queue_of g p)) (sym eb ∙ t)) ∙ naming-here
+
+    pub naming-next : b ≡ false → Naming g p s (i + 1)
+    naming-next f = record { rest = sym (any_next (names_in s) (entry_at g.rows row) (drop (i + 1) (queue_of g p)) (sym eb ∙ f)) ∙ naming-here }
 
 -- any_row: what is left of the queue answers as the whole, of each test that the calls answered as.
 abbrev pub Answered : (ℕ → Bool → Type 0) → List ℕ → List ℕ → List ℕ → (Entry → Bool) → Type 0
@@ -313,6 +369,27 @@ module _ (s num : ℕ) (e c n : List ℕ) (row : ℕ) {b : Bool} (eb : b ≡ mes
         let few : k ≡ min (length (row_in carried_fields c row)) (get_or e (entry_fields * row + 4) 0) = omega (arith, row-length 8 c row) in
         rw (row5, ← eb, t, ← ew, lt-ltb w num h, ← take_min (get_or e (entry_fields * row + 4) 0) (row_in carried_fields c row))
         (er ∙ ap (λ (y : ℕ). any (eqb s) (take y (row_in carried_fields c row))) few)
+
+-- carried_at
+pub record Bringing (g : Rings) (p s num i : ℕ) : Type 0 where
+  pub rest : any (brings_in num s) (drop i (queue_of g p)) ≡ any (brings_in num s) (queue_of g p)
+
+pub bringing-start : (g : Rings) (p s num : ℕ) → Bringing g p s num 0
+bringing-start g p s num = record { rest = refl }
+
+module _ {g : Rings} {p s num i : ℕ} (v : Bringing g p s num i) {l : ℕ} (el : l ≡ length_of g.ends p) where
+  pub bringing-end : l ≤ i → false ≡ any (brings_in num s) (queue_of g p)
+  bringing-end h = ap (any (brings_in num s)) (sym (queue-end g p i el h)) ∙ v.rest
+
+  module _ (lt : i < l) {h : ℕ} (eh : h ≡ head_of g.ends p) {row : ℕ} (er : row ≡ row_of p h i) {b : Bool} (eb : b ≡ brings_in num s (entry_at g.rows row)) where
+    bringing-here : any (brings_in num s) (entry_at g.rows row ∷ drop (i + 1) (queue_of g p)) ≡ any (brings_in num s) (queue_of g p)
+    bringing-here = ap (any (brings_in num s)) (sym (queue-next g p i el lt eh er refl)) ∙ v.rest
+
+    pub bringing-found : b ≡ true → true ≡ any (brings_in num s) (queue_of g p)
+    bringing-found t = sym (any_here (brings_in num s) (entry_at g.rows row) (drop (i + 1) (queue_of g p)) (sym eb ∙ t)) ∙ bringing-here
+
+    pub bringing-next : b ≡ false → Bringing g p s num (i + 1)
+    bringing-next f = record { rest = sym (any_next (brings_in num s) (entry_at g.rows row) (drop (i + 1) (queue_of g p)) (sym eb ∙ f)) ∙ bringing-here }
 
 -- carried_before
 module _ (cs : List ℕ) (g : Rings) (s num p : ℕ) {n : ℕ} (en : n ≡ length_of g.ends p) where

@@ -1,9 +1,9 @@
 -- The laws that the functions' proofs cite, one for each return or turn of a loop, over plain variables: each is shaped like what the callee ensures.
 -- Assumes nothing.
-use Rattle.std.specs.Prelude.{ℕ, zero, suc, ◌+◌, ◌-◌, ◌*◌, ◌/◌, ◌%◌, ◌^◌, ◌≤◌, ◌<◌, min, ◌≡◌, List, length, get_or, eqb, leb, Option, Some, None}
+use Rattle.std.specs.Prelude.{ℕ, zero, suc, ◌+◌, ◌-◌, ◌*◌, ◌/◌, ◌%◌, ◌^◌, ◌≤◌, ◌<◌, min, ◌≡◌, List, length, get_or, eqb, leb, Option, Some, None, set, take, drop, replicate, Bool, [], ◌∷◌}
 use Rattle.std.proofs.Math.Path.{refl}
-use Rattle.std.proofs.Common.{sym, ap, ◌∙◌}
-use Rattle.std.proofs.Math.Bool.{true, false}
+use Rattle.std.proofs.Common.{sym, ap, ◌∙◌, ltb, eqb-true, add-zero, pow_mono}
+use Rattle.std.proofs.Math.Bool.{true, false, not}
 use native.Mathlib.Omega.{arith}
 use Rattle.std.proofs.Math.Numerals.{add-one}
 use Rattle.std.proofs.Math.Pow.{pow-lt}
@@ -11,17 +11,15 @@ use Rattle.std.proofs.Math.Nat.{div-eq_of_lt}
 use Rattle.std.specs.Int.Bits.{bit_or}
 use Rattle.std.proofs.lemmas.Nat.{or_disjoint}
 use Rattle.std.proofs.lemmas.Nat.Bits.{and_pow}
-use Rattle.std.specs.Prelude.{set, take, drop, replicate}
 use Rattle.std.proofs.Math.Seq.{paste, get_or-set_other}
 use Rattle.std.proofs.lemmas.List.{get_or-drop, get_or-replicate, length-take, length-drop, length-replicate}
 use Rattle.std.proofs.lemmas.List.Edits.{paste_none, paste_more}
 use Rattle.std.proofs.lemmas.Slice.{put_mid-paste}
 use Rattle.std.specs.Option.{option_map}
 use Rattle.std.proofs.lemmas.Bool.{eqb-false}
-use Rattle.std.proofs.Common.{ltb, eqb-true}
 use borrow.Rule.Slice.PartMut.{put_mid}
-use borrow.Author.Tests.{ne_eqb, lt-ltb, le-ltb, le-leb, lt-leb}
-use Rattle.laws.specs.Tests.{Seen, Seen.is_true, Seen.is_false, look}
+use borrow.Author.Tests.{ne_eqb, lt-ltb, le-ltb, le-leb, lt-leb, eq-eqb}
+use Rattle.laws.specs.Tests.{Seen, Seen.is_true, Seen.is_false, look, pick}
 use Rattle.laws.specs.Sums.{sum_to}
 use Rattle.laws.specs.Search.{first, first-is}
 use Rattle.laws.specs.Halving.{halve, halve-down, halve-up, halve-done}
@@ -31,9 +29,53 @@ use Rattle.quota.specs.declared.Charge.{Charge}
 use Rattle.quota.specs.Charges.{users, nothing}
 use Rattle.laws.specs.Bits.{bits}
 use Rattle.model.specs.Numbers.{nodes}
-use Rattle.tables.specs.Handles.{own_step, handle_row, list_block, length_block, block_size, handles_size, halvings, list_reads, id_at, count_at, has_in, has_at, found_by, found_own, list_length, listed_id, word_at, guess, guessed, at_least, place_in, spot, found_among, found_listed, entry_of, lookup, holders_below, holders_at, put_handle, clear_below, clear_peer, shifted}
-use Rattle.tables.specs.Charges.{charge_at, charges_at}
+use Rattle.tables.specs.Handles.{own_step, handle_row, list_block, length_block, block_size, handles_size, halvings, list_reads, id_at, count_at, has_in, has_at, found_by, found_own, list_length, listed_id, word_at, guess, guessed, at_least, place_in, spot, found_among, found_listed, entry_of, lookup, holders_below, holders_at, put_handle, clear_below, clear_peer, shifted, most_reads, total_below, total_at, bit_at, enlisted, taken_out, unlisted, raised, reduced}
+use Rattle.tables.specs.Charges.{charge_at, charges_at, put_charge, put_below, put_charges}
 use Rattle.ids.specs.Sizes.{peers, slots, handle_fields}
+use Rattle.ids.specs.declared.HandleId.{HandleId}
+use Rattle.quota.specs.declared.Charges.{Charges}
+use Rattle.ids.specs.Refusals.{EBADF, ESHUTDOWN}
+use Rattle.tables.specs.Peers.{peer_row, modulus, status_at, standing_at}
+
+-- standing
+module _ (ps : List ℕ) (p : ℕ) where
+  pub standing-open : get_or ps (peer_row p) 0 ≡ 1 → 0 ≡ standing_at ps p
+  unfolding standing_at status_at
+  standing-open e = rw e
+
+  module _ (ne : get_or ps (peer_row p) 0 ≡ 1 → ⊥) where
+    pub standing-left : get_or ps (peer_row p) 0 ≡ 2 → ESHUTDOWN ≡ standing_at ps p
+    unfolding standing_at status_at
+    standing-left e = rw e
+
+    pub standing-none : (get_or ps (peer_row p) 0 ≡ 2 → ⊥) → EBADF ≡ standing_at ps p
+    unfolding standing_at status_at
+    standing-none nf = rw (ne_eqb (get_or ps (peer_row p) 0) 1 ne, ne_eqb (get_or ps (peer_row p) 0) 2 nf)
+
+-- holds, find
+module _ (h : List ℕ) (i at : ℕ) where
+  holds-other : (get_or h at 0 ≡ i → ⊥) → false ≡ has_in h i at
+  unfolding has_in
+  holds-other ne = rw (ne_eqb (get_or h at 0) i ne) (go (eqb (get_or h (at + 1) 0 % modulus) 0))
+    where
+      go : (b : Bool) → false ≡ pick b false false
+      go true = refl
+      go false = refl
+
+  holds-some : get_or h at 0 ≡ i → not (eqb (get_or h (at + 1) 0 % modulus) 0) ≡ has_in h i at
+  unfolding has_in
+  holds-some e = rw (eq-eqb (get_or h at 0) i e) (go (eqb (get_or h (at + 1) 0 % modulus) 0))
+    where
+      go : (b : Bool) → not b ≡ pick b false true
+      go true = refl
+      go false = refl
+
+  module _ {v x c : ℕ} (r : ℕ) (e : (v ≡ get_or h at 0) × (x ≡ get_or h (at + 1) 0) × (c ≡ r + 1)) where
+    pub holds_not : (v ≡ i → ⊥) → (false ≡ has_in h i at) × (c ≡ r + 1)
+    holds_not ne = (holds-other (λ q. ne (e.0 ∙ q)), e.2)
+
+    pub holds-this : v ≡ i → (not (eqb (x % modulus) 0) ≡ has_in h i at) × (c ≡ r + 1)
+    holds-this q = (ap (λ (y : ℕ). not (eqb (y % modulus) 0)) e.1 ∙ holds-some (sym e.0 ∙ q), e.2)
 
 -- the place of an own slot's handle
 pub own_row : (h : List ℕ) (p i k : ℕ) → has_in h i (p * own_step + handle_fields * k) ≡ has_at h p i (p * slots + k)
@@ -62,6 +104,16 @@ module _ (h : List ℕ) (p i : ℕ) where
   pub own-nothing : ((j : ℕ) → j < slots → has_at h p i (p * slots + j) ≡ false) → None ≡ found_own h p i
   unfolding found_own
   own-nothing before = found_nothing h p i (λ j. p * slots + j) slots before
+
+-- find
+module _ (h : List ℕ) (p i : ℕ) {r : Option ℕ} where
+  pub found-own : i % 4 ≡ 0 → r ≡ found_own h p i → r ≡ lookup h p i
+  unfolding lookup
+  found-own e f = rw (eq-eqb (i % 4) 0 e) f
+
+  pub found-listed : (i % 4 ≡ 0 → ⊥) → r ≡ found_listed h p i → r ≡ lookup h p i
+  unfolding lookup
+  found-listed ne f = rw (ne_eqb (i % 4) 0 ne) f
 
 -- place_in
 -- The span in which the place is, with the reads of records that are left for it.
@@ -122,12 +174,35 @@ module _ (h : List ℕ) (p i n r : ℕ) where
   pub halving-done : (low high c : ℕ) → Halving h p i n r low high c → high ≤ low → (low ≡ place_in h p i n) × (c ≤ r + halvings)
   halving-done low high c w l = (sym (w.place ∙ halve-done (at_least h p i) (r + halvings - c) low high l), w.last)
 
--- What a search in a list reads at most, when the entry at the guessed place is another.
+-- seek_among
+module _ (h : List ℕ) (p i n r : ℕ) {k c : ℕ} (ek : (k ≡ place_in h p i n) × (c ≤ r + halvings)) where
+  pub among-past : n ≤ k → (None ≡ found_among h p i n) × (c ≤ r + (halvings + 1))
+  unfolding found_among
+  among-past l = (rw (← ek.0, le-ltb k n l), omega (arith, ek.1))
+
+  module _ (l : k < n) {v x d : ℕ} (e : (v ≡ listed_id h p k) × (x ≡ word_at h (list_block p) k) × (d ≡ c + 1)) where
+    pub among-other : (v ≡ i → ⊥) → (None ≡ found_among h p i n) × (d ≤ r + (halvings + 1))
+    unfolding found_among
+    among-other ne = (rw (← ek.0, lt-ltb k n l, ← e.0, ne_eqb v i ne), omega (arith, ek.1, e.2))
+
+    pub among-this : v ≡ i → (Some (x % nodes) ≡ found_among h p i n) × (d ≤ r + (halvings + 1))
+    unfolding found_among
+    among-this q = (rw (← ek.0, lt-ltb k n l, ← e.0, eq-eqb v i q, e.1), omega (arith, ek.1, e.2))
+
+-- seek_listed
 long : (h : List ℕ) (p : ℕ) {a : ℕ} → a ≡ id_at h length_block p → {n : ℕ} → n ≡ min a nodes → list_length h p ≡ n
 long h p ea en = sym (en ∙ ap (λ (x : ℕ). min x nodes) ea)
 
 module _ (h : List ℕ) (p i : ℕ) {a v c : ℕ} (e : (a ≡ id_at h length_block p) × (v ≡ word_at h length_block p) × (c ≡ 0 + 1)) {n : ℕ} (en : n ≡ min a nodes) where
+  pub listed-none : n ≡ 0 → (None ≡ found_listed h p i) × (c ≤ list_reads)
+  unfolding found_listed
+  listed-none z = (rw (long h p e.0 en, z), omega (arith, e.2))
+
   module _ (some : n ≡ 0 → ⊥) {k : ℕ} (ek : (k ≡ guess v i n) × (k < n)) {w y m : ℕ} (f : (w ≡ listed_id h p k) × (y ≡ word_at h (list_block p) k) × (m ≡ c + 1)) where
+    pub listed-there : w ≡ i → (Some (y % nodes) ≡ found_listed h p i) × (m ≤ list_reads)
+    unfolding found_listed
+    listed-there q = (rw (long h p e.0 en, ne_eqb n 0 some, ← e.1, ← ek.0, ← f.0, eq-eqb w i q, f.1), omega (arith, e.2, f.2))
+
     pub listed-else : (w ≡ i → ⊥) → {r : Option ℕ} {o : ℕ} → (r ≡ found_among h p i n) × (o ≤ m + (halvings + 1)) → (r ≡ found_listed h p i) × (o ≤ list_reads)
     unfolding found_listed
     listed-else q {r} {o} t = (rw (long h p e.0 en, ne_eqb n 0 some, ← e.1, ← ek.0, ← f.0, ne_eqb w i q) t.0, omega (arith, e.2, f.2, t.1))
@@ -155,9 +230,44 @@ entry-slot h p i = go (look (eqb n 0)) (look (eqb (listed_id h p g) i)) (look (l
     go (is_false x) (is_false y) (is_true z) (is_false w) = rw (x, y, z, w)
 
 module _ (h : List ℕ) (p i : ℕ) {r : Option ℕ} where
-  pub found-listed : (i % 4 ≡ 0 → ⊥) → r ≡ option_map (λ (e : Entry). e.slot) (entry_of h p i) → r ≡ lookup h p i
+  pub found-entry : (i % 4 ≡ 0 → ⊥) → r ≡ option_map (λ (e : Entry). e.slot) (entry_of h p i) → r ≡ lookup h p i
   unfolding lookup
-  found-listed ne f = rw (ne_eqb (i % 4) 0 ne) (f ∙ entry-slot h p i)
+  found-entry ne f = rw (ne_eqb (i % 4) 0 ne) (f ∙ entry-slot h p i)
+
+-- spot
+module _ (h : List ℕ) (p i n : ℕ) {a v c : ℕ} (e : (a ≡ id_at h length_block p) × (v ≡ word_at h length_block p) × (c ≡ 0 + 1)) {k : ℕ} (ek : (k ≡ guess v i n) × (k < n))
+    {w y d : ℕ} (f : (w ≡ listed_id h p k) × (y ≡ word_at h (list_block p) k) × (d ≡ 0 + 1)) where
+  spot-there : w ≡ i → k ≡ spot h p i n
+  unfolding spot
+  spot-there q = rw (← e.1, ← ek.0, ← f.0, eq-eqb w i q)
+
+  spot-else : (w ≡ i → ⊥) → {j m : ℕ} → (j ≡ place_in h p i n) × (m ≤ 0 + halvings) → j ≡ spot h p i n
+  unfolding spot
+  spot-else q g = rw (← e.1, ← ek.0, ← f.0, ne_eqb w i q) g.0
+
+-- enlist, shift, take_out
+module _ (h : List ℕ) (p : ℕ) where
+  pub enlist-done : (i s : ℕ) {n : ℕ} → n ≡ list_length h p → {h₁ h₂ : List ℕ} → h₁ ≡ put_handle h (list_block p) n i s → h₂ ≡ put_handle h₁ length_block p (n + 1) i → h₂ ≡ enlisted h p i s
+  unfolding enlisted
+  enlist-done i s e f g = rw (← e, ← f) g
+
+  module _ (k : ℕ) where
+    pub shift_none : h ≡ shifted h p k 0
+    unfolding shifted
+    shift_none = refl
+
+    pub shift-more : (m : ℕ) {h₁ h₂ : List ℕ} {x y d : ℕ} → h₁ ≡ shifted h p k m → (x ≡ listed_id h₁ p (k + m + 1)) × (y ≡ word_at h₁ (list_block p) (k + m + 1)) × (d ≡ 0 + 1) →
+        h₂ ≡ put_handle h₁ (list_block p) (k + m) x y → h₂ ≡ shifted h p k (m + 1)
+    unfolding shifted
+    shift-more m e f g = rw (add-one, ← e, ← f.0, ← f.1) g
+
+    pub shift-all : (m n : ℕ) {h₁ : List ℕ} → h₁ ≡ shifted h p k m → m ≡ n - 1 - k → h₁ ≡ shifted h p k (n - 1 - k)
+    shift-all m n e f = rw (← f) e
+
+    pub take-out-done : (n : ℕ) {h₁ h₂ : List ℕ} {l x y d : ℕ} → h₁ ≡ shifted h p k (n - 1 - k) → l ≡ n - 1 - 1 →
+        (x ≡ listed_id h₁ p l) × (y ≡ word_at h₁ (list_block p) l) × (d ≡ 0 + 1) → h₂ ≡ put_handle h₁ length_block p (n - 1) x → h₂ ≡ taken_out h p k n
+    unfolding taken_out
+    take-out-done n e el f g = rw (← e, ← el, ← f.0) g
 
 -- a record written where a list is copied to
 record-pasted : (h s : List ℕ) (to m : ℕ) {g : List ℕ} {at x y : ℕ} → to + (handle_fields * m + 1) < length h → handle_fields * m + 1 < length s → at ≡ to + handle_fields * m →
@@ -170,7 +280,7 @@ record-pasted h s to m {g} {at} {x} {y} lh ls ea ex ey eg =
     let two : set (paste h to s (n + 1)) (to + (n + 1)) (get_or s (n + 1) 0) ≡ paste h to s (n + 1 + 1) = paste_more h to s (n + 1) 0 lh ls in
     rw (one, at-2, ey) (two ∙ ap (paste h to s) end)
 
--- shift
+-- shift by one copy
 module _ (h : List ℕ) (p k : ℕ) where
   -- behind the entries that were shifted nothing is changed
   shifted-behind : (m j : ℕ) → handle_row (list_block p) (k + m) ≤ j → get_or (shifted h p k m) j 0 ≡ get_or h j 0
@@ -211,13 +321,130 @@ module _ (h : List ℕ) (p k : ℕ) where
       let m : end - from ≡ handle_fields * (n - 1 - k) = omega (arith, r, ef, ee) in
       e ∙ rw (m, et, ef) (sym (shifted-copy (n - 1 - k) (omega (arith, r))))
 
+-- unlist, raise, reduce
+module _ (h : List ℕ) (p i : ℕ) where
+  pub unlist-chosen : i % 4 ≡ 0 → h ≡ unlisted h p i
+  unfolding unlisted
+  unlist-chosen e = rw (eq-eqb (i % 4) 0 e)
+
+  module _ (ne : i % 4 ≡ 0 → ⊥) {a v c : ℕ} (e : (a ≡ id_at h length_block p) × (v ≡ word_at h length_block p) × (c ≡ 0 + 1)) {n : ℕ} (en : n ≡ min a nodes) where
+    pub unlist-empty : n ≡ 0 → h ≡ unlisted h p i
+    unfolding unlisted
+    unlist-empty z = rw (ne_eqb (i % 4) 0 ne, long h p e.0 en, z, le-ltb (spot h p i 0) 0 (omega arith))
+
+    module _ {g : ℕ} (eg : (g ≡ guess v i n) × (g < n)) {w y d : ℕ} (f : (w ≡ listed_id h p g) × (y ≡ word_at h (list_block p) g) × (d ≡ 0 + 1)) where
+      pub unlist-there : w ≡ i → {h₁ : List ℕ} → h₁ ≡ taken_out h p g n → h₁ ≡ unlisted h p i
+      unfolding unlisted
+      unlist-there q t = rw (ne_eqb (i % 4) 0 ne, long h p e.0 en, ← spot-there h p i n e eg f q, lt-ltb g n eg.1, ← f.0, eq-eqb w i q) t
+
+      module _ (other : w ≡ i → ⊥) {k m : ℕ} (ek : (k ≡ place_in h p i n) × (m ≤ 0 + halvings)) where
+        pub unlist-past : n ≤ k → h ≡ unlisted h p i
+        unfolding unlisted
+        unlist-past l = rw (ne_eqb (i % 4) 0 ne, long h p e.0 en, ← spot-else h p i n e eg f other ek, le-ltb k n l)
+
+        module _ (l : k < n) {u x o : ℕ} (z : (u ≡ listed_id h p k) × (x ≡ word_at h (list_block p) k) × (o ≡ 0 + 1)) where
+          pub unlist-other : (u ≡ i → ⊥) → h ≡ unlisted h p i
+          unfolding unlisted
+          unlist-other q = rw (ne_eqb (i % 4) 0 ne, long h p e.0 en, ← spot-else h p i n e eg f other ek, lt-ltb k n l, ← z.0, ne_eqb u i q)
+
+          pub unlist-this : u ≡ i → {h₁ : List ℕ} → h₁ ≡ taken_out h p k n → h₁ ≡ unlisted h p i
+          unfolding unlisted
+          unlist-this q t = rw (ne_eqb (i % 4) 0 ne, long h p e.0 en, ← spot-else h p i n e eg f other ek, lt-ltb k n l, ← z.0, eq-eqb u i q) t
+
+module _ (h : List ℕ) (p s i : ℕ) {c : ℕ} (ec : c ≡ count_at h p s) {h₁ : List ℕ} (e₁ : h₁ ≡ put_handle h p s i (c + 1)) where
+  pub raise-more : (c ≡ 0 → ⊥) → h₁ ≡ raised h p s i
+  unfolding raised
+  raise-more z = rw (← ec, ne_eqb c 0 z) e₁
+
+  pub raise-first : c ≡ 0 → {h₂ : List ℕ} → h₂ ≡ enlisted h₁ p i s → h₂ ≡ raised h p s i
+  unfolding raised
+  raise-first z e₂ = rw (← ec, eq-eqb c 0 z, ← e₁) e₂
+
+module _ (h : List ℕ) (p s : ℕ) {c l : ℕ} (ec : c ≡ count_at h p s) (el : l ≡ c - 1) {i : HandleId} (ei : i ≡ record { 0 = id_at h p s }) {h₁ : List ℕ} (e₁ : h₁ ≡ put_handle h p s i.0 l) where
+  left_is : l ≡ count_at h p s - 1
+  left_is = rw (el, ec)
+
+  put_is : h₁ ≡ put_handle h p s (id_at h p s) l
+  put_is = rw ei at e₁
+
+  pub reduce-more : (l ≡ 0 → ⊥) → (l ≡ count_at h p s - 1) × (h₁ ≡ reduced h p s)
+  unfolding reduced
+  reduce-more z = (left_is, rw (← left_is, ne_eqb l 0 z) put_is)
+
+  pub reduce-last : l ≡ 0 → {h₂ : List ℕ} → h₂ ≡ unlisted h₁ p i.0 → (0 ≡ count_at h p s - 1) × (h₂ ≡ reduced h p s)
+  unfolding reduced
+  reduce-last z e₂ = (sym z ∙ left_is, rw (← left_is, eq-eqb l 0 z, ← put_is) (rw ei at e₂))
+
+-- find, with the number of reads
+module _ (h : List ℕ) (p i : ℕ) {r : Option ℕ} {c : ℕ} where
+  pub sought-own : i % 4 ≡ 0 → (r ≡ found_own h p i) × (c ≤ most_reads) → (r ≡ lookup h p i) × (c ≤ most_reads)
+  sought-own e f = (found-own h p i e f.0, f.1)
+
+  pub sought-listed : (i % 4 ≡ 0 → ⊥) → (r ≡ found_listed h p i) × (c ≤ list_reads) → (r ≡ lookup h p i) × (c ≤ most_reads)
+  sought-listed e f = (found-listed h p i e f.0, omega (arith, f.1))
+
+-- total
+module _ (h : List ℕ) (s : ℕ) where
+  pub total-none : 0 ≡ total_below h s 0
+  unfolding total_below sum_to
+  total-none = refl
+
+  pub total-more : (q : ℕ) {c t : ℕ} → c ≡ count_at h q s → t ≡ total_below h s q → c + t ≡ total_below h s (q + 1)
+  unfolding total_below sum_to
+  total-more q e f = rw (add-one, e, f)
+
+  pub total-all : (q : ℕ) {t : ℕ} → t ≡ total_below h s q → q ≡ peers → t ≡ total_at h s
+  unfolding total_at
+  total-all q e f = rw (← f) e
+
+-- bit_of, holders
+module _ (h : List ℕ) (s q bit : ℕ) {c : ℕ} (e : c ≡ count_at h q s) where
+  pub bit-none : c ≡ 0 → (0 ≡ bit_at h s q bit) × (0 ≤ bit)
+  bit-none z = (rw (← e, z), omega arith)
+
+  pub bit-some : (c ≡ 0 → ⊥) → (bit ≡ bit_at h s q bit) × (bit ≤ bit)
+  bit-some z = (rw (← e, ne_eqb c 0 z), omega arith)
+
+byte-bit : (q : ℕ) → q ≤ 8 → 2 ^ q ≤ 256
+byte-bit q l = let m : 2 ^ q ≤ 2 ^ 8 = pow_mono l in omega arith
+
+-- the bit of the peer q, and the bits of the peers below it
+pub record Holders (h : List ℕ) (s q bit set : ℕ) : Type 0 where
+  pub peers : q ≤ 8
+  pub power : bit ≡ 2 ^ q
+  pub byte : bit ≤ 256
+  pub below : set < bit
+  pub sum : set ≡ holders_below h s q
+
+module _ (h : List ℕ) (s : ℕ) where
+  pub holders-none : Holders h s 0 1 0
+  unfolding holders_below bits sum_to
+  holders-none = record { peers = omega arith; power = refl; byte = omega arith; below = omega arith; sum = refl }
+
+  pub holders-more : (q bit set : ℕ) {b : ℕ} → Holders h s q bit set → q < peers → (b ≡ bit_at h s q bit) × (b ≤ bit) → Holders h s (q + 1) (2 * bit) (b + set)
+  unfolding holders_below bits sum_to
+  holders-more q bit set {b} g l e =
+      let x : 2 ^ (q + 1) ≡ 2 * 2 ^ q = rw add-one (omega arith) in
+      let y : 2 * bit ≡ 2 ^ (q + 1) = rw (x, g.power) in
+      record {
+        peers = omega arith;
+        power = y;
+        byte = rw y (byte-bit (q + 1) (omega arith));
+        below = omega (arith, g.below, e.1);
+        sum = rw (add-one, e.0, g.power, g.sum);
+      }
+
+  pub holders-all : (q : ℕ) {bit set : ℕ} → Holders h s q bit set → q ≡ peers → set ≡ holders_at h s
+  unfolding holders_at
+  holders-all q g f = rw (← f) g.sum
+
 -- without, holders
 pub byte-shift : (q : ℕ) → q < 8 → 1 * 2 ^ q % 256 ≡ 2 ^ q
 byte-shift q l = let m : 2 ^ q < 2 ^ 8 = pow-lt l in omega arith
 
 -- holders
 -- the bits of the peers below q, which are below the next bit
-pub record Holders (h : List ℕ) (s q b : ℕ) : Type 0 where
+pub record HolderBits (h : List ℕ) (s q b : ℕ) : Type 0 where
   pub below : b < 2 ^ q
   pub sum : b ≡ holders_below h s q
 
@@ -226,30 +453,42 @@ next_bit : (q b : ℕ) → b < 2 ^ q → bit_or b (2 ^ q) ≡ b + 2 ^ q
 next_bit q b l = or_disjoint b (2 ^ q) (and_pow b q ∙ rw (div-eq_of_lt l) (omega arith))
 
 module _ (h : List ℕ) (s : ℕ) where
-  pub holders-none : Holders h s 0 0
+  pub holder-bits-none : HolderBits h s 0 0
   unfolding holders_below bits sum_to
-  holders-none = record { below = omega arith; sum = refl }
+  holder-bits-none = record { below = omega arith; sum = refl }
 
-  module _ (q b : ℕ) {c : ℕ} (w : Holders h s q b) (e : c ≡ count_at h q s) where
+  module _ (q b : ℕ) {c : ℕ} (w : HolderBits h s q b) (e : c ≡ count_at h q s) where
     next : 2 ^ (q + 1) ≡ 2 * 2 ^ q
     next = rw add-one (omega arith)
 
-    pub holders-skip : c ≡ 0 → Holders h s (q + 1) b
+    pub holder-bits-skip : c ≡ 0 → HolderBits h s (q + 1) b
     unfolding holders_below bits sum_to
-    holders-skip z = record { below = omega (arith, next, w.below); sum = rw (add-one, ← e, z) (omega (arith, w.sum)) }
+    holder-bits-skip z = record { below = omega (arith, next, w.below); sum = rw (add-one, ← e, z) (omega (arith, w.sum)) }
 
-    pub holders-more : q < peers → (c ≡ 0 → ⊥) → Holders h s (q + 1) (bit_or b (1 * 2 ^ q % 256))
+    pub holder-bits-more : q < peers → (c ≡ 0 → ⊥) → HolderBits h s (q + 1) (bit_or b (1 * 2 ^ q % 256))
     unfolding holders_below bits sum_to
-    holders-more l z =
+    holder-bits-more l z =
         rw (byte-shift q l, next_bit q b w.below)
         (record { below = omega (arith, next, w.below); sum = rw (add-one, ← e, ne_eqb c 0 z) (omega (arith, w.sum)) })
 
-  pub holders-all : (q : ℕ) {b : ℕ} → Holders h s q b → q ≡ peers → b ≡ holders_at h s
+  pub holder-bits-all : (q : ℕ) {b : ℕ} → HolderBits h s q b → q ≡ peers → b ≡ holders_at h s
   unfolding holders_at
-  holders-all q g f = rw (← f) g.sum
+  holder-bits-all q g f = rw (← f) g.sum
 
 -- clear_peer
 module _ (h : List ℕ) (p : ℕ) where
+  pub clear_none : h ≡ clear_below h p 0
+  unfolding clear_below
+  clear_none = refl
+
+  pub clear-more : (s : ℕ) {h₁ h₂ : List ℕ} → h₁ ≡ clear_below h p s → h₂ ≡ put_handle h₁ p s 0 0 → h₂ ≡ clear_below h p (s + 1)
+  unfolding clear_below
+  clear-more s e f = rw (add-one, ← e) f
+
+  pub clear-all : (s : ℕ) {h₁ h₂ : List ℕ} → h₁ ≡ clear_below h p s → s ≡ nodes → h₂ ≡ put_handle h₁ length_block p 0 0 → h₂ ≡ clear_peer h p
+  unfolding clear_peer
+  clear-all s e f g = rw (← f, ← e) g
+
   -- the handles gone are one fill of the block
   cleared-fill : (l : List ℕ) → length l ≡ block_size → ((j : ℕ) → j < block_size → 0 ≡ get_or l j 0) → (n : ℕ) → n ≤ nodes → handle_row p nodes ≤ length h →
       clear_below h p n ≡ paste h (handle_row p 0) l (handle_fields * n)
@@ -272,11 +511,24 @@ module _ (h : List ℕ) (p : ℕ) where
       let all : clear_below h p nodes ≡ h₁ = cleared-fill l long zeros nodes (omega arith) (omega (arith, r)) ∙ ap (λ (x : ℕ). paste h x l block_size) (sym ea) ∙ sym filled in
       rw all f
 
--- load
-pub loaded : (t : List ℕ) (p : ℕ) (l : List Charge) → length l ≡ users → get_or l 0 nothing ≡ charge_at t (users * p + 0) → get_or l 1 nothing ≡ charge_at t (users * p + 1) →
+-- load, store
+pub loaded : (t : List ℕ) (p : ℕ) {a b c d : Charge} →
+    a ≡ charge_at t (users * p) → b ≡ charge_at t (users * p + 1) → c ≡ charge_at t (users * p + 2) → d ≡ charge_at t (users * p + 3) →
+    record { by = a ∷ b ∷ c ∷ d ∷ [] } ≡ charges_at t p
+unfolding charges_at build
+loaded t p ea eb ec ed = rw (ea, eb, ec, ed, add-zero)
+
+pub stored : (t : List ℕ) (p : ℕ) (c : Charges) {t₁ t₂ t₃ t₄ : List ℕ} →
+    t₁ ≡ put_charge t (users * p) (get_or c.by 0 nothing) → t₂ ≡ put_charge t₁ (users * p + 1) (get_or c.by 1 nothing) →
+    t₃ ≡ put_charge t₂ (users * p + 2) (get_or c.by 2 nothing) → t₄ ≡ put_charge t₃ (users * p + 3) (get_or c.by 3 nothing) → t₄ ≡ put_charges t p c
+unfolding put_charges put_below
+stored t p c e₁ e₂ e₃ e₄ = rw (add-zero, ← e₁, ← e₂, ← e₃) e₄
+
+-- load: the rows as one list
+pub loaded-list : (t : List ℕ) (p : ℕ) (l : List Charge) → length l ≡ users → get_or l 0 nothing ≡ charge_at t (users * p + 0) → get_or l 1 nothing ≡ charge_at t (users * p + 1) →
     get_or l 2 nothing ≡ charge_at t (users * p + 2) → get_or l 3 nothing ≡ charge_at t (users * p + 3) → record { by = l } ≡ charges_at t p
 unfolding charges_at
-loaded t p l n e₀ e₁ e₂ e₃ =
+loaded-list t p l n e₀ e₁ e₂ e₃ =
     ap (λ (x : List Charge). record { by = x })
     (sym (build-list nothing l) ∙ ap (build (λ u. get_or l u nothing)) n ∙ build-ext (λ u. get_or l u nothing) (λ u. charge_at t (users * p + u)) users each)
   where
