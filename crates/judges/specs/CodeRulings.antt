@@ -246,11 +246,15 @@ module _ (ps ns hs cs f : List ℕ) (rs : Rings) (sd : List ℕ) {c : Command} w
     sent-as = rw ec
 
     module _ {x : Result Places Refusal} (ex : placed (order.Send p z) x ≡ send_ruling ps ns hs cs f p z) where
-      pub ruled_send : {w : Places} → x ≡ Ok w → record { order = order.Send p z; places = w } ≡ ruling_of (sight ps ns hs cs rs sd) f c
-      ruled_send g = sym (ap (placed (order.Send p z)) g) ∙ ex ∙ sent-as
+      pub ruled-sent : {w : Places} → x ≡ Ok w → record { order = order.Send p z; places = w } ≡ ruling_of (sight ps ns hs cs rs sd) f c
+      ruled-sent g = sym (ap (placed (order.Send p z)) g) ∙ ex ∙ sent-as
 
       pub ruled-unsent : {e : Refusal} {r : Ruling} → x ≡ Err e → r ≡ plainly (order.Refuse (refusal_number e)) → r ≡ ruling_of (sight ps ns hs cs rs sd) f c
       ruled-unsent g er = er ∙ sym (ap (placed (order.Send p z)) g) ∙ ex ∙ sent-as
+
+  pub ruled_send : {p : Peer} {z : Sizes} {r : Ruling} → c ≡ Send p z → r ≡ send_ruling ps ns hs cs f p z → r ≡ ruling_of (sight ps ns hs cs rs sd) f c
+  unfolding ruling_of refusal_by places_of fits
+  ruled_send ec er = rw ec er
 
   pub ruled-receive : {p : Peer} {room : ℕ} {o : Order} {r : Ruling} → c ≡ Receive p room → o ≡ unless (refuses_receive (seen ps [] [] [] rs) p.0 room) (order.Receive p) →
       r ≡ plainly o → r ≡ ruling_of (sight ps ns hs cs rs sd) f c

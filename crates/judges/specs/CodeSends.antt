@@ -1,16 +1,16 @@
 -- The laws that the proofs of a send's judgement cite: the slots of its IDs, the walks over them, and one law for each return, over plain variables.
 -- Assumes nothing.
-use Prim.Native.Nat.{ℕ, zero, suc, ◌+◌, ◌*◌, ◌/◌, ◌%◌, ◌≤◌, ◌<◌}
+use Prim.Native.Nat.{ℕ, zero, suc, ◌+◌, ◌-◌, ◌*◌, ◌/◌, ◌%◌, ◌≤◌, ◌<◌}
 use Rattle.std.specs.Prelude.{◌≡◌, Bool, List, [], ◌∷◌, ◌++◌, map, length, get_or, set, take, drop, replicate, eqb, ltb, cond, ◌&&◌, Option, Some, None, Ok, Err}
 use Rattle.std.specs.List.{filter, list_all}
 use Rattle.std.proofs.Math.Path.{refl, sym, ap}
-use Rattle.std.proofs.Common.{ap₂, ◌∙◌, arith, zero-add, add-one, length-append, take_at, drop-cons}
+use Rattle.std.proofs.Common.{ap₂, ◌∙◌, arith, zero-add, mul-le-mul_left, add-one, length-append, take_at, drop-cons}
 use Rattle.std.proofs.Math.Bool.{true, false}
 use Rattle.std.proofs.lemmas.List.{length-replicate, set_at}
 use Rattle.std.proofs.lemmas.List.Sums.{length-filter, count_by-le-length}
 use Rattle.std.proofs.lemmas.List.Edits.{sets-eq}
 use Rattle.std.proofs.Math.Seq.{append_snoc}
-use borrow.Author.Tests.{lt-ltb}
+use borrow.Author.Tests.{ne_eqb, eq-eqb, lt-ltb}
 use Rattle.laws.specs.Tests.{pick}
 use Rattle.laws.specs.Weights.{All, keep}
 use Rattle.laws.specs.Build.{build, build-snoc, build-length}
@@ -27,7 +27,7 @@ use Rattle.model.specs.Lists.{both, every}
 use Rattle.model.specs.Refusals.{places_at}
 use Rattle.judges.specs.Orders.{eight, ids_from, slots_at, living_at, allowed_at, affordable_at}
 use Rattle.judges.specs.CodeOrders.{missing, found}
-use Rattle.ids.specs.Sizes.{peers, slots, most_ids}
+use Rattle.ids.specs.Sizes.{peers, slots, most_ids, most_bytes}
 use Rattle.model.specs.Numbers.{nodes}
 
 -- Tests of every element.
@@ -163,6 +163,9 @@ unfolding places_at
 places-is l p e = e ∙ ap length (filter-keep (λ s. eqb (s / slots) p) l)
 
 -- allowed_at
+pub product : (m n : ℕ) → m ≤ most_ids → n ≤ most_bytes → m * n ≤ 4096
+product m n l h = omega (arith, mul-le-mul_left m h)
+
 pub allowed-is : (cs : List ℕ) (u : User) (ds : List ℕ) (nb nh p : ℕ) {m : ℕ} {c : Charges} {b : Bool} → m ≡ places_at p ds → c ≡ charges_at cs p →
     b ≡ allows_all c u (record { messages = m; bytes = m * nb; handles = m * nh }) → b ≡ allowed_at cs u ds nb nh p
 unfolding allowed_at
@@ -173,3 +176,93 @@ pub affordable-is : (cs : List ℕ) (u : User) (ds : List ℕ) (nb nh : ℕ) {b 
     b ≡ affordable_at cs u ds nb nh
 unfolding affordable_at
 affordable-is cs u ds nb nh e = e ∙ all-every (λ d. allowed_at cs u ds nb nh (d / slots % peers)) ds
+
+-- The same facts for a walk element by element, over the first n of some slots: what is left of them from the place k on.
+abbrev pub rest : List ℕ → ℕ → ℕ → List ℕ
+rest l n k = take (n - k) (drop k l)
+
+module _ (l : List ℕ) (n : ℕ) where
+  rest-start : rest l n 0 ≡ take n l
+  rest-start = let e : n - 0 ≡ n = omega arith in rw e
+
+  rest-next : (k : ℕ) → k < n → n ≤ length l → rest l n k ≡ get_or l k 0 ∷ rest l n (k + 1)
+  rest-next k h z =
+      let e : n - k ≡ suc (n - (k + 1)) = omega arith in
+      ap₂ (λ (m : ℕ) (x : List ℕ). take m x) e (drop-cons l k 0 (omega arith)) ∙ rw add-one
+
+  rest_end : (k : ℕ) → n ≤ k → rest l n k ≡ []
+  rest_end k h = let e : n - k ≡ 0 = omega arith in rw e
+
+-- living
+pub record Living (ns l : List ℕ) (n k : ℕ) : Type 0 where
+  pub some : k ≤ n
+  pub same : living_at ns (take n l) ≡ living_at ns (rest l n k)
+
+module _ (ns l : List ℕ) (n : ℕ) where
+  pub living-start : Living ns l n 0
+  living-start = record { some = omega arith; same = ap (living_at ns) (sym (rest-start l n)) }
+
+  module _ (k : ℕ) (w : Living ns l n k) where
+    module _ (h : k < n) (z : n ≤ length l) {b : Bool} (e : b ≡ live_at ns (get_or l k 0 % nodes)) where
+      pub living-dead : b ≡ false → false ≡ living_at ns (take n l)
+      unfolding living_at
+      living-dead g = sym (w.same ∙ rw (rest-next l n k h z, ← e, g))
+
+      pub living-more : b ≡ true → Living ns l n (k + 1)
+      unfolding living_at
+      living-more g = record { some = omega arith; same = w.same ∙ rw (rest-next l n k h z, ← e, g) }
+
+    pub living-end : n ≤ k → true ≡ living_at ns (take n l)
+    unfolding living_at
+    living-end h = sym (w.same ∙ rw (rest_end l n k h))
+
+-- places_at
+pub record Counted (l : List ℕ) (n p k m : ℕ) : Type 0 where
+  pub some : k ≤ n
+  pub few : m ≤ k
+  pub same : places_at p (take n l) ≡ m + places_at p (rest l n k)
+
+module _ (l : List ℕ) (n p : ℕ) where
+  pub counted_start : Counted l n p 0 0
+  counted_start = record { some = omega arith; few = omega arith; same = ap (places_at p) (sym (rest-start l n)) ∙ sym (zero-add _) }
+
+  module _ (k m : ℕ) (w : Counted l n p k m) where
+    module _ (h : k < n) (z : n ≤ length l) where
+      pub counted-own : {m₁ : ℕ} → get_or l k 0 / slots ≡ p → m₁ ≡ m + 1 → Counted l n p (k + 1) m₁
+      unfolding places_at
+      counted-own {m₁} e g =
+          let x : places_at p (rest l n k) ≡ suc (places_at p (rest l n (k + 1))) = rw (rest-next l n k h z, eq-eqb (get_or l k 0 / slots) p e) in
+          record { some = omega arith; few = omega (arith, w.few, g); same = w.same ∙ omega (arith, x, g) }
+
+      pub counted-other : {m₁ : ℕ} → (get_or l k 0 / slots ≡ p → ⊥) → m₁ ≡ m → Counted l n p (k + 1) m₁
+      unfolding places_at
+      counted-other {m₁} e g =
+          let x : places_at p (rest l n k) ≡ places_at p (rest l n (k + 1)) = rw (rest-next l n k h z, ne_eqb (get_or l k 0 / slots) p e) in
+          record { some = omega arith; few = omega (arith, w.few, g); same = w.same ∙ omega (arith, x, g) }
+
+    pub counted-end : n ≤ k → n ≤ most_ids → (m ≡ places_at p (take n l)) × (m ≤ most_ids)
+    unfolding places_at
+    counted-end h z =
+        let x : places_at p (rest l n k) ≡ 0 = rw (rest_end l n k h) in
+        (omega (arith, w.same, x), omega (arith, w.some, w.few))
+
+-- affordable
+pub record Affordable (cs : List ℕ) (u : User) (l : List ℕ) (n nb nh k : ℕ) : Type 0 where
+  pub some : k ≤ n
+  pub same : affordable_at cs u (take n l) nb nh ≡ every (λ d. allowed_at cs u (take n l) nb nh (d / slots % peers)) (rest l n k)
+
+module _ (cs : List ℕ) (u : User) (l : List ℕ) (n nb nh : ℕ) where
+  pub affordable-start : Affordable cs u l n nb nh 0
+  unfolding affordable_at
+  affordable-start = record { some = omega arith; same = ap (every (λ d. allowed_at cs u (take n l) nb nh (d / slots % peers))) (sym (rest-start l n)) }
+
+  module _ (k : ℕ) (w : Affordable cs u l n nb nh k) where
+    module _ (h : k < n) (z : n ≤ length l) {b : Bool} (e : b ≡ allowed_at cs u (take n l) nb nh (get_or l k 0 / slots % peers)) where
+      pub affordable-over : b ≡ false → false ≡ affordable_at cs u (take n l) nb nh
+      affordable-over g = sym (w.same ∙ rw (rest-next l n k h z, ← e, g))
+
+      pub affordable-more : b ≡ true → Affordable cs u l n nb nh (k + 1)
+      affordable-more g = record { some = omega arith; same = w.same ∙ rw (rest-next l n k h z, ← e, g) }
+
+    pub affordable-end : n ≤ k → true ≡ affordable_at cs u (take n l) nb nh
+    affordable-end h = sym (w.same ∙ rw (rest_end l n k h))

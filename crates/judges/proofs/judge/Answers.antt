@@ -1,5 +1,5 @@
 -- `judges::judge` meets its contract: each command's judgement sees the part of the state that its cascade reads, so the ruling is that of the whole state. Assumes nothing.
-use Rattle.judges.specs.CodeRulings.{ruled-open, ruled-disconnect, ruled-create, ruled-destroy, ruled-release, ruled-transfer, ruled_send, ruled-unsent, ruled-receive, ruled-quota, ruled-holders, ruled-seed}
+use Rattle.judges.specs.CodeRulings.{ruled-open, ruled-disconnect, ruled-create, ruled-destroy, ruled-release, ruled-transfer, ruled-sent, ruled-unsent, ruled-receive, ruled-quota, ruled-holders, ruled-seed}
 use Rattle.rings.specs.Lent.{lent}
 use Rattle.rings.specs.Rings.{rings_of}
 use Rattle.judges.proofs.judge.Goals as goal
@@ -23,7 +23,7 @@ pub returns-in-Transfer : goal.returns-in-Transfer
 returns-in-Transfer c = ruled-transfer c.args.ps.now c.args.ns.now c.args.hs.now c.args.cs.now c.args.frame.now (lent c.args.rings.now) c.args.seeds.now c.in-Transfer.is c.judge_transfer.ensures c.plain-in-Transfer.ensures
 
 pub returns-in-Ok : goal.returns-in-Ok
-returns-in-Ok c = ruled_send c.args.ps.now c.args.ns.now c.args.hs.now c.args.cs.now c.args.frame.now (lent c.args.rings.now) c.args.seeds.now c.in-Send.is c.judge_send.ensures c.in-Ok.is
+returns-in-Ok c = ruled-sent c.args.ps.now c.args.ns.now c.args.hs.now c.args.cs.now c.args.frame.now (lent c.args.rings.now) c.args.seeds.now c.in-Send.is c.judge_send.ensures c.in-Ok.is
 
 pub returns-in-Err : goal.returns-in-Err
 returns-in-Err c = ruled-unsent c.args.ps.now c.args.ns.now c.args.hs.now c.args.cs.now c.args.frame.now (lent c.args.rings.now) c.args.seeds.now c.in-Send.is c.judge_send.ensures c.in-Err.is c.plain-in-Err.ensures
