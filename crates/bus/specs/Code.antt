@@ -1,19 +1,21 @@
 -- One law for each return of the code that a definition does not say at once, over plain variables.
 -- Assumes nothing.
 use Prim.Native.Nat.{ℕ, zero, suc, ◌+◌, ◌*◌, ◌≤◌, ◌<◌}
-use Rattle.std.specs.Prelude.{◌≡◌, Bool, List, length, get_or, replicate, ltb, leb, Ok, Err}
+use Rattle.std.specs.Prelude.{◌≡◌, Bool, List, ◌++◌, length, get_or, set, drop, replicate, ltb, leb, Ok, Err}
 use Rattle.std.proofs.Math.Path.{refl, sym, ap}
-use Rattle.std.proofs.Common.{subst, ◌∙◌}
+use Rattle.std.proofs.Common.{subst, ◌∙◌, append-nil, drop-cons}
 use Rattle.std.proofs.Math.Bool.{true, false}
 use native.Mathlib.Omega.{arith}
-use borrow.Author.Tests.{le-ltb, leb-true}
+use Rattle.std.proofs.lemmas.List.{length-replicate, replicate-append-replicate, set_at}
+use Rattle.std.proofs.Math.Seq.{drop-length, append_snoc}
+use borrow.Author.Tests.{lt-ltb, le-ltb, le-leb, lt-leb, leb-true}
 use Rattle.laws.specs.Tests.{Same, same, other, same?}
 use Rattle.model.specs.Lists.{both}
 use Rattle.model.specs.Occurs.{both_true}
 use Rattle.view.specs.View.{Bus, bus_of, Shape}
 use Rattle.rings.specs.Rings.{ring_size, length_of}
 use Rattle.queues.specs.Queues.{Short}
-use Rattle.ids.specs.Refusals.{EIO, refusal_number}
+use Rattle.ids.specs.Refusals.{EINVAL, EIO, refusal_number}
 use Rattle.ids.specs.declared.Refusal.{Refusal}
 use Rattle.frames.specs.declared.Command.{Command}
 use Rattle.frames.specs.Frame.{parse, Parsed}
@@ -29,6 +31,33 @@ use Rattle.bus_model.specs.Command.{sized_ok, peer_ok, peers_ok, ranges_ok, soun
 use Rattle.execution.specs.Code.{Written}
 use Rattle.ids.specs.Sizes.{peers, accepted_end, given_end, end_fields}
 use Rattle.tables.specs.Peers.{peer_row}
+
+-- The numbers of a peer, by the test that fails; then the last test.
+module _ (ps ends : List ℕ) (p : ℕ) where
+  pub bad-state : 2 < get_or ps (peer_row p) 0 → false ≡ peer_ok ps ends p
+  unfolding peer_ok
+  bad-state h = rw (lt-leb (get_or ps (peer_row p) 0) 2 h)
+
+  module _ (h₀ : get_or ps (peer_row p) 0 ≤ 2) where
+    pub bad-user : 3 < get_or ps (peer_row p + 1) 0 → false ≡ peer_ok ps ends p
+    unfolding peer_ok
+    bad-user h = rw (le-leb (get_or ps (peer_row p) 0) 2 h₀, lt-leb (get_or ps (peer_row p + 1) 0) 3 h)
+
+    module _ (h₁ : get_or ps (peer_row p + 1) 0 ≤ 3) where
+      pub bad-given : given_end ≤ get_or ps (peer_row p + 2) 0 → false ≡ peer_ok ps ends p
+      unfolding peer_ok
+      bad-given h = rw (le-leb (get_or ps (peer_row p) 0) 2 h₀, le-leb (get_or ps (peer_row p + 1) 0) 3 h₁, le-ltb (get_or ps (peer_row p + 2) 0) given_end h)
+
+      module _ (h₂ : get_or ps (peer_row p + 2) 0 < given_end) where
+        pub bad-head : ring_size ≤ get_or ends (p * end_fields) 0 → false ≡ peer_ok ps ends p
+        unfolding peer_ok
+        bad-head h =
+            rw (le-leb (get_or ps (peer_row p) 0) 2 h₀, le-leb (get_or ps (peer_row p + 1) 0) 3 h₁, lt-ltb (get_or ps (peer_row p + 2) 0) given_end h₂, le-ltb (get_or ends (p * end_fields) 0) ring_size h)
+
+        pub last-length : get_or ends (p * end_fields) 0 < ring_size → leb (get_or ends (p * end_fields + 1) 0) ring_size ≡ peer_ok ps ends p
+        unfolding peer_ok
+        last-length h =
+            rw (le-leb (get_or ps (peer_row p) 0) 2 h₀, le-leb (get_or ps (peer_row p + 1) 0) 3 h₁, lt-ltb (get_or ps (peer_row p + 2) 0) given_end h₂, lt-ltb (get_or ends (p * end_fields) 0) ring_size h)
 
 both_false : (a b : Bool) → b ≡ false → both a b ≡ false
 both_false true b e = e
@@ -80,9 +109,33 @@ module _ (ps ends : List ℕ) where
   unfolding ranges_ok
   ranges-short h = let t = both_true (peers_ok ps ends peers) (ltb (get_or ps 0 0) accepted_end) h in λ p l. peer-short p (each-peer ps ends 8 t.0 p l)
 
--- The lengths right.
-pub then-shape : (b : Bus) {r : Bool} → r ≡ sized_ok b → r ≡ true → Shape b
-then-shape b e t = sized-shape b (sym e ∙ t)
+-- Both tests.
+module _ (b : Bus) {r : Bool} (e : r ≡ sized_ok b) where
+  pub not-sized : r ≡ false → false ≡ sound_ok b
+  unfolding sound_ok
+  not-sized f = rw (← e, f)
+
+  pub then-shape : r ≡ true → Shape b
+  then-shape t = sized-shape b (sym e ∙ t)
+
+  pub sized-then : r ≡ true → {s : Bool} → s ≡ ranges_ok b.peers b.rings.ends → s ≡ sound_ok b
+  unfolding sound_ok
+  sized-then t k = rw (← e, t) k
+
+-- A buffer cleared: the places so far, and the next.
+pub clear-store : (n : ℕ) (l : List ℕ) → n < length l → set (replicate n 0 ++ drop n l) n 0 ≡ replicate (n + 1) 0 ++ drop (n + 1) l
+clear-store n l h =
+    let e : n + 1 ≡ suc n = omega arith in
+    ap (λ (r : List ℕ). set (replicate n 0 ++ r) n 0) (drop-cons l n 0 h)
+    ∙ set_at (replicate n 0) (get_or l n 0) (drop (suc n) l) 0 n (length-replicate {A = ℕ} n 0)
+    ∙ sym (append_snoc (replicate n 0) 0 (drop (suc n) l))
+    ∙ ap (λ (r : List ℕ). r ++ drop (suc n) l) (replicate-append-replicate n 1 0)
+    ∙ ap (λ (k : ℕ). replicate (n + 1) 0 ++ drop k l) (sym e)
+
+pub clear-all : (n : ℕ) (l : List ℕ) {t : List ℕ} → length l ≤ n → n ≤ length l → t ≡ replicate n 0 ++ drop n l → t ≡ replicate (length l) 0
+clear-all n l h k e =
+    let q : n ≡ length l = omega arith in
+    e ∙ ap (λ (j : ℕ). replicate j 0 ++ drop j l) q ∙ ap (λ (r : List ℕ). replicate (length l) 0 ++ r) (drop-length l) ∙ append-nil (replicate (length l) 0)
 
 -- A fresh bus, or none.
 to-zeros : (l : List ℕ) {t : List ℕ} {n : ℕ} → t ≡ replicate (length l) 0 → length l ≡ n → t ≡ replicate n 0
@@ -110,6 +163,10 @@ pub executed : (b : Bus) (f out : List ℕ) {r s : Ruling} {d : Done} → r ≡ 
 executed b f out e h = h ∙ ap (carried_out b f out) e
 
 module _ (b : Bus) (f out : List ℕ) where
+  pub no_room : length out < answer_size → done_of (record { number = EINVAL; len = 0 }) b out ≡ command_of b f out
+  unfolding command_of
+  no_room h = rw (lt-ltb (length out) answer_size h)
+
   module _ (h : answer_size ≤ length out) {r : Bool} (e : r ≡ sound_ok b) where
     pub not_sound : r ≡ false → {o : Outcome} {out' : List ℕ} → Written (is_refused EIO) out o out' → done_of o b out' ≡ command_of b f out
     unfolding command_of

@@ -1,11 +1,12 @@
 -- The proofs of Session's statements, and the steps of the code: a line more is answered, and the answering stops.
 -- Assumes nothing.
-use Rattle.std.specs.Prelude.{ℕ, ◌+◌, ◌*◌, ◌-◌, ◌≤◌, ◌<◌, ◌≡◌, refl, Bool, true, false, length, take, drop, Option, Some, None}
-use Rattle.std.proofs.Common.{sym, ap, ap₂, subst, ◌∙◌, arith, zero-add, length-append, length-drop, take_at, take_all, take-add, drop-drop}
+use Rattle.std.specs.Prelude.{ℕ, ◌+◌, ◌*◌, ◌-◌, ◌≤◌, ◌<◌, ◌≡◌, refl, Bool, true, false, length, take, drop, eqb, ltb, Option, Some, None}
+use Rattle.std.proofs.Common.{sym, ap, ap₂, subst, ◌∙◌, arith, zero-add, length-append, length-drop, take_at, take_all, take-add, drop-drop, eqb-true, leb-true, leb-false, lt-ltb}
 use mathlib.Core.List.{List, [], ◌∷◌, ◌++◌, map, flatten, append_assoc, append-nil}
 use Rattle.std.proofs.lemmas.List.Edits.{sets}
 use Rattle.std.proofs.Math.Seq.{length-sets}
-use Rattle.laws.specs.Tests.{clash}
+use Rattle.std.proofs.lemmas.Bool.{eqb-false}
+use Rattle.laws.specs.Tests.{Seen, Seen.is_true, Seen.is_false, look, clash, pick-else}
 use Rattle.laws.specs.Stores.{over, sets_then}
 use Rattle.lines.specs.Line.{lf, digits_of, answer_line, read_line, frame_after, carried_of, most_carried}
 use Rattle.lines.specs.Chunks.{Split, split, parts, Found, Found.frame, Found.bad, found, lines_of, cap, run, NoLf}
@@ -16,9 +17,9 @@ use Rattle.lines.specs.declared.LineRead.TheVariants.{Frame, Bad, Piece}
 use Rattle.view.specs.View.{Bus}
 use Rattle.bus_model.specs.Command.{done_of, command_of, fresh_bus}
 use Rattle.answers.specs.declared.Outcome.{Outcome}
-use Rattle.answers.specs.Answer.{answer_size}
+use Rattle.answers.specs.Answer.{answer_size, bit}
 use Rattle.session.specs.Replies.{reply-of}
-use Rattle.session.specs.Session.{reply_to, Answered, answered_of, answered, answers_text, Served, Put, PutRead, used_by, Holds, Serves, Serves.none, Serves.call, Session, Session.begins, Session.reads, Underway, Chunk, AllAnswered, Front, AlwaysFront, FrontWithin, PieceAnswered, GoesOn, longest}
+use Rattle.session.specs.Session.{reply_to, Answered, answered_of, answered, answers_text, Served, Put, PutRead, TurnedBy, used_by, taken_by, Holds, goes_on, Stopped, Serves, Serves.none, Serves.call, Session, Session.begins, Session.reads, Underway, Chunk, AllAnswered, Front, AlwaysFront, FrontWithin, PieceAnswered, GoesOn, longest}
 
 -- LINES ONE AFTER ANOTHER
 
@@ -251,6 +252,22 @@ took b s from at t c u next f (Frame m n) x g p h k = (served-one b s t from at 
 took b s from at t c u next f (Bad place n) x g p h k = (served-one b s t from at c u n next _ p x g.1 h k, omega (arith, g.1))
 took b s from at t c u next f (Piece place) x g p h k = (p.0, p.1.0, x)
 
+-- the line that was read
+pub turned : (b : Bus) (s : List ℕ) (from at : ℕ) (t : List ℕ) (c : Bus) (u : List ℕ) (next : ℕ) (f : List ℕ) (r : LineRead) →
+    Told (drop from s) f r → Fits (drop from s) r → PutRead b (frame_after (drop from s) f) r t at c u next → from ≤ length s → at + longest ≤ length t →
+    TurnedBy b s from at t c u (from + taken_by r) (taken_by r) next
+turned b s from at t c u next f (Frame m n) x g p h k =
+    record { served = served-one b s t from at c u n next _ p x g.1 h k; goes = refl; piece = λ z. absurd (omega (arith, g.1)) }
+turned b s from at t c u next f (Bad place n) x g p h k =
+    record { served = served-one b s t from at c u n next _ p x g.1 h k; goes = refl; piece = λ z. absurd (omega (arith, g.1)) }
+turned b s from at t c u next f (Piece place) x g p h k =
+    let z : from + 0 ≡ from = omega arith in
+    record {
+      served = rw (z, p.0, p.1.0, p.1.1) (served-none b s t from at h (omega (arith, k)));
+      goes = refl;
+      piece = λ y. rw z x;
+    }
+
 -- an answer line is two digits a byte and its LF
 line-length : (a : List ℕ) → length (answer_line a) ≡ 2 * length a + 1
 line-length a = length-append (digits_of a) (lf ∷ []) ∙ ap (λ (n : ℕ). n + 1) (digits-length a)
@@ -308,6 +325,50 @@ line-took b s from at t c u f g r to er eg p eu h k =
     (took b s from at t c u to f r (subst (λ (y : LineRead). Told x f y) (sym z) (read_told x f)) (subst (λ (y : LineRead). Fits x y) (sym z) (read_fits x))
     (subst (λ (l : List ℕ). PutRead b l r t at c u to) w p) h k)
 
+-- where the line ends
+pub line-ends : (s : List ℕ) (from used : ℕ) (r : LineRead) → from ≤ length s → r ≡ read_line (take (length s - from) (drop from s)) → used ≡ taken_by r → from + used ≤ length s
+line-ends s from used r h er eu = rw (eu, er, part-is s from) (go (read_line (drop from s)) (read_fits (drop from s)))
+  where
+    go : (x : LineRead) → Fits (drop from s) x → from + taken_by x ≤ length s
+    go (Frame m n) g = let z : n ≤ length s - from = rw length-drop at g.2 in omega (arith, h, z)
+    go (Bad place n) g = let z : n ≤ length s - from = rw length-drop at g.2 in omega (arith, h, z)
+    go (Piece place) g = omega (arith, h)
+
+pub line-done : (b : Bus) (s : List ℕ) (from at : ℕ) (t : List ℕ) (c : Bus) (u f g : List ℕ) (r : LineRead) (used to nf nu na : ℕ) →
+    r ≡ read_line (take (length s - from) (drop from s)) → g ≡ frame_after (take (length s - from) (drop from s)) f → PutRead b g r t at c u to → used ≡ taken_by r →
+    nf ≡ from + used → nu ≡ used → na ≡ to → from ≤ length s → at + longest ≤ length t → TurnedBy b s from at t c u nf nu na
+line-done b s from at t c u f g r used to nf nu na er eg p eu ef en ea h k =
+    let x = drop from s in
+    let z : r ≡ read_line x = er ∙ ap read_line (part-is s from) in
+    let w : g ≡ frame_after x f = eg ∙ ap (λ (l : List ℕ). frame_after l f) (part-is s from) in
+    rw (ef, en, ea, eu)
+    (turned b s from at t c u to f r (subst (λ (y : LineRead). Told x f y) (sym z) (read_told x f)) (subst (λ (y : LineRead). Fits x y) (sym z) (read_fits x))
+    (subst (λ (l : List ℕ). PutRead b l r t at c u to) w p) h k)
+
+-- the first turn, a next one, and where the answering stops
+pub served-start : (b : Bus) (s t : List ℕ) (from next at : ℕ) → next ≡ from → at ≡ 0 → from ≤ length s → Served b s from 0 t b t next at
+served-start b s t from next at e z h = rw (e, z) (served-none b s t from 0 h (omega arith))
+
+pub goes-true : (used at room : ℕ) → goes_on used at room ≡ true → (0 < used) × (longest ≤ room - at)
+goes-true used at room h =
+    let p = pick-else (eqb used 0) false true (λ z. clash (sym z)) h in
+    (omega (arith, eqb-false used 0 p.0), leb-true longest (room - at) p.1)
+
+-- what the last turn left is what the function gives back
+pub stopped : (b : Bus) (s t : List ℕ) (from : ℕ) (c : Bus) (u : List ℕ) (next used at : ℕ) (go : Bool) (nf na : ℕ) (nm : Bool) → Served b s from 0 t c u next at →
+    (used ≡ 0 → NoLf (drop next s)) → length u ≡ length t → go ≡ goes_on used at (length u) → go ≡ false → nf ≡ next → na ≡ at → nm ≡ ltb 0 used →
+    Served b s from 0 t c u nf na × Stopped s t nf na nm
+stopped b s t from c u next used at go nf na nm h p e eg z ef ea em = rw (ef, ea, em) (h, last (look (eqb used 0)))
+  where
+    last : Seen (eqb used 0) → Stopped s t next at (ltb 0 used)
+    last (is_true y) =
+        let w : used ≡ 0 = eqb-true used 0 y in
+        rw w record { piece = λ x. p w; full = λ x. clash (sym x) }
+    last (is_false y) =
+        let n : length u - at < longest = leb-false longest (length u - at) (rw y at (sym eg ∙ z)) in
+        let w : 0 < used = omega (arith, eqb-false used 0 y) in
+        rw (lt-ltb 0 used w) record { piece = λ x. clash x; full = λ x. omega (arith, e, n) }
+
 -- one call more for a chunk
 pub serves_more : {s : List ℕ} {b c d : Bus} {from mid next at : ℕ} {t u w : List ℕ} → Serves s b from c mid w → Served c s mid 0 t d u next at →
     Serves s b from d next (w ++ take at u)
@@ -327,6 +388,12 @@ chunk-more k h = record { written = _; serves = serves_more k.serves h; piece = 
 
 pub chunk-all : {b c : Bus} {s : List ℕ} {next : ℕ} {x : Bool} → Chunk b s c next x → NoLf (drop next s) → Chunk b s c next true
 chunk-all k h = record { written = k.written; serves = k.serves; piece = λ z. h }
+
+-- each call for a chunk comes nearer to its end, or is the last
+pub call-less : (b c : Bus) (s t u : List ℕ) (from next at : ℕ) (x y : Bool) → Served b s from 0 t c u next at → Stopped s t next at y → longest ≤ length t → x ≡ true →
+    2 * (length s - next) + bit y < 2 * (length s - from) + bit x
+call-less b c s t u from next at x true h k l e = rw e (omega (arith, goes_on_lem b c s t u from next at h k l, h.between.within))
+call-less b c s t u from next at x false h k l e = rw e (omega (arith, h.between.takes, h.between.within))
 
 -- the fresh bus, and nothing read
 pub underway-first : (b : Bus) (buf : List ℕ) → b ≡ fresh_bus → Underway b (take 0 buf)

@@ -1,9 +1,10 @@
 -- Document 01, "The program reads lines .. one answer line each": the answer of a line on a bus, the text of the answers of many lines, and what a program that
 -- reads chunks has written after each of them. The statements stand at the end; Laws proves each under the same name in small letters.
 -- Assumes nothing.
-use Rattle.std.specs.Prelude.{ℕ, ◌+◌, ◌*◌, ◌≤◌, ◌<◌, ◌≡◌, refl, Bool, true, false, length, take, drop, replicate, Option, Some, None}
+use Rattle.std.specs.Prelude.{ℕ, ◌+◌, ◌-◌, ◌*◌, ◌≤◌, ◌<◌, ◌≡◌, refl, Bool, true, false, length, take, drop, replicate, eqb, leb, Option, Some, None}
 use mathlib.Core.List.{List, [], ◌∷◌, ◌++◌, map, flatten}
 use Rattle.std.proofs.lemmas.List.Edits.{sets}
+use Rattle.laws.specs.Tests.{pick}
 use Rattle.ids.specs.Refusals.{EINVAL}
 use Rattle.frames.specs.Lengths.{longest_frame}
 use Rattle.answers.specs.Answer.{answer_size}
@@ -122,6 +123,22 @@ used_by (Piece place) = None
 abbrev pub Turned : Bus → List ℕ → Turn → List ℕ → Bus → List ℕ → Option Turn → Type 0
 Turned b s x t c u (Some y) = Served b s x.from x.at t c u y.from y.at × (x.from < y.from)
 Turned b s x t c u None = (c ≡ b) × (u ≡ t) × NoLf (drop x.from s)
+
+-- How many characters a line took, 0 where its LF is missing.
+abbrev pub taken_by : LineRead → ℕ
+taken_by (Frame m n) = n
+taken_by (Bad place n) = n
+taken_by (Piece place) = 0
+
+-- One turn by its numbers: the line that starts at `from` is answered, or nothing is done, because its LF is missing.
+pub record TurnedBy (b : Bus) (s : List ℕ) (from at : ℕ) (t : List ℕ) (c : Bus) (u : List ℕ) (next used to : ℕ) : Type 0 where
+  pub served : Served b s from at t c u next to
+  pub goes : next ≡ from + used
+  pub piece : used ≡ 0 → NoLf (drop next s)
+
+-- A next turn is taken where the last one took a line, and the longest answer line has room behind the text.
+abbrev pub goes_on : ℕ → ℕ → ℕ → Bool
+goes_on used at room = pick (eqb used 0) false (leb longest (room - at))
 
 -- A chunk that was served: the texts of its calls, and whether all its lines are answered.
 pub record Chunk (b : Bus) (s : List ℕ) (c : Bus) (next : ℕ) (whole : Bool) : Type 0 where
