@@ -76,7 +76,7 @@ module _ (ns hs : List ℕ) (q : ℕ) (a : Asked) (k : ℕ) {b : Bool} where
 pub fair-falling : (a : Asked) {p : Peer} → Fair a → a ≡ Falling p → p.0 < peers
 fair-falling a f e = rw e at f
 
--- bit_asked, bit_told
+-- a bit, or none
 module _ (a : Bool) (bit : ℕ) {b : Bool} (eb : b ≡ a) where
   pub bit-some : b ≡ true → (bit ≡ pick a bit 0) × (bit ≤ bit)
   bit-some t = (rw (← eb, t), omega arith)
@@ -87,7 +87,7 @@ module _ (a : Bool) (bit : ℕ) {b : Bool} (eb : b ≡ a) where
 word-bit : (k : ℕ) → k ≤ slots → 2 ^ k ≤ 65536
 word-bit k l = let m : 2 ^ k ≤ 2 ^ slots = pow_mono l in omega arith
 
--- set_of: the bit of the place k, and the bits of the places below it
+-- set_of, by a bit that is doubled: the bit of the place k, and the bits of the places below it
 pub record Asking (ns hs : List ℕ) (q : ℕ) (a : Asked) (k bit set : ℕ) : Type 0 where
   pub places : k ≤ slots
   pub power : bit ≡ 2 ^ k
@@ -266,7 +266,7 @@ module _ (hs cs : List ℕ) (r : Rings) (s n o : ℕ) {c : ℕ} (ec : c ≡ coun
 byte-bit : (o : ℕ) → o ≤ peers → 2 ^ o ≤ 256
 byte-bit o l = let m : 2 ^ o ≤ 2 ^ peers = pow_mono l in omega arith
 
--- addressees: the bit of the peer o, and the bits of the peers below it
+-- addressees, by a bit that is doubled: the bit of the peer o, and the bits of the peers below it
 pub record Addressing (hs cs : List ℕ) (r : Rings) (s n o bit set : ℕ) : Type 0 where
   pub passed : o ≤ peers
   pub power : bit ≡ 2 ^ o

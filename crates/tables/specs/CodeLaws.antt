@@ -174,7 +174,7 @@ module _ (h : List ℕ) (p i n r : ℕ) where
   pub halving-done : (low high c : ℕ) → Halving h p i n r low high c → high ≤ low → (low ≡ place_in h p i n) × (c ≤ r + halvings)
   halving-done low high c w l = (sym (w.place ∙ halve-done (at_least h p i) (r + halvings - c) low high l), w.last)
 
--- seek_among
+-- among the entries of a list: where the halving ends
 module _ (h : List ℕ) (p i n r : ℕ) {k c : ℕ} (ek : (k ≡ place_in h p i n) × (c ≤ r + halvings)) where
   pub among-past : n ≤ k → (None ≡ found_among h p i n) × (c ≤ r + (halvings + 1))
   unfolding found_among
@@ -189,7 +189,7 @@ module _ (h : List ℕ) (p i n r : ℕ) {k c : ℕ} (ek : (k ≡ place_in h p i 
     unfolding found_among
     among-this q = (rw (← ek.0, lt-ltb k n l, ← e.0, eq-eqb v i q, e.1), omega (arith, ek.1, e.2))
 
--- seek_listed
+-- in a list: at the guessed place, or else among the entries
 long : (h : List ℕ) (p : ℕ) {a : ℕ} → a ≡ id_at h length_block p → {n : ℕ} → n ≡ min a nodes → list_length h p ≡ n
 long h p ea en = sym (en ∙ ap (λ (x : ℕ). min x nodes) ea)
 
@@ -397,7 +397,7 @@ module _ (h : List ℕ) (s : ℕ) where
   unfolding total_at
   total-all q e f = rw (← f) e
 
--- bit_of, holders
+-- holders, by a bit that is doubled
 module _ (h : List ℕ) (s q bit : ℕ) {c : ℕ} (e : c ≡ count_at h q s) where
   pub bit-none : c ≡ 0 → (0 ≡ bit_at h s q bit) × (0 ≤ bit)
   bit-none z = (rw (← e, z), omega arith)
