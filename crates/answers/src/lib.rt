@@ -43,7 +43,8 @@ pub enum Answer {
     Holders(u8),
 }
 
-// The number that a command returns, 0 or its refusal, and how many bytes of answer were written.
+// The number that a command returns, 0 or its refusal, and how many bytes of answer were written. A number, since it is what C gets
+// back and what the theorems on numbers speak of (`outcome_of`).
 #[derive(Clone, Copy, Debug, PartialEq, Eq)]
 pub struct Outcome {
     pub number: u8,

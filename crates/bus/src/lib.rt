@@ -211,7 +211,8 @@ pub fn command(
     )
 }
 
-// A fresh bus, no peer opened. The number is 0, or 5 where a buffer lacks its length: then nothing is written.
+// A fresh bus, no peer opened. The number is 0, or 5 where a buffer lacks its length: then nothing is written. A number, since C gets
+// it back and `fresh_number` says it.
 pub fn fresh(
     peers: &mut [u64],
     nodes: &mut [u64],

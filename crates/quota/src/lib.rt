@@ -158,7 +158,8 @@ impl Charges {
         }
     }
 
-    // The rule for each resource: may the user's send add so much here?
+    // The rule for each resource: may the user's send add so much here? A line for each, as in `plus`, `less` and `balance`: the
+    // charge's type names the three.
     #[tactic(auto, unfolding(crate::specs::Charges::others_all, crate::specs::Charges::allows_all))]
     pub fn allows(self, u: User, a: Charge) -> bool
         ensures { result ≡ allows_all self u a }

@@ -342,7 +342,8 @@ impl RingTables<'_> {
     // The place in a queue of the first entry that a removal takes out, or the length where it takes none.
     pub fn first_match(&self, p: Peer, head: usize, len: usize, m: Match) -> usize
         requires { (p.0 < peers) × (head < 65536) × (len ≤ ring_size) }
-        ensures { (c n : List ℕ) → result ≡ first (λ i. matches m (entry_at (rows_of self.now.entries.now c n) (row_of p.0 head i))) len }
+        ensures { (c n : List ℕ) →
+            result ≡ first (λ i. matches m (entry_at (rows_of self.now.entries.now c n) (row_of p.0 head i))) len }
     {
         first_match(self.entries, p, head, len, m)
     }

@@ -13,7 +13,7 @@ ghost use Rattle.seeds.specs.Seeds.{row_at, set_at, count_at, bytes_at, slots_at
 
 use ids::{MOST_BYTES, MOST_IDS, NODES, PEERS, Peer, SEED_BYTES, SEED_FIELDS};
 
-// The first byte of the row of a seed that is set.
+// The first byte of the row of a seed that is set: a byte of the lent table, and any other says that none is (`set_at`).
 const SET: u8 = 1;
 
 // A slot is read modulo the slots of all peers.
@@ -44,7 +44,7 @@ pub fn nb_of(seeds: &[u8], p: Peer) -> usize
     usize::from(u16::from_be_bytes([seeds[a + 2], seeds[a + 3]])).min(MOST_BYTES)
 }
 
-// Its eight slots, of which it carries the first.
+// Its eight slots, of which it carries the first. Written out: through `array::from_fn` the proof did not close.
 #[tactic(auto, unfolding(crate::specs::Seeds::slots_at, laws::specs::Build::build))]
 pub fn slots_of(seeds: &[u8], p: Peer) -> [u8; 8]
     requires { (length seeds.now ≡ seeds_size) × (p.0 < peers) }

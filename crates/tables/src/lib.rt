@@ -519,7 +519,7 @@ pub fn reduce(handles: &mut [u64], p: Peer, s: usize) -> u64
     left
 }
 
-// The charge in a row of the table.
+// The charge in a row of the table: three fields by name, for which a part of the row is no plainer.
 fn charge_at(charges: &[u16], row: usize) -> Charge
     requires { (length charges.now ≡ charges_size) × (row < peer_count * users) }
     ensures { result ≡ charge_at charges.now row }
