@@ -15,8 +15,6 @@ ghost use Rattle.bus.specs.Lent.{lent, SameTables};
 
 mod lent;
 
-pub use lent::BusTables;
-
 use answers::Outcome;
 use frames::Command;
 use ids::{
@@ -24,6 +22,7 @@ use ids::{
     ENTRIES_SIZE, GIVEN_END, HANDLES_SIZE, NODES_SIZE, NUMBERS_SIZE, PEER_FIELDS, PEERS,
     PEERS_SIZE, POOL_SIZE, RING, SEEDS_SIZE,
 };
+pub use lent::BusTables;
 use rings::RingTables;
 
 // The rows of a ring as a number of the table of heads and lengths.

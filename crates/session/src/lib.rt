@@ -122,12 +122,7 @@ pub struct Progress {
 
 // The whole lines of s from `from` on answered, as far as their answers have room: the text of the answers stands at the
 // front of the text buffer.
-pub fn answer_lines(
-    bus: &mut BusTables<'_>,
-    s: &[u8],
-    from: usize,
-    text: &mut [u8],
-) -> Progress
+pub fn answer_lines(bus: &mut BusTables<'_>, s: &[u8], from: usize, text: &mut [u8]) -> Progress
     requires { from ≤ length s.now }
     ensures same { SameTables bus.old bus.new }
     ensures done { Served (lent bus.old) s.now from 0 text.old (lent bus.new) text.new result.from result.at
