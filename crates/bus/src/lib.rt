@@ -274,7 +274,8 @@ impl BusTables<'_> {
         )
     }
 
-    // A fresh bus in these tables.
+    // A fresh bus in these tables. A number, as the contract of the function `fresh` says (`fresh_number`), which C reads
+    // too.
     pub fn fresh(&mut self) -> u8
         ensures same { SameTables self.old self.new }
         ensures done { (result ≡ fresh_number (lent self.old)) × (lent self.new ≡ fresh_of (lent self.old)) }

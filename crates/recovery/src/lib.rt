@@ -156,10 +156,8 @@ pub fn recover(
     seeds: &mut [u8],
     kept: &[u8],
 ) -> Recovered
-    ensures { let before = bus_of ps.old ns.old hs.old cs.old
-        ends.old es.old carried.old numbers.old pool.old seeds.old in
-        let after = bus_of ps.new ns.new hs.new cs.new
-        ends.new es.new carried.new numbers.new pool.new seeds.new in
+    ensures { let before = bus_of ps.old ns.old hs.old cs.old ends.old es.old carried.old numbers.old pool.old seeds.old in
+        let after = bus_of ps.new ns.new hs.new cs.new ends.new es.new carried.new numbers.new pool.new seeds.new in
         recovery_from result after ≡ recovered before kept.now }
 {
     let mut bus = BusTables {
@@ -174,7 +172,6 @@ pub fn recover(
         pool,
         seeds,
     };
-    // A number, as the contract of `fresh` says (`fresh_number`), which C reads too.
     if bus.fresh() != 0 {
         return Recovered::WrongLength;
     }

