@@ -11,6 +11,9 @@ ghost use Rattle.judges.specs.Orders.{sight, ruling_of};
 ghost use Rattle.rings.specs.Rings.{rings_of};
 ghost use Rattle.ids.specs.Sizes.{peers as peer_count, peers_size, ends_size};
 ghost use Rattle.bus_model.specs.Command.{sized_ok, peer_ok, ranges_ok, sound_ok, done_of, carried_out, command_of, fresh_of, fresh_number};
+ghost use Rattle.bus.specs.Lent.{lent, SameTables};
+
+mod lent;
 
 use answers::Outcome;
 use frames::Command;
@@ -19,6 +22,7 @@ use ids::{
     ENTRIES_SIZE, GIVEN_END, HANDLES_SIZE, NODES_SIZE, NUMBERS_SIZE, PEER_FIELDS, PEERS,
     PEERS_SIZE, POOL_SIZE, RING, SEEDS_SIZE,
 };
+pub use lent::BusTables;
 use rings::RingTables;
 
 // The rows of a ring as a number of the table of heads and lengths.
@@ -247,4 +251,47 @@ pub fn fresh(
     pool.fill(0);
     seeds.fill(0);
     0
+}
+
+impl BusTables<'_> {
+    // One command on the bus of these tables.
+    pub fn command(&mut self, frame: &[u8], out: &mut [u8]) -> Outcome
+        ensures same { SameTables self.old self.new }
+        ensures done { done_of result (lent self.new) out.new ≡ command_of (lent self.old) frame.now out.old }
+    {
+        command(
+            self.peers,
+            self.nodes,
+            self.handles,
+            self.charges,
+            self.ends,
+            self.entries,
+            self.carried,
+            self.numbers,
+            self.pool,
+            self.seeds,
+            frame,
+            out,
+        )
+    }
+
+    // A fresh bus in these tables. A number, as the contract of the function `fresh` says (`fresh_number`), which C reads
+    // too.
+    pub fn fresh(&mut self) -> u8
+        ensures same { SameTables self.old self.new }
+        ensures done { (result ≡ fresh_number (lent self.old)) × (lent self.new ≡ fresh_of (lent self.old)) }
+    {
+        fresh(
+            self.peers,
+            self.nodes,
+            self.handles,
+            self.charges,
+            self.ends,
+            self.entries,
+            self.carried,
+            self.numbers,
+            self.pool,
+            self.seeds,
+        )
+    }
 }

@@ -6,10 +6,11 @@
 
 ghost use Rattle.std.specs.Prelude.{◌≡◌, ◌+◌, ◌≤◌, length, take, IfOk, IfSome};
 ghost use Rattle.lines.specs.Line.{most_carried};
-ghost use Rattle.view.specs.View.{bus_of};
+ghost use Rattle.bus.specs.Lent.{lent, SameTables};
 ghost use Rattle.session.specs.Session.{longest, Sent, Underway};
 ghost use Rattle.bus_model.specs.Command.{fresh_bus};
 
+use bus::BusTables;
 use ids::{
     CARRIED_SIZE, CHARGES_SIZE, ENDS_SIZE, ENTRIES_SIZE, HANDLES_SIZE, NODES_SIZE, NUMBERS_SIZE,
     PEERS_SIZE, POOL_SIZE, SEEDS_SIZE,
@@ -101,32 +102,17 @@ fn say_not_written(rt: &impl Eprint) {
 fn answer_chunk(
     rt: &impl Clock,
     output: &mut impl Write,
-    peers: &mut [u64],
-    nodes: &mut [u64],
-    handles: &mut [u64],
-    charges: &mut [u16],
-    ends: &mut [u16],
-    entries: &mut [u16],
-    carried: &mut [u8],
-    numbers: &mut [u64],
-    pool: &mut [u8],
-    seeds: &mut [u8],
+    bus: &mut BusTables<'_>,
     s: &[u8],
     text: &mut [u8],
 ) -> Option<usize>
     requires { longest ≤ length text.old }
-    ensures { let before = bus_of peers.old nodes.old handles.old charges.old
-        ends.old entries.old carried.old numbers.old pool.old seeds.old in
-        let after = bus_of peers.new nodes.new handles.new charges.new
-        ends.new entries.new carried.new numbers.new pool.new seeds.new in
-        Sent before s.now after result }
+    ensures same { SameTables bus.old bus.new }
+    ensures done { Sent (lent bus.old) s.now (lent bus.new) result }
 {
     let mut from = 0;
     loop {
-        let p = session::answer_lines(
-            peers, nodes, handles, charges, ends, entries, carried, numbers, pool, seeds, s, from,
-            text,
-        );
+        let p = session::answer_lines(bus, s, from, text);
         if write_text(rt, output, &text[..p.at]).is_err() {
             return None;
         }
@@ -191,34 +177,20 @@ fn take_turn(
     rt: &(impl Clock + Eprint),
     input: &mut impl Read,
     output: &mut impl Write,
-    peers: &mut [u64],
-    nodes: &mut [u64],
-    handles: &mut [u64],
-    charges: &mut [u16],
-    ends: &mut [u16],
-    entries: &mut [u16],
-    carried: &mut [u8],
-    numbers: &mut [u64],
-    pool: &mut [u8],
-    seeds: &mut [u8],
+    bus: &mut BusTables<'_>,
     buf: &mut [u8],
     held: usize,
     text: &mut [u8],
 ) -> Option<usize>
-    requires { let bus = bus_of peers.old nodes.old handles.old charges.old
-        ends.old entries.old carried.old numbers.old pool.old seeds.old in
-        (held ≤ most_carried) × (length buf.old ≡ 65536) × (longest ≤ length text.old) × Underway bus (take held buf.old) }
-    ensures { let bus = bus_of peers.new nodes.new handles.new charges.new
-        ends.new entries.new carried.new numbers.new pool.new seeds.new in
-        IfSome result (λ rest. (rest ≤ most_carried) × Underway bus (take rest buf.new)) }
+    requires { (held ≤ most_carried) × (length buf.old ≡ 65536) × (longest ≤ length text.old)
+        × Underway (lent bus.old) (take held buf.old) }
+    ensures same { SameTables bus.old bus.new }
+    ensures done { IfSome result (λ rest. (rest ≤ most_carried) × Underway (lent bus.new) (take rest buf.new)) }
 {
     let got = next_chunk(rt, input, output, buf, held)?;
     let end = held + got;
     let chunk = &buf[..end];
-    let Some(from) = answer_chunk(
-        rt, output, peers, nodes, handles, charges, ends, entries, carried, numbers, pool, seeds,
-        chunk, text,
-    ) else {
+    let Some(from) = answer_chunk(rt, output, bus, chunk, text) else {
         say_not_written(rt);
         return None;
     };
@@ -230,29 +202,16 @@ fn run(
     rt: &(impl Clock + Eprint),
     input: &mut impl Read,
     output: &mut impl Write,
-    peers: &mut [u64],
-    nodes: &mut [u64],
-    handles: &mut [u64],
-    charges: &mut [u16],
-    ends: &mut [u16],
-    entries: &mut [u16],
-    carried: &mut [u8],
-    numbers: &mut [u64],
-    pool: &mut [u8],
-    seeds: &mut [u8],
+    bus: &mut BusTables<'_>,
     buf: &mut [u8],
     text: &mut [u8],
 )
-    requires { let bus = bus_of peers.old nodes.old handles.old charges.old
-        ends.old entries.old carried.old numbers.old pool.old seeds.old in
-        (length buf.old ≡ 65536) × (longest ≤ length text.old) × (bus ≡ fresh_bus) }
+    requires { (length buf.old ≡ 65536) × (longest ≤ length text.old) × (lent bus.old ≡ fresh_bus) }
+    ensures same { SameTables bus.old bus.new }
 {
     let mut held = 0;
     for _turn in 0..u64::MAX {
-        let Some(rest) = take_turn(
-            rt, input, output, peers, nodes, handles, charges, ends, entries, carried, numbers,
-            pool, seeds, buf, held, text,
-        ) else {
+        let Some(rest) = take_turn(rt, input, output, bus, buf, held, text) else {
             return;
         };
         held = rest;
@@ -274,33 +233,18 @@ fn main(rt: HostRuntime) {
     let mut seeds = [0u8; SEEDS_SIZE];
     let mut buf = [0u8; 65536];
     let mut text = [0u8; 65536];
-    bus::fresh(
-        &mut peers,
-        &mut nodes,
-        &mut handles,
-        &mut charges,
-        &mut ends,
-        &mut entries,
-        &mut carried,
-        &mut numbers,
-        &mut pool,
-        &mut seeds,
-    );
-    run(
-        &rt,
-        &mut input,
-        &mut output,
-        &mut peers,
-        &mut nodes,
-        &mut handles,
-        &mut charges,
-        &mut ends,
-        &mut entries,
-        &mut carried,
-        &mut numbers,
-        &mut pool,
-        &mut seeds,
-        &mut buf,
-        &mut text,
-    );
+    let mut bus = BusTables {
+        peers: &mut peers,
+        nodes: &mut nodes,
+        handles: &mut handles,
+        charges: &mut charges,
+        ends: &mut ends,
+        entries: &mut entries,
+        carried: &mut carried,
+        numbers: &mut numbers,
+        pool: &mut pool,
+        seeds: &mut seeds,
+    };
+    bus.fresh();
+    run(&rt, &mut input, &mut output, &mut bus, &mut buf, &mut text);
 }

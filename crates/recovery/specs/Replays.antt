@@ -293,6 +293,15 @@ module _ (b : Bus) (s : List ℕ) {n : ℕ} {b₁ : Bus} (f : (n ≡ fresh_numbe
   unfolding fresh_of
   recover-stopped w {b₃ = b₃} z e = let q : b₃ ≡ fresh_bus = e ∙ rw z refl in rw q (rw w at found-is)
 
+  -- What is made fresh again, and has the lengths still, is the fresh bus.
+  pub recover-again : wholly r ≡ false → {b₃ : Bus} → sized_ok b₃ ≡ true → b₃ ≡ fresh_of b₂ → recovery_from r b₃ ≡ recovered b s
+  unfolding fresh_of
+  recover-again w {b₃ = b₃} z e = go (look (sized_ok b₂))
+    where
+      go : Seen (sized_ok b₂) → recovery_from r b₃ ≡ recovered b s
+      go (is_true y) = recover-stopped w y e
+      go (is_false y) = let q : b₃ ≡ b₂ = e ∙ rw y refl in clash (sym z ∙ ap sized_ok q ∙ y)
+
 -- THE LOOP'S INVARIANT
 
 pub record ReplayInvariant (s : List ℕ) (most : ℕ) (b₀ : Bus) (b : Bus) (out : List ℕ) (n at : ℕ) : Type 0 where

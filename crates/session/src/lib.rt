@@ -9,9 +9,10 @@ ghost use Rattle.lines.specs.Line.{answer_line};
 ghost use Rattle.lines.specs.Chunks.{Found.frame, Found.bad};
 ghost use Rattle.frames.specs.Lengths.{longest_frame};
 ghost use Rattle.answers.specs.Answer.{answer_size};
-ghost use Rattle.view.specs.View.{bus_of};
+ghost use Rattle.bus.specs.Lent.{lent, SameTables};
 ghost use Rattle.session.specs.Session.{longest, Served, Stopped, Put, PutRead, Holds, used_by, Turned};
 
+use bus::BusTables;
 use ids::{ANSWER_SIZE, EINVAL, FRAME_SIZE};
 use lines::LineRead;
 
@@ -29,31 +30,17 @@ fn put_line(text: &mut [u8], at: usize, bytes: &[u8]) -> usize
 
 // The command of a frame, and the line of its answer. Where the next line goes.
 fn answer_frame(
-    peers: &mut [u64],
-    nodes: &mut [u64],
-    handles: &mut [u64],
-    charges: &mut [u16],
-    ends: &mut [u16],
-    entries: &mut [u16],
-    carried: &mut [u8],
-    numbers: &mut [u64],
-    pool: &mut [u8],
-    seeds: &mut [u8],
+    bus: &mut BusTables<'_>,
     f: &[u8],
     out: &mut [u8],
     text: &mut [u8],
     at: usize,
 ) -> usize
     requires { (length out.old ≡ answer_size) × (at + longest ≤ length text.old) }
-    ensures { let before = bus_of peers.old nodes.old handles.old charges.old
-        ends.old entries.old carried.old numbers.old pool.old seeds.old in
-        let after = bus_of peers.new nodes.new handles.new charges.new
-        ends.new entries.new carried.new numbers.new pool.new seeds.new in
-        Put before (frame f.now) text.old at after text.new result }
+    ensures same { SameTables bus.old bus.new }
+    ensures done { Put (lent bus.old) (frame f.now) text.old at (lent bus.new) text.new result }
 {
-    let o = bus::command(
-        peers, nodes, handles, charges, ends, entries, carried, numbers, pool, seeds, f, out,
-    );
+    let o = bus.command(f, out);
     put_line(text, at, &out[..o.len])
 }
 
@@ -67,16 +54,7 @@ fn refuse(text: &mut [u8], at: usize) -> usize
 
 // The answer line of what was read, or nothing where its LF is missing. Where the next line goes.
 fn answer_read(
-    peers: &mut [u64],
-    nodes: &mut [u64],
-    handles: &mut [u64],
-    charges: &mut [u16],
-    ends: &mut [u16],
-    entries: &mut [u16],
-    carried: &mut [u8],
-    numbers: &mut [u64],
-    pool: &mut [u8],
-    seeds: &mut [u8],
+    bus: &mut BusTables<'_>,
     f: &[u8],
     read: LineRead,
     out: &mut [u8],
@@ -84,29 +62,11 @@ fn answer_read(
     at: usize,
 ) -> usize
     requires { (length out.old ≡ answer_size) × (at + longest ≤ length text.old) × (length f.now ≡ longest_frame) × Holds read }
-    ensures { let before = bus_of peers.old nodes.old handles.old charges.old
-        ends.old entries.old carried.old numbers.old pool.old seeds.old in
-        let after = bus_of peers.new nodes.new handles.new charges.new
-        ends.new entries.new carried.new numbers.new pool.new seeds.new in
-        PutRead before f.now read text.old at after text.new result }
+    ensures same { SameTables bus.old bus.new }
+    ensures done { PutRead (lent bus.old) f.now read text.old at (lent bus.new) text.new result }
 {
     match read {
-        LineRead::Frame(m, _) => answer_frame(
-            peers,
-            nodes,
-            handles,
-            charges,
-            ends,
-            entries,
-            carried,
-            numbers,
-            pool,
-            seeds,
-            &f[..m],
-            out,
-            text,
-            at,
-        ),
+        LineRead::Frame(m, _) => answer_frame(bus, &f[..m], out, text, at),
         LineRead::Bad(_, _) => refuse(text, at),
         LineRead::Piece(_) => at,
     }
@@ -133,16 +93,7 @@ struct Turn {
 // The line that starts at the turn's place answered: the turn of the next one. None, and nothing is done, where its LF is
 // missing.
 fn answer_line(
-    peers: &mut [u64],
-    nodes: &mut [u64],
-    handles: &mut [u64],
-    charges: &mut [u16],
-    ends: &mut [u16],
-    entries: &mut [u16],
-    carried: &mut [u8],
-    numbers: &mut [u64],
-    pool: &mut [u8],
-    seeds: &mut [u8],
+    bus: &mut BusTables<'_>,
     s: &[u8],
     f: &mut [u8; FRAME_SIZE],
     out: &mut [u8],
@@ -150,18 +101,12 @@ fn answer_line(
     t: Turn,
 ) -> Option<Turn>
     requires { (t.from ≤ length s.now) × (length out.old ≡ answer_size) × (t.at + longest ≤ length text.old) }
-    ensures { let before = bus_of peers.old nodes.old handles.old charges.old
-        ends.old entries.old carried.old numbers.old pool.old seeds.old in
-        let after = bus_of peers.new nodes.new handles.new charges.new
-        ends.new entries.new carried.new numbers.new pool.new seeds.new in
-        Turned before s.now t text.old after text.new result }
+    ensures same { SameTables bus.old bus.new }
+    ensures done { Turned (lent bus.old) s.now t text.old (lent bus.new) text.new result }
 {
     let from = t.from;
     let read = lines::read_line(&s[from..], f);
-    let at = answer_read(
-        peers, nodes, handles, charges, ends, entries, carried, numbers, pool, seeds, f, read, out,
-        text, t.at,
-    );
+    let at = answer_read(bus, f, read, out, text, t.at);
     let next = from + used_by(read)?;
     Some(Turn { from: next, at })
 }
@@ -177,37 +122,17 @@ pub struct Progress {
 
 // The whole lines of s from `from` on answered, as far as their answers have room: the text of the answers stands at the
 // front of the text buffer.
-pub fn answer_lines(
-    peers: &mut [u64],
-    nodes: &mut [u64],
-    handles: &mut [u64],
-    charges: &mut [u16],
-    ends: &mut [u16],
-    entries: &mut [u16],
-    carried: &mut [u8],
-    numbers: &mut [u64],
-    pool: &mut [u8],
-    seeds: &mut [u8],
-    s: &[u8],
-    from: usize,
-    text: &mut [u8],
-) -> Progress
+pub fn answer_lines(bus: &mut BusTables<'_>, s: &[u8], from: usize, text: &mut [u8]) -> Progress
     requires { from ≤ length s.now }
-    ensures { let before = bus_of peers.old nodes.old handles.old charges.old
-        ends.old entries.old carried.old numbers.old pool.old seeds.old in
-        let after = bus_of peers.new nodes.new handles.new charges.new
-        ends.new entries.new carried.new numbers.new pool.new seeds.new in
-        Served before s.now from 0 text.old after text.new result.from result.at
+    ensures same { SameTables bus.old bus.new }
+    ensures done { Served (lent bus.old) s.now from 0 text.old (lent bus.new) text.new result.from result.at
         × Stopped s.now text.old result.from result.at result.more }
 {
     let mut f = [0u8; FRAME_SIZE];
     let mut out = [0u8; ANSWER_SIZE];
     let mut t = Turn { from, at: 0 };
     while LONGEST <= text.len() - t.at {
-        let Some(next) = answer_line(
-            peers, nodes, handles, charges, ends, entries, carried, numbers, pool, seeds, s,
-            &mut f, &mut out, text, t,
-        ) else {
+        let Some(next) = answer_line(bus, s, &mut f, &mut out, text, t) else {
             return Progress {
                 from: t.from,
                 at: t.at,

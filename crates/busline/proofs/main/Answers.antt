@@ -15,4 +15,4 @@ made b d e e0 e1 e2 e3 e4 e5 e6 e7 e8 e9 =
     e ∙ fresh-same b (sym (all-but-seeds b (sym e0) (sym e1) (sym e2) (sym e3) (sym e4) (sym e5) (sym e6) (sym e7) (sym e8)) ∙ eq-eqb (length b.seeds) 4192 (sym e9))
 
 pub run-requires : goal.run-requires
-run-requires c = (search rules, search rules, made _ _ c.fresh.ensures.1 (search rules) (search rules) (search rules) (search rules) (search rules) (search rules) (search rules) (search rules) (search rules) (search rules))
+run-requires c = (search rules, search rules, made _ _ c.fresh.ensures.done.1 (search rules) (search rules) (search rules) (search rules) (search rules) (search rules) (search rules) (search rules) (search rules) (search rules))

@@ -2,14 +2,14 @@
 use Rattle.recovery.specs.Replays.{read-refused, read_next, read-bad, read-piece}
 use Rattle.recovery.proofs.replay_read.Goals as goal
 
-pub returns-then-replay_frame : goal.returns-then-replay_frame
-returns-then-replay_frame c = read_next _ _ c.requires.0 c.in-Frame.is c.min.ensures c.replay_frame.ensures c.if-replay_frame.true
+pub returns-then-replay_frame-clause-done : goal.returns-then-replay_frame-clause-done
+returns-then-replay_frame-clause-done c = read_next _ _ c.requires.0 c.in-Frame.is c.min.ensures c.replay_frame.ensures.done c.if-replay_frame.true
 
-pub returns-else-replay_frame : goal.returns-else-replay_frame
-returns-else-replay_frame c = read-refused _ _ c.requires.0 c.in-Frame.is c.min.ensures c.replay_frame.ensures c.if-replay_frame.false
+pub returns-else-replay_frame-clause-done : goal.returns-else-replay_frame-clause-done
+returns-else-replay_frame-clause-done c = read-refused _ _ c.requires.0 c.in-Frame.is c.min.ensures c.replay_frame.ensures.done c.if-replay_frame.false
 
-pub returns-in-Bad : goal.returns-in-Bad
-returns-in-Bad c = read-bad _ _ c.in-Bad.is
+pub returns-in-Bad-clause-done : goal.returns-in-Bad-clause-done
+returns-in-Bad-clause-done c = read-bad _ _ c.in-Bad.is
 
-pub returns-in-Piece : goal.returns-in-Piece
-returns-in-Piece c = read-piece _ _ c.in-Piece.is
+pub returns-in-Piece-clause-done : goal.returns-in-Piece-clause-done
+returns-in-Piece-clause-done c = read-piece _ _ c.in-Piece.is

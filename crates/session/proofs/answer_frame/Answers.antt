@@ -8,13 +8,13 @@ use native.Mathlib.Omega.{arith}
 use Rattle.session.proofs.answer_frame.Goals as goal
 
 pub slice_bounds-put_line-end : goal.slice_bounds-put_line-end
-slice_bounds-put_line-end c = let q = reply-of _ _ _ _ (omega (arith, c.requires.0)) c.command-o.ensures in omega (arith, q.fits, c.command-o.auto.out, c.requires.0)
+slice_bounds-put_line-end c = let q = reply-of _ _ _ _ (omega (arith, c.requires.0)) c.command-o.ensures.done in omega (arith, q.fits, c.command-o.auto.out, c.requires.0)
 
 pub slice_bounds-put_line-end-2 : goal.slice_bounds-put_line-end-2
-slice_bounds-put_line-end-2 c = let q = reply-of _ _ _ _ (omega (arith, c.requires.0)) c.command-o.ensures in sym (length-take-le _ c.command-o.new.out (omega (arith, q.fits, c.command-o.auto.out, c.requires.0)))
+slice_bounds-put_line-end-2 c = let q = reply-of _ _ _ _ (omega (arith, c.requires.0)) c.command-o.ensures.done in sym (length-take-le _ c.command-o.new.out (omega (arith, q.fits, c.command-o.auto.out, c.requires.0)))
 
 pub put_line-requires : goal.put_line-requires
-put_line-requires c = let q = reply-of _ _ _ _ (omega (arith, c.requires.0)) c.command-o.ensures in simp length-take (omega (arith, q.fits, c.requires.1))
+put_line-requires c = let q = reply-of _ _ _ _ (omega (arith, c.requires.0)) c.command-o.ensures.done in simp length-take (omega (arith, q.fits, c.requires.1))
 
-pub returns : goal.returns
-returns c = frame-put _ _ _ _ _ _ _ _ _ _ c.requires.0 c.command-o.ensures c.put_line.ensures.0 c.put_line.ensures.1
+pub returns-clause-done : goal.returns-clause-done
+returns-clause-done c = frame-put _ _ _ _ _ _ _ _ _ _ c.requires.0 c.command-o.ensures.done c.put_line.ensures.0 c.put_line.ensures.1
