@@ -3,10 +3,15 @@
 use Rattle.std.specs.Prelude.{◌≡◌, refl}
 use Rattle.std.proofs.Common.{◌∙◌}
 use Rattle.rings.specs.declared.lent.RingTables.{RingTables}
+use Rattle.rings.specs.declared.lent.RingView.{RingView}
 use Rattle.rings.specs.Rings.{Rings, rings_of}
 
 abbrev pub lent : RingTables → Rings
 lent t = rings_of t.ends.now t.entries.now t.carried.now t.numbers.now
+
+-- The rings that tables lent to be read hold.
+abbrev pub viewed : RingView → Rings
+viewed v = rings_of v.ends.now v.entries.now v.carried.now v.numbers.now
 
 pub record SameTables (t u : RingTables) : Type 0 where
   pub ends : u.ends.ghost_name ≡ t.ends.ghost_name

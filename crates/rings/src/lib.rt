@@ -12,12 +12,12 @@ ghost use Rattle.rings.specs.Rings.{kind_count, peers, ring_size, row_count, ent
 ghost use Rattle.rings.specs.Rings.{entries_size, carried_size, rows_of, rings_of, Sized, QueueTables, fields_of, entry_at};
 ghost use Rattle.rings.specs.Rings.{put_at, row_of, head_of, length_of, first_of, pushed, popped, cleared, bit_at, kind_bit};
 ghost use Rattle.rings.specs.Rings.{slot_in, matches_of, matches, one_slot, removed, swept, kept_entry, kept_entries};
-ghost use Rattle.rings.specs.Lent.{lent, SameTables};
+ghost use Rattle.rings.specs.Lent.{lent, viewed, SameTables};
 
 mod lent;
 
 use ids::{CARRIED_FIELDS, END_FIELDS, ENTRY_FIELDS, Peer, RING, SLOTS};
-pub use lent::RingTables;
+pub use lent::{RingTables, RingView};
 
 // The kinds of entry: a message (so is any other number), a destroy notice, a release notice.
 pub const MESSAGE: u16 = 0;
@@ -182,8 +182,13 @@ fn kind_bit(kind: u16) -> usize
 fn has_slot(first: usize, mask: usize, slot: usize) -> bool
     ensures { result ≡ slot_in first mask slot }
 {
-    // Two tests: by `checked_sub` the search of a removal takes 6 instructions more for each entry.
-    first <= slot && slot - first < SLOTS && bit(mask, slot - first)
+    // The first test leaves at once: as one expression of three tests, or by `checked_sub`, the search of a removal takes 5 or 6
+    // instructions more for each entry.
+    if slot < first {
+        return false;
+    }
+    let k = slot - first;
+    k < SLOTS && bit(mask, k)
 }
 
 impl Match {
@@ -304,7 +309,7 @@ fn sweep(
     kept
 }
 
-impl RingTables<'_> {
+impl RingView<'_> {
     // Where the peer's queue begins in its ring.
     pub fn head(&self, p: Peer) -> usize
         requires { p.0 < peers }
@@ -324,7 +329,7 @@ impl RingTables<'_> {
     // The entry in a row.
     pub fn entry(&self, row: usize) -> Entry
         requires { row < row_count }
-        ensures { result ≡ entry_at (lent self.now).rows row }
+        ensures { result ≡ entry_at (viewed self.now).rows row }
     {
         get_entry(self.entries, self.carried, self.numbers, row)
     }
@@ -333,7 +338,7 @@ impl RingTables<'_> {
     #[tactic(auto, unfolding(crate::specs::Rings::first_of))]
     pub fn first(&self, p: Peer) -> Entry
         requires { p.0 < peers }
-        ensures { result ≡ first_of (lent self.now) p.0 }
+        ensures { result ≡ first_of (viewed self.now) p.0 }
     {
         let row = row_of(p, self.head(p), 0);
         self.entry(row)
@@ -346,6 +351,62 @@ impl RingTables<'_> {
             result ≡ first (λ i. matches m (entry_at (rows_of self.now.entries.now c n) (row_of p.0 head i))) len }
     {
         first_match(self.entries, p, head, len, m)
+    }
+}
+
+impl RingTables<'_> {
+    // The tables lent on, to be read.
+    pub fn view(&self) -> RingView<'_>
+        ensures { (result.ends.now ≡ self.now.ends.now) × (result.entries.now ≡ self.now.entries.now)
+            × (result.carried.now ≡ self.now.carried.now) × (result.numbers.now ≡ self.now.numbers.now) }
+    {
+        RingView {
+            ends: self.ends,
+            entries: self.entries,
+            carried: self.carried,
+            numbers: self.numbers,
+        }
+    }
+
+    // Where the peer's queue begins in its ring.
+    pub fn head(&self, p: Peer) -> usize
+        requires { p.0 < peers }
+        ensures { (result ≡ head_of self.now.ends.now p.0) × (result < 65536) }
+    {
+        self.view().head(p)
+    }
+
+    // How many entries the peer's queue has.
+    pub fn len(&self, p: Peer) -> usize
+        requires { p.0 < peers }
+        ensures { (result ≡ length_of self.now.ends.now p.0) × (result < 65536) }
+    {
+        self.view().len(p)
+    }
+
+    // The entry in a row.
+    pub fn entry(&self, row: usize) -> Entry
+        requires { row < row_count }
+        ensures { result ≡ entry_at (lent self.now).rows row }
+    {
+        self.view().entry(row)
+    }
+
+    // The oldest entry of a queue, or what its place holds where the queue is empty.
+    pub fn first(&self, p: Peer) -> Entry
+        requires { p.0 < peers }
+        ensures { result ≡ first_of (lent self.now) p.0 }
+    {
+        self.view().first(p)
+    }
+
+    // The place in a queue of the first entry that a removal takes out, or the length where it takes none.
+    pub fn first_match(&self, p: Peer, head: usize, len: usize, m: Match) -> usize
+        requires { (p.0 < peers) × (head < 65536) × (len ≤ ring_size) }
+        ensures { (c n : List ℕ) →
+            result ≡ first (λ i. matches m (entry_at (rows_of self.now.entries.now c n) (row_of p.0 head i))) len }
+    {
+        self.view().first_match(p, head, len, m)
     }
 
     // An entry appended to a queue that has room.
