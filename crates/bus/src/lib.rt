@@ -144,7 +144,7 @@ fn execute(
         carried,
         numbers,
     };
-    let r = judges::judge(ps, ns, hs, cs, &rings, seeds, f, c);
+    let r = judges::judge(ps, ns, hs, cs, &rings.view(), seeds, f, c);
     execution::carry_out(ps, ns, hs, cs, &mut rings, pool, seeds, f, r, out)
 }
 

@@ -361,7 +361,7 @@ fn receive_message(
         received_of result out.new peers.new handles.new after
         ≡ received_message peers.old nodes.now handles.old before p.0 e out.old }
 {
-    let flag = queues::follows(rings, p, e.number);
+    let flag = queues::follows(&rings.view(), p, e.number);
     let to = grants::id_or_invalid(handles, p, usize::from(e.slot) % NODES);
     rings::pop(rings.ends, p);
     let slots = e.carried;

@@ -90,7 +90,7 @@ fn execute(
         carried,
         numbers,
     };
-    let r = judges::judge(ps, ns, hs, cs, &rings, seeds, f, c);
+    let r = judges::judge(ps, ns, hs, cs, &rings.view(), seeds, f, c);
     let Some(next) = append_line(journal, used, f, r.order) else {
         return with_used(answers::write_refusal(out, EFBIG), used);
     };

@@ -4,7 +4,7 @@
 #![tactic(auto)]
 
 ghost use Rattle.std.specs.Prelude.{◌≡◌, [], ◌+◌, ◌*◌, ◌<◌, ◌≤◌, length, take};
-ghost use Rattle.rings.specs.Lent.{lent};
+ghost use Rattle.rings.specs.Lent.{viewed};
 ghost use Rattle.frames.specs.Frame.{payload_of};
 ghost use Rattle.frames.specs.Legal.{Legal, Sized as Sent};
 ghost use Rattle.rings.specs.Rings.{rings_of, QueueTables};
@@ -26,7 +26,7 @@ ghost use Rattle.tables.specs.Charges.{charges_size};
 use frames::{Command, Sizes};
 use ids::{HandleId, MOST_COMMANDS, MOST_IDS, NODES, PEERS, Peer, Refusal, SLOTS, User};
 use quota::Charge;
-use rings::{Entry, RingTables};
+use rings::{Entry, RingView};
 use tables::Status;
 
 // A send's slots: its destinations and what it carries, 0 behind them and for every other command.
@@ -115,13 +115,13 @@ fn counts(
     nodes: &[u64],
     handles: &[u64],
     charges: &[u16],
-    rings: &RingTables<'_>,
+    rings: &RingView<'_>,
     seeds: &[u8],
     s: usize,
 ) -> bool
     requires { (length nodes.now ≡ nodes_size) × (length handles.now ≡ handles_size)
         × (length charges.now ≡ charges_size) × Short rings.now.ends.now × (length seeds.now ≡ seeds_size) × (s < node_count) }
-    ensures { let queues = lent rings.now in
+    ensures { let queues = viewed rings.now in
         result ≡ counts_at nodes.now handles.now charges.now queues seeds.now s }
 {
     if tables::is_live(nodes, s) {
@@ -141,13 +141,13 @@ fn free_slot(
     nodes: &[u64],
     handles: &[u64],
     charges: &[u16],
-    rings: &RingTables<'_>,
+    rings: &RingView<'_>,
     seeds: &[u8],
     p: Peer,
 ) -> Option<usize>
     requires { (length nodes.now ≡ nodes_size) × (length handles.now ≡ handles_size)
         × (length charges.now ≡ charges_size) × Short rings.now.ends.now × (length seeds.now ≡ seeds_size) × (p.0 < peer_count) }
-    ensures { let queues = lent rings.now in
+    ensures { let queues = viewed rings.now in
         let free = free_at nodes.now handles.now charges.now queues seeds.now p.0 in
         result ≡ place_found p.0 free }
 {
@@ -165,14 +165,14 @@ fn judge_create(
     nodes: &[u64],
     handles: &[u64],
     charges: &[u16],
-    rings: &RingTables<'_>,
+    rings: &RingView<'_>,
     seeds: &[u8],
     p: Peer,
     i: HandleId,
 ) -> Result<Order, Refusal>
     requires { (length peers.now ≡ peers_size) × (length nodes.now ≡ nodes_size) × (length handles.now ≡ handles_size)
         × (length charges.now ≡ charges_size) × Short rings.now.ends.now × (length seeds.now ≡ seeds_size) × (p.0 < peer_count) }
-    ensures { let queues = lent rings.now in
+    ensures { let queues = viewed rings.now in
         let tables = seen peers.now [] [] [] no_rings in
         let find = find_at handles.now p.0 in
         let free = free_at nodes.now handles.now charges.now queues seeds.now p.0 in
@@ -366,12 +366,12 @@ fn too_large(e: Entry, room: usize) -> bool
 
 fn judge_receive(
     peers: &[u64],
-    rings: &RingTables<'_>,
+    rings: &RingView<'_>,
     p: Peer,
     room: usize,
 ) -> Result<Order, Refusal>
     requires { (length peers.now ≡ peers_size) × (p.0 < peer_count) }
-    ensures { let queues = lent rings.now in
+    ensures { let queues = viewed rings.now in
         ruled result ≡ unless (refuses_receive (seen peers.now [] [] [] queues) p.0 room) (order.Receive p) }
 {
     starts(peers, p)?;
@@ -428,14 +428,14 @@ pub fn judge(
     ns: &[u64],
     hs: &[u64],
     cs: &[u16],
-    rings: &RingTables<'_>,
+    rings: &RingView<'_>,
     seeds: &[u8],
     frame: &[u8],
     c: Command,
 ) -> Ruling
     requires { (length ps.now ≡ peers_size) × (length ns.now ≡ nodes_size) × (length hs.now ≡ handles_size)
         × (length cs.now ≡ charges_size) × Short rings.now.ends.now × (length seeds.now ≡ seeds_size) × Legal frame.now c }
-    ensures { let queues = lent rings.now in
+    ensures { let queues = viewed rings.now in
         let tables = sight ps.now ns.now hs.now cs.now queues seeds.now in
         result ≡ ruling_of tables frame.now c }
 {

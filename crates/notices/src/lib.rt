@@ -4,7 +4,7 @@
 #![tactic(auto)]
 
 ghost use Rattle.std.specs.Prelude.{◌≡◌, ◌<◌, ◌≤◌, ℕ, Bool, length};
-ghost use Rattle.rings.specs.Lent.{lent, SameTables};
+ghost use Rattle.rings.specs.Lent.{lent, viewed, SameTables};
 ghost use Rattle.laws.specs.Bits.{bits};
 ghost use Rattle.rings.specs.Rings.{ring_size, rings_of, one_slot, QueueTables, released_bit};
 ghost use Rattle.tables.specs.Handles.{handles_size};
@@ -16,7 +16,7 @@ ghost use Rattle.ids.specs.Sizes.{peers as peer_count, nodes_size, slots, most_i
 ghost use Rattle.model.specs.Numbers.{nodes as node_count};
 
 use ids::{INVALID, NODES, PEERS, Peer, RING, SLOTS};
-use rings::{DESTROYED, DESTROYED_BIT, Entry, Match, RELEASED, RELEASED_BIT, RingTables};
+use rings::{DESTROYED, DESTROYED_BIT, Entry, Match, RELEASED, RELEASED_BIT, RingTables, RingView};
 
 // Which of a peer's slots are asked for: those whose nodes live; those whose sum of counts falls to 1 when a peer's handle
 // goes; those of a set whose IDs are above the one of a place.
@@ -160,13 +160,13 @@ fn post(rings: &mut RingTables<'_>, set: u8, e: Entry)
 fn concerns(
     handles: &[u64],
     charges: &[u16],
-    rings: &RingTables<'_>,
+    rings: &RingView<'_>,
     o: Peer,
     s: usize,
     n: u64,
 ) -> bool
     requires { (length handles.now ≡ handles_size) × (length charges.now ≡ charges_size) × (o.0 < peer_count) × (s < node_count) }
-    ensures { let queues = lent rings.now in
+    ensures { let queues = viewed rings.now in
         result ≡ tells_at handles.now charges.now queues s n o.0 }
 {
     if tables::count_of(handles, o, s) != 0 {
@@ -176,9 +176,9 @@ fn concerns(
 }
 
 // Who is told of the destruction: one bit for each peer.
-fn addressees(handles: &[u64], charges: &[u16], rings: &RingTables<'_>, s: usize, n: u64) -> u8
+fn addressees(handles: &[u64], charges: &[u16], rings: &RingView<'_>, s: usize, n: u64) -> u8
     requires { (length handles.now ≡ handles_size) × (length charges.now ≡ charges_size) × (s < node_count) }
-    ensures { let queues = lent rings.now in
+    ensures { let queues = viewed rings.now in
         result ≡ addressees_bits handles.now charges.now queues s n }
 {
     set_where(PEERS, |o| {
@@ -190,14 +190,14 @@ fn addressees(handles: &[u64], charges: &[u16], rings: &RingTables<'_>, s: usize
 fn addressees_at(
     handles: &[u64],
     charges: &[u16],
-    rings: &RingTables<'_>,
+    rings: &RingView<'_>,
     p: Peer,
     set: u16,
     n: u64,
     k: usize,
 ) -> u8
     requires { (length handles.now ≡ handles_size) × (length charges.now ≡ charges_size) × (p.0 < peer_count) × (k < slots) }
-    ensures { let queues = lent rings.now in
+    ensures { let queues = viewed rings.now in
         result ≡ addressees_at handles.now charges.now queues p.0 set n k }
 {
     if !rings::bit(usize::from(set), k) {
@@ -211,13 +211,13 @@ fn addressees_at(
 fn addressees_of(
     handles: &[u64],
     charges: &[u16],
-    rings: &RingTables<'_>,
+    rings: &RingView<'_>,
     p: Peer,
     set: u16,
     n: u64,
 ) -> [u8; 16]
     requires { (length handles.now ≡ handles_size) × (length charges.now ≡ charges_size) × (p.0 < peer_count) }
-    ensures { let queues = lent rings.now in
+    ensures { let queues = viewed rings.now in
         result ≡ addressees_of handles.now charges.now queues p.0 set n }
 {
     let mut to = [0u8; 16];
@@ -287,7 +287,7 @@ pub fn destroy_set(
         destroyed_of nodes.new after
         ≡ destroyed_set nodes.old handles.now charges.now before p.0 set n }
 {
-    let to = addressees_of(handles, charges, rings, p, set, n);
+    let to = addressees_of(handles, charges, &rings.view(), p, set, n);
     let m = Match {
         kinds: RELEASED_BIT,
         first: p.0 * SLOTS,
@@ -317,7 +317,7 @@ pub fn destroy_one(
         ≡ destroyed_set nodes.old handles.now charges.now before p.0 (one_slot released_bit s).mask n }
 {
     let own = p.0 * SLOTS + s % SLOTS;
-    let to = addressees(handles, charges, rings, own, n);
+    let to = addressees(handles, charges, &rings.view(), own, n);
     let m = Match::one_slot(RELEASED_BIT, own);
     queues::withdraw(rings, p, m);
     tables::set_dead(nodes, own, n);
@@ -369,7 +369,7 @@ pub fn expire(
         return;
     }
     let n = tables::died_at(nodes, s);
-    if concerns(handles, charges, rings, p, s, n) {
+    if concerns(handles, charges, &rings.view(), p, s, n) {
         return;
     }
     let m = Match::one_slot(DESTROYED_BIT, s);

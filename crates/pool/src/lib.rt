@@ -4,12 +4,12 @@
 #![tactic(auto)]
 
 ghost use Rattle.std.specs.Prelude.{◌≡◌, ◌+◌, ◌*◌, ◌<◌, ◌≤◌, length};
-ghost use Rattle.rings.specs.Lent.{lent};
+ghost use Rattle.rings.specs.Lent.{viewed};
 ghost use Rattle.rings.specs.Rings.{peers, ring_size, rings_of, QueueTables, length_of, queue_of};
 ghost use Rattle.pool.specs.Pool.{area_size, pool_size, piece_of, appended, closed, bytes_in, kept, kept_piece, kept_pieces};
 
 use ids::{AREA, Peer};
-use rings::{DESTROYED, Entry, Match, RELEASED, RingTables};
+use rings::{DESTROYED, Entry, Match, RELEASED, RingView};
 
 // The n bytes from a place of a peer's area on.
 #[tactic(auto, unfolding(crate::specs::Pool::piece_of))]
@@ -67,9 +67,9 @@ fn keep_piece(pool: &mut [u8], p: Peer, read: usize, at: usize, e: Entry, m: Mat
 }
 
 // The payloads of the entries that a removal takes out of a queue are taken out; the others move down, in order. How many bytes stay.
-pub fn remove(pool: &mut [u8], rings: &RingTables<'_>, p: Peer, m: Match) -> usize
+pub fn remove(pool: &mut [u8], rings: &RingView<'_>, p: Peer, m: Match) -> usize
     requires { (p.0 < peers) × (length_of rings.now.ends.now p.0 ≤ ring_size) }
-    ensures { let queues = lent rings.now in
+    ensures { let queues = viewed rings.now in
         kept result pool.new ≡ kept_pieces pool.old p.0 0 0 m (queue_of queues p.0) }
 {
     let head = rings.head(p);

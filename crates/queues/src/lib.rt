@@ -5,7 +5,7 @@
 #![tactic(auto)]
 
 ghost use Rattle.std.specs.Prelude.{◌≡◌, false, Bool, List, ℕ, ◌*◌, ◌<◌, ◌≤◌, length, take, eqb};
-ghost use Rattle.rings.specs.Lent.{lent, SameTables};
+ghost use Rattle.rings.specs.Lent.{lent, viewed, SameTables};
 ghost use Rattle.queues.specs.Queued.{queued};
 ghost use Rattle.laws.specs.Rows.{row_in};
 ghost use Rattle.rings.specs.Rings.{peers, ring_size, row_count, carried_fields, ends_size, entries_size, carried_size};
@@ -19,7 +19,7 @@ ghost use Rattle.queues.specs.Queues.{emptied_charges, follows_in, names_in, att
 
 use ids::{AREA, CARRIED_FIELDS, ENTRY_FIELDS, MOST_IDS, PEERS, Peer, RING, User};
 use quota::{Charge, Charges};
-use rings::{Entry, Match, RingTables};
+use rings::{Entry, Match, RingTables, RingView};
 
 // The sum over the users of one number of what each has queued at a peer.
 fn total<F: Fn(Charge) -> u16>(c: Charges, number: F) -> usize
@@ -134,9 +134,9 @@ fn lessen(c: Charges, e: Entry, m: Match) -> Charges
 }
 
 // The charges after all messages of a queue that a removal takes out.
-fn lessen_all(c: Charges, rings: &RingTables<'_>, p: Peer, m: Match) -> Charges
+fn lessen_all(c: Charges, rings: &RingView<'_>, p: Peer, m: Match) -> Charges
     requires { (p.0 < peers) × (length_of rings.now.ends.now p.0 ≤ ring_size) }
-    ensures { let queues = lent rings.now in
+    ensures { let queues = viewed rings.now in
         result ≡ lessened_all c m (queue_of queues p.0) }
 {
     let head = rings.head(p);
@@ -164,9 +164,9 @@ pub fn withdraw(rings: &mut RingTables<'_>, p: Peer, m: Match)
 
 // The charges and the payloads of the messages that a removal takes out of a queue, taken off; where it takes out no
 // message, both tables stay, and neither is read.
-fn remove_messages(charges: &mut [u16], rings: &RingTables<'_>, pool: &mut [u8], p: Peer, m: Match)
+fn remove_messages(charges: &mut [u16], rings: &RingView<'_>, pool: &mut [u8], p: Peer, m: Match)
     requires { (length charges.old ≡ charges_size) × (p.0 < peers) × (length_of rings.now.ends.now p.0 ≤ ring_size) }
-    ensures { let queues = lent rings.now in
+    ensures { let queues = viewed rings.now in
         (charges.new ≡ lessened_charges charges.old p.0 m (queue_of queues p.0))
         × (pool.new ≡ (kept_pieces pool.old p.0 0 0 m (queue_of queues p.0)).table) }
 {
@@ -200,7 +200,7 @@ pub fn remove(charges: &mut [u16], rings: &mut RingTables<'_>, pool: &mut [u8], 
     if RING < rings.len(p) {
         return;
     }
-    remove_messages(charges, rings, pool, p, m);
+    remove_messages(charges, &rings.view(), pool, p, m);
     rings.remove(p, m);
 }
 
@@ -216,9 +216,9 @@ pub fn empty(charges: &mut [u16], ends: &mut [u16], p: Peer)
 
 // Behind the oldest entry, is there another message that the command of the number n queued? A queue is in the order of
 // these numbers.
-pub fn follows(rings: &RingTables<'_>, p: Peer, n: u64) -> bool
+pub fn follows(rings: &RingView<'_>, p: Peer, n: u64) -> bool
     requires { (p.0 < peers) × (length_of rings.now.ends.now p.0 ≤ ring_size) }
-    ensures { let queues = lent rings.now in
+    ensures { let queues = viewed rings.now in
         result ≡ follows_in queues p.0 n }
 {
     let head = rings.head(p);
@@ -258,7 +258,13 @@ fn is_among(carried: &[u8], row: usize, n: usize, s: usize) -> bool
     ensures { result ≡ any (eqb s) (take n (row_in carried_fields carried.now row)) }
 {
     let a = CARRIED_FIELDS * row;
-    carried[a..a + n].iter().any(|x| s == usize::from(*x))
+    // A loop: by `iter().any` each row costs 14 instructions more, in every create and destroy that looks through a queue.
+    for k in 0..n {
+        if usize::from(carried[a + k]) == s {
+            return true;
+        }
+    }
+    false
 }
 
 // Is the entry in the row a message that names the slot, as destination or attached? Whatever its number is.
@@ -301,9 +307,9 @@ pub fn attached(c: Charges) -> usize
 }
 
 // Does a message in a queue with attached handles name the slot? Other queues are not looked through.
-fn carries(charges: &[u16], rings: &RingTables<'_>, p: Peer, s: usize) -> bool
+fn carries(charges: &[u16], rings: &RingView<'_>, p: Peer, s: usize) -> bool
     requires { (length charges.now ≡ charges_size) × (p.0 < peers) × (length_of rings.now.ends.now p.0 ≤ ring_size) }
-    ensures { let queues = lent rings.now in
+    ensures { let queues = viewed rings.now in
         result ≡ carries_in charges.now queues s p.0 }
 {
     if rings.len(p) == 0 {
@@ -323,9 +329,9 @@ fn carries(charges: &[u16], rings: &RingTables<'_>, p: Peer, s: usize) -> bool
 }
 
 // Does a queued message name a slot that nobody holds? No message is for such a slot, so it is named where it is attached.
-pub fn named(charges: &[u16], rings: &RingTables<'_>, s: usize) -> bool
+pub fn named(charges: &[u16], rings: &RingView<'_>, s: usize) -> bool
     requires { (length charges.now ≡ charges_size) × Short rings.now.ends.now }
-    ensures { let queues = lent rings.now in
+    ensures { let queues = viewed rings.now in
         result ≡ named_in charges.now queues s }
 {
     for q in 0..PEERS {
@@ -381,9 +387,9 @@ fn carried_at(
 }
 
 // The same question; a queue that is empty or without attached handles is not looked through.
-pub fn carried_before(charges: &[u16], rings: &RingTables<'_>, p: Peer, s: usize, n: u64) -> bool
+pub fn carried_before(charges: &[u16], rings: &RingView<'_>, p: Peer, s: usize, n: u64) -> bool
     requires { (length charges.now ≡ charges_size) × (p.0 < peers) }
-    ensures { let queues = lent rings.now in
+    ensures { let queues = viewed rings.now in
         result ≡ carried_before charges.now queues s n p.0 }
 {
     let len = rings.len(p);

@@ -357,8 +357,9 @@ impl RingView<'_> {
 impl RingTables<'_> {
     // The tables lent on, to be read.
     pub fn view(&self) -> RingView<'_>
-        ensures { (result.ends.now ≡ self.now.ends.now) × (result.entries.now ≡ self.now.entries.now)
+        ensures tables { (result.ends.now ≡ self.now.ends.now) × (result.entries.now ≡ self.now.entries.now)
             × (result.carried.now ≡ self.now.carried.now) × (result.numbers.now ≡ self.now.numbers.now) }
+        ensures rings { viewed result ≡ lent self.now }
     {
         RingView {
             ends: self.ends,

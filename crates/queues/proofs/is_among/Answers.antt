@@ -1,10 +1,16 @@
--- `queues::is_among` meets its contract: the slice is the row's first n slots, and the test is the definition's. Assumes nothing.
-use Rattle.std.specs.Prelude.{eqb}
-use Rattle.std.proofs.Common.{rules, tests, ◌∙◌}
-use Rattle.std.proofs.lemmas.Iterator.{YieldsList-from_slice}
-use Rattle.std.proofs.lemmas.Iterator.Search.{any_from_yields_List}
-use Rattle.queues.specs.Code.{among-slice}
+-- `queues::is_among` meets its contract: after each turn what is left of the first n slots answers as all of them. Assumes nothing.
+use Rattle.queues.specs.Code.{among-start, among-end, among-found, among_next}
+use native.Mathlib.Omega.{arith}
 use Rattle.queues.proofs.is_among.Goals as goal
 
+pub loop-k-init : goal.loop-k-init
+loop-k-init c = among-start _ _ _ _
+
+pub returns-then-from-s : goal.returns-then-from-s
+returns-then-from-s c = among-found c.loop-k.invariant (omega arith) (omega arith) c.from.ensures c.if-from-s.true
+
+pub loop-k-preserved : goal.loop-k-preserved
+loop-k-preserved c = among_next c.loop-k.invariant (omega arith) (omega arith) c.from.ensures c.if-from-s.false
+
 pub returns : goal.returns
-returns c = any_from_yields_List (eqb c.args.s) _ _ _ c.any.ensures.ran (YieldsList-from_slice _ c.iter.ensures.rest) (λ x b q k. search (rules, tests)) ∙ among-slice c.args.carried.now c.args.row c.args.n c.args.s c.requires.0 c.requires.1 c.requires.2
+returns c = among-end c.loop-k.invariant (omega arith) (omega arith)

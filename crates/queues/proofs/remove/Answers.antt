@@ -8,4 +8,4 @@ pub returns-then-len-gt-RING-clause-done : goal.returns-then-len-gt-RING-clause-
 returns-then-len-gt-RING-clause-done c = let a = c.args in remove-long (queued a.charges.now a.rings.now a.pool.now) a.p.0 a.m c.len.ensures.0 c.if-len-gt-RING.true
 
 pub returns-clause-done : goal.returns-clause-done
-returns-clause-done c = let a = c.args in remove-done (queued a.charges.now a.rings.now a.pool.now) a.p.0 a.m c.len.ensures.0 c.if-len-gt-RING.false c.remove_messages.ensures c.remove.ensures.done
+returns-clause-done c = let a = c.args in remove-done (queued a.charges.now a.rings.now a.pool.now) a.p.0 a.m c.len.ensures.0 c.if-len-gt-RING.false (rw c.view.ensures.rings at c.remove_messages.ensures) c.remove.ensures.done

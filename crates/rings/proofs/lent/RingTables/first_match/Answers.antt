@@ -2,4 +2,4 @@
 use Rattle.rings.proofs.lent.RingTables.first_match.Goals as goal
 
 pub returns : goal.returns
-returns c = λ k n. rw (← c.view.ensures.1) (c.first_match.ensures k n)
+returns c = λ k n. rw (← c.view.ensures.tables.1) (c.first_match.ensures k n)
