@@ -9,4 +9,4 @@ pub notice-e-requires : goal.notice-e-requires
 notice-e-requires c = omega (arith, c.requires.3)
 
 pub returns-clause-done : goal.returns-clause-done
-returns-clause-done c = let a = c.args in destroy-one a.nodes.now a.handles.now a.charges.now (lent a.rings.now) a.p.0 a.s a.n c.addressees-to.ensures c.one_slot-m.ensures c.withdraw.ensures.done c.set_dead.ensures c.notice-e.ensures c.post.ensures.done
+returns-clause-done c = let a = c.args in destroy-one a.nodes.now a.handles.now a.charges.now (lent a.rings.now) a.p.0 a.s a.n (rw c.view.ensures.rings at c.addressees-to.ensures) c.one_slot-m.ensures c.withdraw.ensures.done c.set_dead.ensures c.notice-e.ensures c.post.ensures.done

@@ -9,4 +9,4 @@ pub tell-requires : goal.tell-requires
 tell-requires c = let w = c.withdraw in let z = c.requires in (omega (arith, c.bury.auto.nodes, z.0), z.1, z.3)
 
 pub returns-clause-done : goal.returns-clause-done
-returns-clause-done c = let a = c.args in destroy-done a.nodes.now a.handles.now a.charges.now (lent a.rings.now) a.p.0 a.set a.n c.addressees_of-to.ensures c.withdraw.ensures.done c.bury.ensures c.tell.ensures.done
+returns-clause-done c = let a = c.args in destroy-done a.nodes.now a.handles.now a.charges.now (lent a.rings.now) a.p.0 a.set a.n (rw c.view.ensures.rings at c.addressees_of-to.ensures) c.withdraw.ensures.done c.bury.ensures c.tell.ensures.done

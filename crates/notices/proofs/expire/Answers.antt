@@ -8,7 +8,7 @@ pub returns-then-is_live-clause-done : goal.returns-then-is_live-clause-done
 returns-then-is_live-clause-done c = let a = c.args in expire-live a.nodes.now a.handles.now a.charges.now a.p.0 (lent a.rings.now) a.s c.is_live.ensures c.if-is_live.true
 
 pub returns-then-concerns-clause-done : goal.returns-then-concerns-clause-done
-returns-then-concerns-clause-done c = let a = c.args in expire-kept a.nodes.now a.handles.now a.charges.now a.p.0 (lent a.rings.now) a.s c.is_live.ensures c.if-is_live.false c.died_at-n.ensures c.concerns.ensures c.if-concerns.true
+returns-then-concerns-clause-done c = let a = c.args in expire-kept a.nodes.now a.handles.now a.charges.now a.p.0 (lent a.rings.now) a.s c.is_live.ensures c.if-is_live.false c.died_at-n.ensures (rw c.view.ensures.rings at c.concerns.ensures) c.if-concerns.true
 
 pub returns-clause-done : goal.returns-clause-done
-returns-clause-done c = let a = c.args in expire-gone a.nodes.now a.handles.now a.charges.now a.p.0 (lent a.rings.now) a.s c.is_live.ensures c.if-is_live.false c.died_at-n.ensures c.concerns.ensures c.if-concerns.false c.one_slot-m.ensures c.withdraw.ensures.done
+returns-clause-done c = let a = c.args in expire-gone a.nodes.now a.handles.now a.charges.now a.p.0 (lent a.rings.now) a.s c.is_live.ensures c.if-is_live.false c.died_at-n.ensures (rw c.view.ensures.rings at c.concerns.ensures) c.if-concerns.false c.one_slot-m.ensures c.withdraw.ensures.done
