@@ -179,11 +179,13 @@ fn judge_create(
         ruled result ≡ unless (create_by find free tables p.0 i.0) (order.Create p i (p.0 * slots + free)) }
 {
     starts(peers, p)?;
-    if tables::find(handles, p, i).is_some() {
+    let None = tables::find(handles, p, i) else {
         return Err(Refusal::EEXIST);
-    }
-    let free = free_slot(nodes, handles, charges, rings, seeds, p);
-    Ok(Order::Create(p, i, free.ok_or(Refusal::ENOSPC)?))
+    };
+    let Some(s) = free_slot(nodes, handles, charges, rings, seeds, p) else {
+        return Err(Refusal::ENOSPC);
+    };
+    Ok(Order::Create(p, i, s))
 }
 
 fn judge_destroy(
@@ -200,7 +202,9 @@ fn judge_destroy(
         ruled result ≡ unless (destroy_by find tables p.0 i.0) (order.Destroy p (find i.0)) }
 {
     starts(peers, p)?;
-    let s = tables::find(handles, p, i).ok_or(Refusal::ENXIO)?;
+    let Some(s) = tables::find(handles, p, i) else {
+        return Err(Refusal::ENXIO);
+    };
     if s / SLOTS != p.0 {
         return Err(Refusal::EPERM);
     }
@@ -232,7 +236,9 @@ fn judge_release(
         ruled result ≡ unless (release_by find tables p.0 i.0) (order.Release p (find i.0)) }
 {
     starts(peers, p)?;
-    let s = tables::find(handles, p, i).ok_or(Refusal::ENXIO)?;
+    let Some(s) = tables::find(handles, p, i) else {
+        return Err(Refusal::ENXIO);
+    };
     if pinned(nodes, handles, p, s) {
         return Err(Refusal::EPERM);
     }
@@ -255,7 +261,9 @@ fn judge_transfer(
 {
     starts(peers, p)?;
     tables::standing(peers, q)?;
-    let s = tables::find(handles, p, i).ok_or(Refusal::ENXIO)?;
+    let Some(s) = tables::find(handles, p, i) else {
+        return Err(Refusal::ENXIO);
+    };
     if !tables::is_live(nodes, s) {
         return Err(Refusal::EHOSTUNREACH);
     }
@@ -275,7 +283,9 @@ fn slots_of(
 {
     let mut at = [0; 8];
     for k in 0..n {
-        let s = tables::find(handles, p, frames::send_id(frame, from + k)).ok_or(Refusal::ENXIO)?;
+        let Some(s) = tables::find(handles, p, frames::send_id(frame, from + k)) else {
+            return Err(Refusal::ENXIO);
+        };
         at[k] = s as u8;
     }
     Ok(at)
@@ -399,7 +409,9 @@ fn judge_holders(peers: &[u64], handles: &[u64], p: Peer, i: HandleId) -> Result
         ruled result ≡ unless (holders_by find tables p.0 i.0) (order.Holders (find i.0)) }
 {
     tables::standing(peers, p)?;
-    let s = tables::find(handles, p, i).ok_or(Refusal::ENXIO)?;
+    let Some(s) = tables::find(handles, p, i) else {
+        return Err(Refusal::ENXIO);
+    };
     if s / SLOTS != p.0 {
         return Err(Refusal::EPERM);
     }
