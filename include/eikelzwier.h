@@ -6,8 +6,8 @@
  *
  * A bus lives in ten buffers that the caller lends to each call. The library
  * has no state of its own, allocates nothing and calls nothing of the host but
- * memset and memmove, and in recovery memcpy. Calls on different buses may run
- * at the same time, calls on one bus may not.
+ * memset, and in recovery memcpy. Calls on different buses may run at the same
+ * time, calls on one bus may not.
  *
  * Every buffer is passed as a pointer and its number of elements (not bytes).
  * Duties of the caller:
