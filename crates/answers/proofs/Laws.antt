@@ -1,22 +1,20 @@
 -- The answers' definitions as runs of stores: each piece behind the one before it.
 -- Assumes nothing.
 use Prim.Native.Nat.{ℕ, suc, ◌+◌, ◌*◌, ◌/◌, ◌%◌, ◌≤◌, ◌<◌, min}
-use mathlib.Core.Path.{◌≡◌, refl, sym, ap, ◌∙◌}
+use mathlib.Core.Path.{◌≡◌, refl, ap, ◌∙◌}
 use mathlib.Core.Logic.{◌⊎◌, inl, inr}
 use Rattle.std.specs.Prelude.{Bool, true, false}
 use Rattle.std.specs.Int.{from_bool, w16, w64, to_be_bytes}
-use Rattle.std.proofs.lemmas.List.Edits.{sets-eq}
-use Rattle.std.proofs.lemmas.Slice.{put_mid-paste}
-use borrow.Rule.Slice.PartMut.{put_mid}
 use mathlib.Core.List.{List, [], ◌∷◌, ◌++◌, append-nil}
 use native.Mathlib.Omega.{arith}
 use native.Mathlib.Numerals.{add-one}
-use lib.ListN.{length, get_or, take, drop, set, length-take}
-use lib.Seq.{sets, take-suc, take-length, length-take-le}
+use lib.ListN.{length, get_or, take, set, length-take}
+use lib.Seq.{sets, take-suc, length-take-le}
 use borrow.Author.Tests.{lt-ltb, le-ltb}
 use Rattle.ids.specs.Refusals.{EINVAL}
 use Rattle.laws.specs.Bytes.{be, be-two, be-eight, be-length}
 use Rattle.laws.specs.Stores.{sets_then, over, take_min}
+use Rattle.copies.proofs.Parts.{part-sets}
 use Rattle.quota.specs.declared.Charge.{Charge}
 use Rattle.quota.specs.declared.Balance.{Balance}
 use Rattle.answers.specs.declared.Header.{Header}
@@ -27,12 +25,37 @@ use Rattle.answers.specs.declared.Outcome.{Outcome}
 use Rattle.answers.specs.AnswerLaws.{ids-length, ids-append, charge-length, balance-length, notice-length, header-length, message-length, contents-size}
 use Rattle.answers.specs.Answer.{id_bytes, bit, header_bytes, message_bytes, charge_bytes, balance_bytes, number_of, contents_of, answer_bytes, answer_after, outcome_of, answer_size, most_ids, most_bytes}
 
--- a part written at once is its bytes stored one after another
-pub part-sets : (o vs : List ℕ) (at k : ℕ) → length vs ≡ k → at + k ≤ length o → put_mid at k o vs ≡ sets o at vs
-part-sets o vs at k e h =
-    put_mid-paste at k o vs vs (length vs) refl e refl
-    ∙ ap (λ (l : List ℕ). take at o ++ l ++ drop (at + length vs) o) (take-length vs)
-    ∙ sym (sets-eq vs o at (omega arith))
+-- a number's bytes stored one by one
+pub two-stores : (o : List ℕ) (t x : ℕ) → set (set o t (x / 256 % 256)) (t + 1) (x % 256) ≡ sets o t (be 2 x)
+two-stores o t x = let e : t + 1 ≡ suc t = omega arith in rw (be-two x, e)
+
+pub eight-stores : (o : List ℕ) (t x : ℕ) →
+    set
+    (set
+    (set
+    (set
+    (set
+    (set (set (set o t (x / 72057594037927936 % 256)) (t + 1) (x / 281474976710656 % 256)) (t + 2) (x / 1099511627776 % 256))
+    (t + 3)
+    (x / 4294967296 % 256))
+    (t + 4)
+    (x / 16777216 % 256))
+    (t + 5)
+    (x / 65536 % 256))
+    (t + 6)
+    (x / 256 % 256))
+    (t + 7)
+    (x % 256)
+    ≡ sets o t (be 8 x)
+eight-stores o t x =
+    let e1 : t + 1 ≡ suc t = omega arith in
+    let e2 : t + 2 ≡ suc (suc t) = omega arith in
+    let e3 : t + 3 ≡ suc (suc (suc t)) = omega arith in
+    let e4 : t + 4 ≡ suc (suc (suc (suc t))) = omega arith in
+    let e5 : t + 5 ≡ suc (suc (suc (suc (suc t)))) = omega arith in
+    let e6 : t + 6 ≡ suc (suc (suc (suc (suc (suc t))))) = omega arith in
+    let e7 : t + 7 ≡ suc (suc (suc (suc (suc (suc (suc t)))))) = omega arith in
+    rw (be-eight x, e1, e2, e3, e4, e5, e6, e7)
 
 -- the library's bytes of a number are those of `be`
 pub two-bytes : (x : ℕ) → to_be_bytes w16 x ≡ be 2 x
@@ -158,7 +181,7 @@ module _ (o : List ℕ) {r : Outcome} {o' : List ℕ} where
   bare e h = rw e (bare-done h)
 
 -- what the search cites for the writers of the parts
-pub ruleset bytes = (be-length, two-bytes, eight-bytes)
+pub ruleset bytes = (part-sets, be-length, two-bytes, eight-bytes)
 
 pub ruleset stores = (charge-stores, balance-stores)
 

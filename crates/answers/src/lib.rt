@@ -56,17 +56,18 @@ fn put(out: &mut [u8], at: usize, bytes: &[u8]) -> usize
     requires { at + length bytes.now ≤ length out.old }
     ensures { (result ≡ at + length bytes.now) × (out.new ≡ sets out.old at bytes.now) }
 {
-    let end = at + bytes.len();
-    out[at..end].copy_from_slice(bytes);
-    end
+    copies::put(out, at, bytes);
+    at + bytes.len()
 }
 
+// Two bytes, as `put_id` eight: of a constant length, which `copy_from_slice` writes as plain stores.
 #[tactic(auto, using(crate::proofs::Laws::bytes))]
 fn put_short(out: &mut [u8], at: usize, x: u16) -> usize
     requires { at + 2 ≤ length out.old }
     ensures { (result ≡ at + 2) × (out.new ≡ sets out.old at (be 2 x)) }
 {
-    put(out, at, &x.to_be_bytes())
+    out[at..at + 2].copy_from_slice(&x.to_be_bytes());
+    at + 2
 }
 
 #[tactic(auto, using(crate::proofs::Laws::bytes))]
@@ -74,7 +75,8 @@ fn put_id(out: &mut [u8], at: usize, x: u64) -> usize
     requires { at + 8 ≤ length out.old }
     ensures { (result ≡ at + 8) × (out.new ≡ sets out.old at (be 8 x)) }
 {
-    put(out, at, &x.to_be_bytes())
+    out[at..at + 8].copy_from_slice(&x.to_be_bytes());
+    at + 8
 }
 
 fn put_ids(out: &mut [u8], at: usize, ids: &[u64]) -> usize

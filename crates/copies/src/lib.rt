@@ -12,7 +12,10 @@ pub fn put(out: &mut [u8], at: usize, bytes: &[u8])
 {
     let start = at.min(out.len());
     let n = bytes.len().min(out.len() - start);
-    out[start..start + n].copy_from_slice(&bytes[..n]);
+    // Byte by byte, so that the archive asks nothing of its host but `memset`: `copy_from_slice` of a length that varies calls `memmove`.
+    for k in 0..n {
+        out[start + k] = bytes[k];
+    }
 }
 
 // Moves the n bytes from `from` on down to `to`; where `to` is above `from`, nothing.
@@ -23,6 +26,9 @@ pub fn down(buf: &mut [u8], to: usize, from: usize, n: usize)
     if from < to || buf.len() <= from {
         return;
     }
-    let end = from + n.min(buf.len() - from);
-    buf.copy_within(from..end, to);
+    let m = n.min(buf.len() - from);
+    // Byte by byte, as in `put`: `copy_within` of a length that varies calls `memmove` too.
+    for i in 0..m {
+        buf[to + i] = buf[from + i];
+    }
 }

@@ -2,7 +2,7 @@
 -- Assumes nothing.
 use Prim.Native.Nat.{ℕ, ◌+◌, ◌*◌, ◌-◌, ◌%◌, ◌^◌, ◌≤◌, ◌<◌, min}
 use mathlib.Core.Path.{◌≡◌, sym, ◌∙◌}
-use mathlib.Core.Bool.{true, false}
+use mathlib.Core.Bool.{Bool, true, false}
 use mathlib.Core.List.{List}
 use native.Mathlib.Omega.{arith}
 use lib.ListN.{length, get_or, take, drop, length-drop, drop_of_length-le}
@@ -52,10 +52,33 @@ id-of f at ys n e b l =
     let small : num_at f at 8 % 256 ^ 8 ≡ num_at f at 8 = omega (arith, same, l) in
     rw (small, same)
 
+-- A send's numbers, from what was tested of them.
+module _ (n p nd nh nb : ℕ) (over : Bool) (e : over ≡ oversized nd nh nb) where
+  pub sizes-peer : 7 < p → Err EINVAL ≡ parse_sizes n p nd nh nb
+  unfolding parse_sizes
+  sizes-peer h = rw (lt-ltb 7 p h)
+
+  pub sizes-over : p ≤ 7 → over ≡ true → Err EMSGSIZE ≡ parse_sizes n p nd nh nb
+  unfolding parse_sizes
+  sizes-over h t = rw (le-ltb 7 p h, ← e, t)
+
+  pub sizes-length : p ≤ 7 → over ≡ false → (n ≡ 6 + 8 * (nd + nh) + nb → ⊥) → Err EINVAL ≡ parse_sizes n p nd nh nb
+  unfolding parse_sizes
+  sizes-length h t l = rw (le-ltb 7 p h, ← e, t, ne_eqb n (6 + 8 * (nd + nh) + nb) l)
+
+  pub sizes-read : p ≤ 7 → over ≡ false → n ≡ 6 + 8 * (nd + nh) + nb →
+      Ok (Send (record { 0 = p }) (record { nd = nd; nh = nh; nb = nb })) ≡ parse_sizes n p nd nh nb
+  unfolding parse_sizes
+  sizes-read h t l = rw (le-ltb 7 p h, ← e, t, eq-eqb n (6 + 8 * (nd + nh) + nb) l)
+
 module _ (f : List ℕ) where
   pub send-short : length f < 6 → Err EINVAL ≡ parse_send f
   unfolding parse_send
   send-short h = rw (lt-ltb _ _ h)
+
+  pub send-sizes : (r : Parsed) (nb : ℕ) → 6 ≤ length f → nb ≡ short_at f 4 → r ≡ parse_sizes (length f) (get_or f 1 0) (get_or f 2 0) (get_or f 3 0) nb → r ≡ parse_send f
+  unfolding parse_send
+  send-sizes r nb h e k = rw (le-ltb _ _ h, ← e) k
 
   pub send-peer : {r : Parsed} → 6 ≤ length f → 7 < get_or f 1 0 → r ≡ Err EINVAL → r ≡ parse_send f
   unfolding parse_send parse_sizes
@@ -156,6 +179,18 @@ module _ (f : List ℕ) where
   pub parse-send : (r : Parsed) → false ≡ eqb (length f) 0 → true ≡ known (get_or f 0 0) → get_or f 0 0 ≡ 7 → r ≡ parse_send f → r ≡ parse f
   unfolding parse
   parse-send r h k e t = rw (← h, ← k, eq-eqb (get_or f 0 0) 7 e) t
+
+  pub parse-zero : (length f ≡ 0 → ⊥) → get_or f 0 0 ≡ 0 → Err ENOTTY ≡ parse f
+  unfolding parse
+  parse-zero h e = rw (ne_eqb (length f) 0 h, e)
+
+  pub parse-eleven : (length f ≡ 0 → ⊥) → get_or f 0 0 ≡ 11 → Err ENOTTY ≡ parse f
+  unfolding parse
+  parse-eleven h e = rw (ne_eqb (length f) 0 h, e)
+
+  pub parse-over : (length f ≡ 0 → ⊥) → (get_or f 0 0 ≡ 0 → ⊥) → (get_or f 0 0 ≡ 11 → ⊥) → 12 < get_or f 0 0 → Err ENOTTY ≡ parse f
+  unfolding parse
+  parse-over h z y e = rw (ne_eqb (length f) 0 h, ne_eqb (get_or f 0 0) 0 z, ne_eqb (get_or f 0 0) 11 y, lt-leb (get_or f 0 0) 12 e)
 
   pub parse-other : (r : Parsed) → false ≡ eqb (length f) 0 → true ≡ known (get_or f 0 0) → (get_or f 0 0 ≡ 7 → ⊥) → r ≡ parse_other f → r ≡ parse f
   unfolding parse

@@ -11,14 +11,14 @@ use Rattle.std.proofs.Math.Nat.{div-eq_of_lt}
 use Rattle.std.specs.Int.Bits.{bit_or}
 use Rattle.std.proofs.lemmas.Nat.{or_disjoint}
 use Rattle.std.proofs.lemmas.Nat.Bits.{and_pow}
-use Rattle.std.proofs.Math.Seq.{paste, get_or-set_other}
-use Rattle.std.proofs.lemmas.List.{get_or-drop, get_or-replicate, length-take, length-drop, length-replicate}
+use Rattle.std.proofs.Math.Seq.{paste}
+use Rattle.std.proofs.lemmas.List.{get_or-replicate, length-take, length-drop, length-replicate}
 use Rattle.std.proofs.lemmas.List.Edits.{paste_none, paste_more}
 use Rattle.std.proofs.lemmas.Slice.{put_mid-paste}
 use Rattle.std.specs.Option.{option_map}
 use Rattle.std.proofs.lemmas.Bool.{eqb-false}
 use borrow.Rule.Slice.PartMut.{put_mid}
-use borrow.Author.Tests.{ne_eqb, lt-ltb, le-ltb, le-leb, lt-leb, eq-eqb}
+use borrow.Author.Tests.{ne_eqb, lt-ltb, le-ltb, le-leb, lt-leb, leb-true, leb-false, eq-eqb}
 use Rattle.laws.specs.Tests.{Seen, Seen.is_true, Seen.is_false, look, pick}
 use Rattle.laws.specs.Sums.{sum_to}
 use Rattle.laws.specs.Search.{first, first-is}
@@ -116,6 +116,27 @@ module _ (h : List ℕ) (p i : ℕ) {r : Option ℕ} where
   found-listed ne f = rw (ne_eqb (i % 4) 0 ne) f
 
 -- place_in
+-- A span of places, and the half of it in which an ID is, by the ID that stands in its middle.
+pub record Span : Type 0 where
+  pub low : ℕ
+  pub high : ℕ
+
+abbrev pub narrowed : ℕ → ℕ → ℕ → ℕ → ℕ → Span
+narrowed low mid high i v = pick (leb i v) (record { low = low; high = mid }) (record { low = mid + 1; high = high })
+
+pub narrowed-less : (low high i v : ℕ) {x : Span} → low < high → x ≡ narrowed low ((low + high) / 2) high i v → x.high - x.low < high - low
+narrowed-less low high i v {x} l ex = rw ex (go (look (leb i v)))
+  where
+    go : Seen (leb i v) → (narrowed low ((low + high) / 2) high i v).high - (narrowed low ((low + high) / 2) high i v).low < high - low
+    go (is_true e) = rw e (omega arith)
+    go (is_false e) = rw e (omega arith)
+
+pub narrow-down : (low mid high i v : ℕ) → i ≤ v → record { low = low; high = mid } ≡ narrowed low mid high i v
+narrow-down low mid high i v l = rw (le-leb i v l)
+
+pub narrow-up : (low mid high i v : ℕ) → v < i → record { low = mid + 1; high = high } ≡ narrowed low mid high i v
+narrow-up low mid high i v l = rw (lt-leb i v l)
+
 -- The span in which the place is, with the reads of records that are left for it.
 pub record Halving (h : List ℕ) (p i n r low high c : ℕ) : Type 0 where
   pub order : low ≤ high
@@ -170,6 +191,17 @@ module _ (h : List ℕ) (p i n r : ℕ) where
           few = omega (arith, half, w.few, w.order);
           place = w.place ∙ ap (λ (f : ℕ). halve (at_least h p i) f low high) fuel ∙ halve-up (at_least h p i) (r + halvings - d) low high l (ap (leb i) (sym ev) ∙ lt-leb i v e);
         }
+
+  pub halving-turn : (low high c v d : ℕ) {x : Span} → Halving h p i n r low high c → low < high → v ≡ listed_id h p ((low + high) / 2) → d ≡ c + 1 →
+      x ≡ narrowed low ((low + high) / 2) high i v → Halving h p i n r x.low x.high d
+  halving-turn low high c v d {x} w l ev ed ex = rw ex (go (look (leb i v)))
+    where
+      mid : ℕ
+      mid = (low + high) / 2
+
+      go : Seen (leb i v) → Halving h p i n r (narrowed low mid high i v).low (narrowed low mid high i v).high d
+      go (is_true e) = rw e (halving-low low high c v d w l ev ed (leb-true i v e))
+      go (is_false e) = rw e (halving-high low high c v d w l ev ed (leb-false i v e))
 
   pub halving-done : (low high c : ℕ) → Halving h p i n r low high c → high ≤ low → (low ≡ place_in h p i n) × (c ≤ r + halvings)
   halving-done low high c w l = (sym (w.place ∙ halve-done (at_least h p i) (r + halvings - c) low high l), w.last)
@@ -279,47 +311,6 @@ record-pasted h s to m {g} {at} {x} {y} lh ls ea ex ey eg =
     let one : set g at x ≡ paste h to s (n + 1) = rw (eg, ea, ex) (paste_more h to s n 0 (omega arith) (omega arith)) in
     let two : set (paste h to s (n + 1)) (to + (n + 1)) (get_or s (n + 1) 0) ≡ paste h to s (n + 1 + 1) = paste_more h to s (n + 1) 0 lh ls in
     rw (one, at-2, ey) (two ∙ ap (paste h to s) end)
-
--- shift by one copy
-module _ (h : List ℕ) (p k : ℕ) where
-  -- behind the entries that were shifted nothing is changed
-  shifted-behind : (m j : ℕ) → handle_row (list_block p) (k + m) ≤ j → get_or (shifted h p k m) j 0 ≡ get_or h j 0
-  unfolding shifted put_handle
-  shifted-behind zero j l = refl
-  shifted-behind (suc m) j l =
-      let g = shifted h p k m in
-      let at = handle_row (list_block p) (k + m) in
-      let x = id_at g (list_block p) (k + m + 1) in
-      let y = word_at g (list_block p) (k + m + 1) in
-      get_or-set_other (set g at x) (at + 1) j y 0 (λ e. absurd (omega (arith, e))) ∙ get_or-set_other g at j x 0 (λ e. absurd (omega (arith, e))) ∙ shifted-behind m j (omega arith)
-
-  -- the entries shifted are one copy
-  shifted-copy : (m : ℕ) → handle_row (list_block p) (k + 1) + handle_fields * m ≤ length h →
-      shifted h p k m ≡ paste h (handle_row (list_block p) k) (drop (handle_row (list_block p) (k + 1)) h) (handle_fields * m)
-  unfolding shifted put_handle
-  shifted-copy zero l = paste_none h (handle_row (list_block p) k) (drop (handle_row (list_block p) (k + 1)) h)
-  shifted-copy (suc m) l =
-      let g = shifted h p k m in
-      let to = handle_row (list_block p) k in
-      let from = handle_row (list_block p) (k + 1) in
-      let s = drop from h in
-      let n = handle_fields * m in
-      let at : handle_row (list_block p) (k + m) ≡ to + n = omega arith in
-      let in-2 : handle_row (list_block p) (k + m + 1) + 1 ≡ from + (n + 1) = omega arith in
-      let in-1 : handle_row (list_block p) (k + m + 1) ≡ from + n = omega arith in
-      let x : id_at g (list_block p) (k + m + 1) ≡ get_or s n 0 =
-      shifted-behind m (handle_row (list_block p) (k + m + 1)) (omega arith) ∙ ap (λ (j : ℕ). get_or h j 0) in-1 ∙ sym (get_or-drop from h n 0) in
-      let y : word_at g (list_block p) (k + m + 1) ≡ get_or s (n + 1) 0 =
-      shifted-behind m (handle_row (list_block p) (k + m + 1) + 1) (omega arith) ∙ ap (λ (j : ℕ). get_or h j 0) in-2 ∙ sym (get_or-drop from h (n + 1) 0) in
-      let long : length s ≡ length h - from = length-drop from h in
-      record-pasted h s to m (omega arith) (omega (arith, long)) at x y (shifted-copy m (omega arith))
-
-  pub shift-done : (n : ℕ) {h₁ : List ℕ} {to from end : ℕ} → (length h ≡ handles_size) × (p < peers) × (k < n) × (n ≤ nodes) →
-      to ≡ handle_row (list_block p) k → from ≡ handle_row (list_block p) (k + 1) → end ≡ handle_row (list_block p) n → h₁ ≡ paste h to (drop from h) (end - from) →
-      h₁ ≡ shifted h p k (n - 1 - k)
-  shift-done n {h₁} {to} {from} {end} r et ef ee e =
-      let m : end - from ≡ handle_fields * (n - 1 - k) = omega (arith, r, ef, ee) in
-      e ∙ rw (m, et, ef) (sym (shifted-copy (n - 1 - k) (omega (arith, r))))
 
 -- unlist, raise, reduce
 module _ (h : List ℕ) (p i : ℕ) where
