@@ -11,8 +11,8 @@ use Rattle.std.proofs.Math.Nat.{div-eq_of_lt}
 use Rattle.std.specs.Int.Bits.{bit_or}
 use Rattle.std.proofs.lemmas.Nat.{or_disjoint}
 use Rattle.std.proofs.lemmas.Nat.Bits.{and_pow}
-use Rattle.std.proofs.Math.Seq.{paste}
-use Rattle.std.proofs.lemmas.List.{get_or-replicate, length-take, length-drop, length-replicate}
+use Rattle.std.proofs.Math.Seq.{paste, get_or-set_other}
+use Rattle.std.proofs.lemmas.List.{get_or-drop, get_or-replicate, length-take, length-drop, length-replicate}
 use Rattle.std.proofs.lemmas.List.Edits.{paste_none, paste_more}
 use Rattle.std.proofs.lemmas.Slice.{put_mid-paste}
 use Rattle.std.specs.Option.{option_map}
@@ -311,6 +311,47 @@ record-pasted h s to m {g} {at} {x} {y} lh ls ea ex ey eg =
     let one : set g at x ≡ paste h to s (n + 1) = rw (eg, ea, ex) (paste_more h to s n 0 (omega arith) (omega arith)) in
     let two : set (paste h to s (n + 1)) (to + (n + 1)) (get_or s (n + 1) 0) ≡ paste h to s (n + 1 + 1) = paste_more h to s (n + 1) 0 lh ls in
     rw (one, at-2, ey) (two ∙ ap (paste h to s) end)
+
+-- shift by one copy
+module _ (h : List ℕ) (p k : ℕ) where
+  -- behind the entries that were shifted nothing is changed
+  shifted-behind : (m j : ℕ) → handle_row (list_block p) (k + m) ≤ j → get_or (shifted h p k m) j 0 ≡ get_or h j 0
+  unfolding shifted put_handle
+  shifted-behind zero j l = refl
+  shifted-behind (suc m) j l =
+      let g = shifted h p k m in
+      let at = handle_row (list_block p) (k + m) in
+      let x = id_at g (list_block p) (k + m + 1) in
+      let y = word_at g (list_block p) (k + m + 1) in
+      get_or-set_other (set g at x) (at + 1) j y 0 (λ e. absurd (omega (arith, e))) ∙ get_or-set_other g at j x 0 (λ e. absurd (omega (arith, e))) ∙ shifted-behind m j (omega arith)
+
+  -- the entries shifted are one copy
+  shifted-copy : (m : ℕ) → handle_row (list_block p) (k + 1) + handle_fields * m ≤ length h →
+      shifted h p k m ≡ paste h (handle_row (list_block p) k) (drop (handle_row (list_block p) (k + 1)) h) (handle_fields * m)
+  unfolding shifted put_handle
+  shifted-copy zero l = paste_none h (handle_row (list_block p) k) (drop (handle_row (list_block p) (k + 1)) h)
+  shifted-copy (suc m) l =
+      let g = shifted h p k m in
+      let to = handle_row (list_block p) k in
+      let from = handle_row (list_block p) (k + 1) in
+      let s = drop from h in
+      let n = handle_fields * m in
+      let at : handle_row (list_block p) (k + m) ≡ to + n = omega arith in
+      let in-2 : handle_row (list_block p) (k + m + 1) + 1 ≡ from + (n + 1) = omega arith in
+      let in-1 : handle_row (list_block p) (k + m + 1) ≡ from + n = omega arith in
+      let x : id_at g (list_block p) (k + m + 1) ≡ get_or s n 0 =
+      shifted-behind m (handle_row (list_block p) (k + m + 1)) (omega arith) ∙ ap (λ (j : ℕ). get_or h j 0) in-1 ∙ sym (get_or-drop from h n 0) in
+      let y : word_at g (list_block p) (k + m + 1) ≡ get_or s (n + 1) 0 =
+      shifted-behind m (handle_row (list_block p) (k + m + 1) + 1) (omega arith) ∙ ap (λ (j : ℕ). get_or h j 0) in-2 ∙ sym (get_or-drop from h (n + 1) 0) in
+      let long : length s ≡ length h - from = length-drop from h in
+      record-pasted h s to m (omega arith) (omega (arith, long)) at x y (shifted-copy m (omega arith))
+
+  pub shift-done : (n : ℕ) {h₁ : List ℕ} {to from end : ℕ} → (length h ≡ handles_size) × (p < peers) × (k < n) × (n ≤ nodes) →
+      to ≡ handle_row (list_block p) k → from ≡ handle_row (list_block p) (k + 1) → end ≡ handle_row (list_block p) n → h₁ ≡ paste h to (drop from h) (end - from) →
+      h₁ ≡ shifted h p k (n - 1 - k)
+  shift-done n {h₁} {to} {from} {end} r et ef ee e =
+      let m : end - from ≡ handle_fields * (n - 1 - k) = omega (arith, r, ef, ee) in
+      e ∙ rw (m, et, ef) (sym (shifted-copy (n - 1 - k) (omega (arith, r))))
 
 -- unlist, raise, reduce
 module _ (h : List ℕ) (p i : ℕ) where
