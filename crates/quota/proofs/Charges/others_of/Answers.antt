@@ -23,4 +23,4 @@ pub returns : goal.returns
 returns g c = λ f z h.
     let n : length c.args.self.by ≡ 4 = search (rules, four-charges) in
     let o = c.from-own.ensures ∙ h _ _ c.of-2.ensures ∙ ap f c.own.ensures in
-    sum-others f z c.args.self c.args.u c.loop-c.c-index (omega (arith, n, c.loop-c-test.false)) (c.loop-c.invariant.1 f z h) o c.saturating_sub.ensures
+    sum-others f z c.args.self c.args.u c.loop-c.c-index (omega (arith, n, c.loop-c-test.false)) (c.loop-c.invariant.1 f z h) o (omega (arith, c.saturating_sub.ensures))
