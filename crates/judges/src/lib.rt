@@ -136,9 +136,7 @@ fn counts(
     seeds::names(seeds, s)
 }
 
-// The first slot of a peer whose node does not count. A function of its own in the archive: put into `judge` its loop, and every command
-// beside it, reads from the stack what it keeps in registers here.
-#[inline(never)]
+// The first slot of a peer whose node does not count.
 fn free_slot(
     nodes: &[u64],
     handles: &[u64],

@@ -141,7 +141,9 @@ fn names_at(seeds: &[u8], p: Peer, s: usize) -> bool
     is_set(seeds, p) && is_among(seeds, p, nh_of(seeds, p), s)
 }
 
-// Does a seed name the slot?
+// Does a seed name the slot? A function of its own in the archive: put into a command, its loops read the table's place from the stack at
+// each slot, and a create beside seeds takes a fifth more time.
+#[inline(never)]
 pub fn names(seeds: &[u8], s: usize) -> bool
     requires { length seeds.now ≡ seeds_size }
     ensures { result ≡ seeded (seed_v seeds.now) s }
