@@ -142,7 +142,7 @@ fn names_at(seeds: &[u8], p: Peer, s: usize) -> bool
 }
 
 // Does a seed name the slot? A function of its own in the archive: put into a command, its loops read the table's place from the stack at
-// each slot, and a create beside seeds takes a fifth more time.
+// each slot, and a create beside seeds takes a seventh more time.
 #[inline(never)]
 pub fn names(seeds: &[u8], s: usize) -> bool
     requires { length seeds.now ≡ seeds_size }
